@@ -1,0 +1,3 @@
+pub mod Layouts
+pub mod Means
+pub mod Shapes
