@@ -1,0 +1,58 @@
+//! Orders, and what a book shows of them.
+
+/// Which side of the book an order is on.
+#[derive(Debug, Clone, Copy, PartialEq, Eq)]
+pub enum Side {
+    Buy,
+    Sell,
+}
+
+/// A live order.
+#[derive(Debug, Clone, Copy, PartialEq, Eq)]
+pub struct Order {
+    /// Its reference, which is its own among the live orders of its stock.
+    pub reference: u64,
+    pub side: Side,
+    /// The shares that remain.
+    pub shares: u32,
+    /// The price, in 1/10,000 of a currency unit.
+    pub price: u32,
+    /// The market participant, where the order was added with one.
+    pub attribution: Option<[u8; 4]>,
+}
+
+/// The orders of one side at one price, taken together.
+#[derive(Debug, Clone, Copy, PartialEq, Eq)]
+pub struct Level {
+    /// The price, in 1/10,000 of a currency unit.
+    pub price: u32,
+    /// The shares of its orders.
+    pub shares: u64,
+}
+
+/// The best bid and the best ask of a stock, with the shares there; zeros where a side is empty.
+#[derive(Debug, Clone, Copy, PartialEq, Eq)]
+pub struct Top {
+    /// The highest price of a bid, in 1/10,000 of a currency unit.
+    pub bid_price: u32,
+    pub bid_shares: u64,
+    /// The lowest price of an ask, in 1/10,000 of a currency unit.
+    pub ask_price: u32,
+    pub ask_shares: u64,
+}
+
+/// Where an order stands among the orders of all stocks.
+#[derive(Debug, Clone, Copy, PartialEq, Eq, PartialOrd, Ord)]
+pub(crate) struct OrderKey {
+    pub locate: u16,
+    pub reference: u64,
+}
+
+/// An order without its reference, which is in its key.
+#[derive(Debug, Clone, Copy, PartialEq, Eq)]
+pub(crate) struct OrderRow {
+    pub side: Side,
+    pub shares: u32,
+    pub price: u32,
+    pub attribution: Option<[u8; 4]>,
+}

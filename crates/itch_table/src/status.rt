@@ -1,0 +1,35 @@
+//! What is known of a stock beside its book.
+use itch_layouts::Directory;
+
+/// A stock's trading state.
+#[derive(Debug, Clone, Copy, PartialEq, Eq)]
+pub struct Trading {
+    /// The trading state: `H`, `P`, `Q` or `T`.
+    pub state: u8,
+    /// A reserved byte.
+    pub reserved: u8,
+    /// The reason of the state, padded on the right with spaces.
+    pub reason: [u8; 4],
+}
+
+/// What is known of a stock: its directory row, its trading state and its short sale action, where each was told.
+#[derive(Debug, Clone, Copy, PartialEq, Eq)]
+pub struct Status {
+    pub directory: Option<Directory>,
+    pub trading: Option<Trading>,
+    /// The action of the last short sale restriction message.
+    pub regsho: Option<u8>,
+}
+
+/// Sums over a stock's trades that no later message broke.
+#[derive(Debug, Clone, Copy, PartialEq, Eq)]
+pub struct Totals {
+    /// How many trades were printed.
+    pub trades: u64,
+    /// The shares of the printed trades.
+    pub shares: u128,
+    /// The printed trades' shares times prices, in 1/10,000 of a currency unit.
+    pub notional: u128,
+    /// The shares of the trades that weren't printed.
+    pub unprinted: u128,
+}
