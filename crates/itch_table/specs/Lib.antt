@@ -1,6 +1,7 @@
 pub mod Fault
 pub mod World
 pub mod Levels
+pub mod Best
 pub mod Table
 pub mod After
 pub mod Machine

@@ -1,22 +1,17 @@
 -- What a machine that holds all stocks stands for: a world, and how many messages it has taken.
-use Rattle.std.specs.Prelude.{◌≡◌, ℕ, List, Bool, true, false, IsTrue, refl}
-use Rattle.std.specs.Coded.{Coded, code_by, coded×, coded_ℕ}
+use Rattle.std.specs.Prelude.{◌≡◌, ℕ, List, Bool, true, false, IsTrue}
 use Rattle.itch_layouts.specs.Shapes.{shape_of}
 use Rattle.itch_layouts.specs.declared.message.Msg.{Msg}
 use Rattle.itch_layouts.specs.declared.message.Msg.TheVariants.{System, Directory, Add, Delete}
 use Rattle.itch_layouts.specs.declared.reading.Shape.{Shape}
 use Rattle.itch_layouts.specs.declared.reading.Shape.TheVariants.{Known, Unknown, BadLength}
-use Rattle.itch_table.specs.declared.order.OrderKey.{OrderKey}
 use Rattle.itch_table.specs.declared.outcome.Outcome.TheVariants.{Applied}
-use Rattle.itch_table.specs.World.{World, key}
+use Rattle.itch_table.specs.World.{World}
 use Rattle.itch_table.specs.Table.{step}
 
 pub record Machine : Type 0 where
   pub world : World
   pub steps : ℕ
-
-abbrev pub coded_key : Coded OrderKey
-coded_key = code_by (ℕ × ℕ) (coded× coded_ℕ coded_ℕ) (λ k. (k.locate, k.reference)) (λ p. key p.0 p.1) (λ _. refl)
 
 -- a message of this kind may need a new row
 abbrev pub adds_row : Msg → Bool

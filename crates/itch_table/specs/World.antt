@@ -1,8 +1,9 @@
 -- All that the messages of a day have built up, as flat rows for all stocks.
 -- Nasdaq TotalView-ITCH 5.0, "Stock Directory", "Add Order Message" and "Modify Order Messages"; that references are kept by locate code is of this project.
-use Rattle.std.specs.Prelude.{ℕ, ◌==◌, Bool, List, map, filter, Option, None}
+use Rattle.std.specs.Prelude.{ℕ, ◌==◌, Bool, List, map, filter, Option, None, option_map, refl}
 use Rattle.std.specs.declared.cmp.Ordering.{Ordering}
 use Rattle.std.specs.Ordering.{nat_cmp, ordering_then}
+use Rattle.std.specs.Coded.{Coded, code_by, coded×, coded_ℕ}
 use Rattle.std.specs.FinMap as maps
 use Rattle.std.specs.FinMap.{FinMap}
 use Rattle.itch_layouts.specs.declared.message.Directory.{Directory}
@@ -14,6 +15,9 @@ use Rattle.itch_table.specs.declared.status.Totals.{Totals}
 
 abbrev pub key : ℕ → ℕ → OrderKey
 key locate reference = record { locate = locate; reference = reference }
+
+abbrev pub coded_key : Coded OrderKey
+coded_key = code_by (ℕ × ℕ) (coded× coded_ℕ coded_ℕ) (λ k. (k.locate, k.reference)) (λ p. key p.0 p.1) (λ _. refl)
 
 -- order rows stand by locate code, and under one locate code by reference
 abbrev pub key_cmp : OrderKey → OrderKey → Ordering
@@ -39,6 +43,10 @@ directory w locate = maps.get w.directories locate
 -- an order row with its reference
 abbrev pub order_of : OrderKey → OrderRow → Order
 order_of k row = record { reference = k.reference; side = row.side; shares = row.shares; price = row.price; attribution = row.attribution }
+
+-- the order that lives under a locate code and a reference, with its reference
+abbrev pub order : World → ℕ → ℕ → Option Order
+order w locate reference = option_map (order_of (key locate reference)) (live w locate reference)
 
 abbrev pub is_under : ℕ → OrderKey → Bool
 is_under locate k = k.locate == locate

@@ -1,10 +1,19 @@
 //! The written table of instructions, and the plain machine that follows it over the rows of all stocks.
 #![tactic(auto)]
 
+mod effects;
+mod faults;
+mod laws;
+mod levels;
+mod listing;
 mod order;
 mod outcome;
+mod plain;
+mod rows;
 mod status;
 
+pub use laws::levels_are_sums;
 pub use order::{Level, Order, Side, Top};
 pub use outcome::{Fault, Outcome};
+pub use plain::Plain;
 pub use status::{Status, Totals, Trading};

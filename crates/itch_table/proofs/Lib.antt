@@ -1,0 +1,6 @@
+pub mod MapViews
+pub mod Counts
+pub mod Keys
+pub mod LevelSums
+pub mod Looked
+pub mod BestLevels

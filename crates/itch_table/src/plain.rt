@@ -1,0 +1,165 @@
+//! The plain machine.
+ghost use Rattle.std.specs.Prelude.{◌≡◌, ◌+◌, ◌-◌, ◌<◌, ◌^◌, ℕ, List, IfOk, OnOk, OnErr};
+ghost use Rattle.itch_table.specs.World.{empty_world, locates, order, orders_of, status, totals};
+ghost use Rattle.itch_table.specs.Levels.{levels, top};
+ghost use Rattle.itch_table.specs.Table.{step};
+ghost use Rattle.itch_table.specs.Machine.{MayGrow};
+
+use crate::effects::apply;
+use crate::faults::fault;
+use crate::order::{Level, Order, Side, Top};
+use crate::outcome::{Fault, Outcome};
+use crate::rows::Rows;
+use crate::status::{Status, Totals};
+use itch_layouts::{Shape, read_msg};
+use std::alloc::{AllocError, Allocator};
+use std::marker::Model;
+
+/// A machine that takes a day's messages one by one and follows the table of instructions over the rows of all stocks.
+///
+/// It keeps the rows alone, and computes levels and lists from them at each call.
+#[derive(Drop)]
+pub struct Plain<A: Allocator> {
+    rows: Rows<A>,
+    steps: u32,
+}
+
+impl<A: Allocator> Model for Plain<A> {
+    ghost use Rattle.std.specs.Prelude.{◌<◌, ◌≤◌, ◌^◌};
+    ghost use Rattle.std.specs.Coded.{codes, coded_ℕ};
+    ghost use Rattle.std.specs.FinMap as maps;
+    ghost use Rattle.std.specs.Ordering.{nat_cmp};
+    ghost use Rattle.itch_table.specs.World.{coded_key, key_cmp};
+    ghost use Rattle.itch_table.specs.Machine.{Machine};
+    ghost use Rattle.itch_table.specs.contracts.order.OrderRow as order_row;
+    ghost use Rattle.itch_layouts.specs.contracts.message.Directory as directory_row;
+
+    ghost Value = { Machine };
+
+    ghost coded = { Prim.hlevel (codes, maps.code {R = key_cmp} coded_key order_row.the_row.coded, maps.code {R = nat_cmp} coded_ℕ directory_row.the_row.coded) };
+
+    ghost view = { λ p. record { world = p.rows; steps = p.steps } };
+
+    // Each live order was added by a step.
+    ghost invariant = { λ p. (maps.len p.rows.orders ≤ p.steps) × (p.steps < 2 ^ 32) };
+}
+
+impl<A: Allocator + Copy> Plain<A> {
+    /// A machine before the first message. It takes no memory yet.
+    pub fn new(alloc: A) -> Plain<A>
+        ensures world { result.world ≡ empty_world }
+        ensures steps { result.steps ≡ 0 }
+    {
+        Plain {
+            rows: Rows::new(alloc),
+            steps: 0,
+        }
+    }
+
+    /// How many messages were taken.
+    pub fn steps(&self) -> u32
+        ensures { result ≡ self.now.steps }
+    {
+        self.steps
+    }
+
+    /// The event code of the last system message that was applied.
+    pub fn event(&self) -> Option<u8>
+        ensures { result ≡ self.now.world.event }
+    {
+        self.rows.event()
+    }
+
+    /// The order that lives under a locate code and a reference.
+    pub fn order(&self, locate: u16, reference: u64) -> Option<Order>
+        ensures { result ≡ order self.now.world locate reference }
+    {
+        self.rows.live_order(locate, reference)
+    }
+
+    /// What is known of a stock beside its book.
+    pub fn status(&self, locate: u16) -> Status
+        ensures { result ≡ status self.now.world locate }
+    {
+        Status {
+            directory: self.rows.directory(locate),
+            trading: None,
+            regsho: None,
+        }
+    }
+
+    /// A stock's totals. No message that is known yet makes a trade, so they are zeros.
+    pub fn totals(&self, _locate: u16) -> Totals
+        ensures { result ≡ totals self.now.world _locate }
+    {
+        Totals {
+            trades: 0,
+            shares: 0,
+            notional: 0,
+            unprinted: 0,
+        }
+    }
+
+    /// The best bid and the best ask of a stock, with the shares there; zeros where a side is empty.
+    pub fn top(&self, locate: u16) -> Top
+        ensures { result ≡ top (orders_of self.now.world locate) }
+    {
+        self.rows.top(locate)
+    }
+
+    /// A side's levels: bids by falling price, asks by rising price.
+    pub fn levels(&self, alloc: A, locate: u16, side: Side) -> Result<Vec<Level, A>, AllocError>
+        ensures { IfOk result (λ list. list.items ≡ levels (orders_of self.now.world locate) side) }
+    {
+        self.rows.levels(alloc, locate, side)
+    }
+
+    /// A stock's live orders, by rising reference.
+    pub fn orders(&self, alloc: A, locate: u16) -> Result<Vec<Order, A>, AllocError>
+        ensures { IfOk result (λ list. list.items ≡ orders_of self.now.world locate) }
+    {
+        self.rows.orders(alloc, locate)
+    }
+
+    /// The locate codes that have a directory row, rising.
+    pub fn locates(&self, alloc: A) -> Result<Vec<u16, A>, AllocError>
+        ensures { IfOk result (λ list. list.items ≡ locates self.now.world) }
+    {
+        self.rows.locates(alloc)
+    }
+
+    /// Takes the next message of the day, a payload of any bytes, and tells what became of it.
+    ///
+    /// A message that is refused or passed over changes nothing but the number of steps. An error says that memory was
+    /// refused: it comes only where the message would be applied and is one that may need a new row, and it leaves the
+    /// machine as it was.
+    pub fn step(&mut self, payload: &[u8]) -> Result<Outcome, AllocError>
+        requires { self.old.steps < 2 ^ 32 - 1 }
+        ensures ok { IfOk result (λ outcome. (outcome, self.new.world) ≡ step self.old.world payload.now) }
+        ensures steps { OnOk result (self.new.steps ≡ self.old.steps + 1) }
+        ensures err { OnErr result (self.new ≡ self.old) }
+        ensures grows { OnErr result (MayGrow self.old.world payload.now) }
+    {
+        let outcome = step_rows(&mut self.rows, payload)?;
+        self.steps += 1;
+        Ok(outcome)
+    }
+}
+
+// One message over the rows alone.
+fn step_rows<A: Allocator + Copy>(rows: &mut Rows<A>, payload: &[u8]) -> Result<Outcome, AllocError>
+    ensures ok { IfOk result (λ outcome. (outcome, rows.new) ≡ step rows.old payload.now) }
+    ensures err { OnErr result (rows.new ≡ rows.old) }
+    ensures grows { OnErr result (MayGrow rows.old payload.now) }
+{
+    let msg = match read_msg(payload) {
+        Shape::Unknown => return Ok(Outcome::Passed),
+        Shape::BadLength => return Ok(Outcome::Refused(Fault::WrongLength)),
+        Shape::Known(msg) => msg,
+    };
+    if let Some(fault) = fault(rows, &msg) {
+        return Ok(Outcome::Refused(fault));
+    }
+    apply(rows, &msg)?;
+    Ok(Outcome::Applied)
+}
