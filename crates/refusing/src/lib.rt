@@ -23,7 +23,8 @@ pub enum Refusal {
 /// Passes each growth on to the allocator `B`, but for those that it is told to refuse.
 ///
 /// A growth is a call of `allocate`: the first block of a collection, or a larger one in place of it, since `grow` is
-/// the trait's own and takes a new block. It is `Sync` where `B` is, so that threads may share one by `&Refusing<B>`.
+/// the trait's own and takes a new block. Threads may share one by `&Refusing<B>`, and a collection over it may go to
+/// another thread, where that holds of `B`.
 pub struct Refusing<B: Allocator> {
     inner: B,
     growths: Growths,
