@@ -1,0 +1,4 @@
+pub mod ByteRanges
+pub mod DeviceSteps
+pub mod Splitting
+pub mod Offsets

@@ -1,0 +1,6 @@
+pub mod Bytes
+pub mod Entries
+pub mod Scanned
+pub mod Index
+pub mod Devices
+pub mod Loading

@@ -1,0 +1,148 @@
+// A whole file in memory, with the places of its entries.
+ghost use Rattle.std.specs.Prelude.{◌≡◌, ◌+◌, ◌-◌, ◌<◌, ◌≤◌, ◌^◌, ◌↔◌, length, slice_index_or, Err, IfOk, IfErr, IsOk, IsErr, IsErrOf, IsTrue};
+ghost use Rattle.binaryfile.specs.Devices.{has_failed, reader_of, is_broken, writer_of, GaveMore, GaveUpTo, Sends};
+ghost use Rattle.binaryfile.specs.Entries.{bytes_of};
+ghost use Rattle.binaryfile.specs.Loading.{Loads, ExceedsMessages};
+
+use crate::load::read_to_end;
+use crate::scan::{begins_with_marker, bytes_after, entries_extent, index, nth_payload};
+use crate::{Feed, LoadFault, Payloads, Sink, WriteFault, send};
+use std::alloc::Allocator;
+use std::io::{Read, Write};
+use std::marker::Model;
+
+/// How much a file may hold.
+#[derive(Debug, Clone, Copy, PartialEq, Eq)]
+pub struct Limits {
+    /// At most so many bytes, in all.
+    pub bytes: u64,
+    /// At most so many payloads.
+    pub messages: u32,
+}
+
+/// A whole file in memory, seen as its payloads in order, whether an end marker follows them, and its tail: the bytes
+/// after all that (Nasdaq BinaryFILE; the marker and the tail are rules of this project).
+#[derive(Drop)]
+pub struct Day<A: Allocator> {
+    bytes: Vec<u8, A>,
+    // The place of each entry whose number from 0 is a multiple of `STRIDE`.
+    starts: Vec<u64, A>,
+    count: u32,
+    // Where the entries end.
+    end: usize,
+    marked: bool,
+}
+
+impl<A: Allocator> Model for Day<A> {
+    ghost use Rattle.binaryfile.specs.Entries.{Contents};
+    ghost use Rattle.binaryfile.specs.Scanned.{contents_of};
+    ghost use Rattle.binaryfile.specs.Index.{IsDay};
+
+    ghost Value = { Contents };
+
+    ghost view = { λ day. contents_of day.bytes.items };
+
+    ghost invariant = { λ day. IsDay day.bytes.items day.starts.items day.count day.end day.marked };
+}
+
+impl<A: Allocator + Copy> Day<A> {
+    /// Reads a file to its end. Its memory is that of `alloc`.
+    ///
+    /// No file is refused for its form. In the course of reading the first of these is answered:
+    /// [`LoadFault::Read`] where the feed fails (at once, and with no memory, where it had failed before),
+    /// [`LoadFault::Memory`] where memory is refused, [`LoadFault::TooManyBytes`] where the reader gave more than
+    /// `limits.bytes` bytes. [`LoadFault::TooManyMessages`] is decided once the whole input was read, before any more
+    /// memory is asked for. Whatever the result, at most `limits.bytes + 1` bytes are taken from the reader; there is no
+    /// day after a fault.
+    pub fn load<R: Read>(alloc: A, feed: &mut Feed<R>, limits: Limits) -> Result<Day<A>, LoadFault>
+        requires { limits.bytes ≤ 2 ^ 40 }
+        // The day is the splitting of all that the feed gave to its end, within the limits.
+        ensures loaded { IfOk result (Loads (R.remaining (reader_of feed.old)) (R.remaining (reader_of feed.new)) limits) }
+        // The fault is Read exactly where the feed has failed at return.
+        ensures failed { IsErrOf result LoadFault.Read ↔ IsTrue (has_failed feed.new) }
+        ensures too_many_bytes { IsErrOf result LoadFault.TooManyBytes → GaveMore (R.remaining (reader_of feed.old)) (R.remaining (reader_of feed.new)) limits.bytes }
+        ensures too_many_messages { IsErrOf result LoadFault.TooManyMessages → ExceedsMessages (R.remaining (reader_of feed.old)) (R.remaining (reader_of feed.new)) limits }
+        // Whatever the result, no more is taken than the limit and one byte.
+        ensures taken { GaveUpTo (R.remaining (reader_of feed.old)) (R.remaining (reader_of feed.new)) (limits.bytes + 1) }
+        // A failure is for good, and after one the reader is not asked.
+        ensures for_good { IsTrue (has_failed feed.old) → IsTrue (has_failed feed.new) }
+        ensures not_asked { IsTrue (has_failed feed.old) → reader_of feed.new ≡ reader_of feed.old }
+    {
+        let bytes = read_to_end(alloc, feed, limits.bytes)?;
+        let whole = bytes.as_slice();
+        let entries = entries_extent(whole);
+        if entries.count > limits.messages as usize {
+            return Err(LoadFault::TooManyMessages);
+        }
+        let marked = begins_with_marker(&whole[entries.end..]);
+        let starts = index(alloc, whole, entries.count)?;
+        Ok(Day {
+            bytes,
+            starts,
+            count: entries.count as u32,
+            end: entries.end,
+            marked,
+        })
+    }
+}
+
+impl<A: Allocator> Day<A> {
+    /// How many payloads there are.
+    pub fn len(&self) -> u32
+        ensures { result ≡ length self.now.payloads }
+    {
+        self.count
+    }
+
+    /// The payload of that number, counted from 1, borrowed and not copied.
+    ///
+    /// For all of them in order [`Day::payloads`] is faster.
+    pub fn payload(&self, number: u32) -> &[u8]
+        requires first { 1 ≤ number }
+        requires last { number ≤ length self.now.payloads }
+        ensures { result.now ≡ slice_index_or self.now.payloads (number - 1) result.now }
+    {
+        nth_payload(
+            self.bytes.as_slice(),
+            self.starts.as_slice(),
+            number as usize - 1,
+        )
+    }
+
+    /// All payloads in their order, borrowed and not copied.
+    pub fn payloads(&self) -> Payloads<'_>
+        ensures { result ≡ self.now.payloads }
+    {
+        Payloads::new(self.bytes.as_slice())
+    }
+
+    /// Whether an end marker follows the payloads.
+    pub fn marked(&self) -> bool
+        ensures { result ≡ self.now.marked }
+    {
+        self.marked
+    }
+
+    /// The bytes after the marker, or where there is none those that are no whole entry.
+    pub fn tail(&self) -> &[u8]
+        ensures { result.now ≡ self.now.tail }
+    {
+        bytes_after(self.bytes.as_slice(), self.end, self.marked)
+    }
+
+    /// Sends the bytes that were loaded, all of them or the first ones up to where the writer fails, as [`send`] does.
+    pub fn write_to<W: Write>(&self, sink: &mut Sink<W>) -> Result<(), WriteFault>
+        ensures sent { Sends (W.contents (writer_of sink.old)) (W.contents (writer_of sink.new)) (bytes_of self.now) result }
+        // A fault comes only where the sink has failed, and Ok leaves it as it was.
+        ensures failed { IsErr result → IsTrue (is_broken sink.new) }
+        ensures kept { IsOk result → is_broken sink.new ≡ is_broken sink.old }
+        // A failure is for good.
+        ensures for_good { IsTrue (is_broken sink.old) → IsTrue (is_broken sink.new) }
+        // After one the writer is not asked, and takes nothing.
+        ensures not_asked { IsTrue (is_broken sink.old) → writer_of sink.new ≡ writer_of sink.old }
+        ensures refused { IsTrue (is_broken sink.old) → 0 < length (bytes_of self.now) → IsErr result }
+        ensures nothing { IsTrue (is_broken sink.old) → IfErr result (λ fault. fault.written ≡ 0) }
+    {
+        send(sink, self.bytes.as_slice())
+    }
+}

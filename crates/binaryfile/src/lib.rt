@@ -1,0 +1,30 @@
+//! The container of a day file, Nasdaq BinaryFILE, and the devices that it is read from and written to.
+//!
+//! A file is a sequence of entries: a length of two bytes, the high one first, and then so many bytes of payload. A
+//! length of zero is the end marker. [`Day::load`] reads a whole file and refuses none for its form: one without a
+//! marker, one that stops inside an entry and one with bytes after the marker are loaded too (a rule of this project).
+#![tactic(auto)]
+
+ghost use Rattle.binaryfile.specs.Entries.{EachHasOneSplitting};
+
+mod day;
+mod feed;
+mod load;
+mod payloads;
+mod scan;
+mod sink;
+
+pub use crate::day::{Day, Limits};
+pub use crate::feed::Feed;
+pub use crate::load::LoadFault;
+pub use crate::payloads::Payloads;
+pub use crate::sink::{Sink, WriteFault, send};
+
+/// The place of one entry of so many is in the index of a day, so the index has half a byte a message.
+const STRIDE: usize = 16;
+
+/// The law on which the view of a [`Day`] rests: every string of bytes has exactly one splitting into payloads, a marker
+/// or none, and a tail. Calling it does nothing.
+pub fn has_one_splitting()
+    ensures { EachHasOneSplitting }
+{}

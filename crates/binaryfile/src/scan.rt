@@ -1,0 +1,140 @@
+// The entries of a byte string, from the front.
+ghost use Rattle.std.specs.Prelude.{◌≡◌, ◌<◌, ◌≤◌, List, ℕ, [], ◌∷◌, length, drop, MatchOption, IfOk, slice_index_or};
+ghost use Rattle.std.specs.List.{All};
+ghost use Rattle.binaryfile.specs.Bytes.{IsByte};
+ghost use Rattle.binaryfile.specs.Entries.{marker};
+ghost use Rattle.binaryfile.specs.Index.{offset, payloads_of, IsIndex};
+ghost use Rattle.binaryfile.specs.Scanned.{contents_of};
+
+use crate::STRIDE;
+use std::alloc::{AllocError, Allocator};
+
+// How many entries there are, and the place where they end.
+#[derive(Clone, Copy)]
+pub(crate) struct Extent {
+    pub(crate) count: usize,
+    pub(crate) end: usize,
+}
+
+// The payload of the first entry and the bytes after that entry, where a whole one stands there.
+pub(crate) fn split_first_payload(bytes: &[u8]) -> Option<(&[u8], &[u8])>
+    ensures { MatchOption result (payloads_of bytes.now ≡ []) (λ first. payloads_of bytes.now ≡ first.0.now ∷ payloads_of first.1.now) }
+{
+    let (head, rest) = bytes.split_first_chunk::<2>()?;
+    let length = u16::from_be_bytes(*head) as usize;
+    if length == 0 || length > rest.len() {
+        return None;
+    }
+    Some(rest.split_at(length))
+}
+
+// The payload of the first entry, where a whole one stands there.
+fn first_payload(bytes: &[u8]) -> Option<&[u8]>
+    ensures { MatchOption result (payloads_of bytes.now ≡ []) (λ payload. (rest : List (List ℕ)) × (payloads_of bytes.now ≡ payload.now ∷ rest)) }
+{
+    let (payload, _) = split_first_payload(bytes)?;
+    Some(payload)
+}
+
+// How far the entries go from the front.
+pub(crate) fn entries_extent(bytes: &[u8]) -> Extent
+    ensures count { result.count ≡ length (payloads_of bytes.now) }
+    ensures end { result.end ≡ offset (payloads_of bytes.now) result.count }
+    ensures within { result.end ≤ length bytes.now }
+    ensures are { All IsByte bytes.now }
+{
+    let mut count = 0;
+    let mut end = 0;
+    while let Some(payload) = first_payload(&bytes[end..]) {
+        end += 2 + payload.len();
+        count += 1;
+    }
+    Extent { count, end }
+}
+
+// The place of the entry of that number, counted from 0.
+fn entry_place(bytes: &[u8], starts: &[u64], number: usize) -> usize
+    requires index { IsIndex starts.now bytes.now }
+    requires number { number < length (payloads_of bytes.now) }
+    ensures place { result ≡ offset (payloads_of bytes.now) number }
+    ensures within { result ≤ length bytes.now }
+{
+    let mut at = starts[number / STRIDE] as usize;
+    for _ in 0..number % STRIDE {
+        match first_payload(&bytes[at..]) {
+            Some(payload) => at += 2 + payload.len(),
+            None => unreachable!(),
+        }
+    }
+    at
+}
+
+// The places of the entries whose number from 0 is a multiple of `STRIDE`, in one block.
+pub(crate) fn index<A: Allocator>(
+    alloc: A,
+    bytes: &[u8],
+    count: usize,
+) -> Result<Vec<u64, A>, AllocError>
+    requires { count ≡ length (payloads_of bytes.now) }
+    ensures { IfOk result (λ starts. IsIndex starts.items bytes.now) }
+{
+    let mut starts = Vec::with_capacity(alloc, count.div_ceil(STRIDE))?;
+    let mut at = 0;
+    for number in 0..count {
+        if number % STRIDE == 0 {
+            starts.push(at as u64)?;
+        }
+        match first_payload(&bytes[at..]) {
+            Some(payload) => at += 2 + payload.len(),
+            None => unreachable!(),
+        }
+    }
+    Ok(starts)
+}
+
+// The payload of that number, counted from 0.
+pub(crate) fn nth_payload<'a>(bytes: &'a [u8], starts: &[u64], number: usize) -> &'a [u8]
+    requires index { IsIndex starts.now bytes.now }
+    requires number { number < length (payloads_of bytes.now) }
+    ensures { result.now ≡ slice_index_or (payloads_of bytes.entry.now) number result.now }
+{
+    let at = entry_place(bytes, starts, number);
+    match first_payload(&bytes[at..]) {
+        Some(payload) => payload,
+        None => unreachable!(),
+    }
+}
+
+// Whether an end marker stands at the front.
+pub(crate) fn begins_with_marker(bytes: &[u8]) -> bool
+    requires { payloads_of bytes.now ≡ [] }
+    ensures { result ≡ (contents_of bytes.now).marked }
+{
+    bytes.starts_with(&[0, 0])
+}
+
+fn marker_len(marked: bool) -> usize
+    ensures { result ≡ length (marker marked) }
+{
+    if marked { 2 } else { 0 }
+}
+
+// Where the bytes begin that stand after the entries and the marker.
+fn tail_start(bytes: &[u8], end: usize, marked: bool) -> usize
+    requires end { end ≡ offset (payloads_of bytes.now) (length (payloads_of bytes.now)) }
+    requires marked { marked ≡ (contents_of bytes.now).marked }
+    ensures within { result ≤ length bytes.now }
+    ensures tail { drop result bytes.now ≡ (contents_of bytes.now).tail }
+{
+    end + marker_len(marked)
+}
+
+// The bytes after the entries, which end at `end`, and after the marker.
+pub(crate) fn bytes_after(bytes: &[u8], end: usize, marked: bool) -> &[u8]
+    requires end { end ≡ offset (payloads_of bytes.now) (length (payloads_of bytes.now)) }
+    requires marked { marked ≡ (contents_of bytes.now).marked }
+    ensures { result.now ≡ (contents_of bytes.entry.now).tail }
+{
+    let start = tail_start(bytes, end, marked);
+    &bytes[start..]
+}
