@@ -1,5 +1,5 @@
 -- Where the entries of a file lie, and the index by which a payload is found.
-use Rattle.std.specs.Prelude.{◌≡◌, ℕ, ◌*◌, ◌<◌, Bool, List, length, take, slice_index}
+use Rattle.std.specs.Prelude.{◌≡◌, ℕ, ◌*◌, ◌^◌, ◌<◌, Bool, List, length, take, slice_index}
 use Rattle.std.specs.List.{All, flat_map}
 use Rattle.binaryfile.specs.Bytes.{IsByte}
 use Rattle.binaryfile.specs.Entries.{entry}
@@ -22,6 +22,7 @@ IsIndex starts bytes = (k : ℕ) → k * STRIDE < length (payloads_of bytes) →
 pub record IsDay (bytes starts : List ℕ) (count end : ℕ) (marked : Bool) : Type 0 where
   pub are : All IsByte bytes
   pub count_is : count ≡ length (payloads_of bytes)
+  pub few : count < 2 ^ 32
   pub end_is : end ≡ offset (payloads_of bytes) count
   pub marked_is : marked ≡ (contents_of bytes).marked
   pub index : IsIndex starts bytes

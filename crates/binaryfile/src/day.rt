@@ -111,7 +111,9 @@ impl<A: Allocator> Day<A> {
 
     /// All payloads in their order, borrowed and not copied.
     pub fn payloads(&self) -> Payloads<'_>
-        ensures { result ≡ self.now.payloads }
+        ensures payloads { result ≡ self.now.payloads }
+        // A count of them never wraps.
+        ensures few { length self.now.payloads < 2 ^ 32 }
     {
         Payloads::new(self.bytes.as_slice())
     }

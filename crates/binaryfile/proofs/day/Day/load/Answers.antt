@@ -1,4 +1,4 @@
-use Rattle.std.proofs.Common.{◌≡◌, ℕ, ◌-◌, ◌≤◌, List, [], length, take, drop, Option, Bool, ap, subst, ◌∙◌, arith}
+use Rattle.std.proofs.Common.{◌≡◌, ℕ, ◌-◌, ◌^◌, ◌<◌, ◌≤◌, List, [], length, take, drop, Option, Bool, ap, subst, ◌∙◌, arith}
 use Rattle.std.proofs.lemmas.List.{take_rest}
 use Rattle.std.specs.List.{All}
 use Rattle.binaryfile.specs.Bytes.{IsByte}
@@ -32,11 +32,11 @@ none_after bytes end n are is all = ap payloads_of (take_rest bytes end) ∙ ap 
 marker_after : (bytes : List ℕ) (end n : ℕ) → All IsByte bytes → end ≡ offset (payloads_of bytes) n → n ≡ length (payloads_of bytes) → (contents_of (take (length bytes - end) (drop end bytes))).marked ≡ (contents_of bytes).marked
 marker_after bytes end n are is all = ap (λ (x : List ℕ). (contents_of x).marked) (take_rest bytes end) ∙ ap (λ (x : Contents). x.marked) (after_entries bytes end are (is ∙ ap (offset (payloads_of bytes)) all)).1
 
-is_day : (bytes items starts : List ℕ) (n end : ℕ) (marked : Bool) → bytes ≡ items → All IsByte bytes → n ≡ length (payloads_of bytes) → end ≡ offset (payloads_of bytes) n
+is_day : (bytes items starts : List ℕ) (n end : ℕ) (marked : Bool) → bytes ≡ items → All IsByte bytes → n ≡ length (payloads_of bytes) → n < 2 ^ 32 → end ≡ offset (payloads_of bytes) n
     → marked ≡ (contents_of (take (length bytes - end) (drop end bytes))).marked → IsIndex starts bytes → IsDay items starts n end marked
-is_day bytes items starts n end marked same are all is mark places =
+is_day bytes items starts n end marked same are all few is mark places =
     subst (λ (x : List ℕ). IsDay x starts n end marked) same
-    (record { are = are; count_is = all; end_is = is; marked_is = mark ∙ marker_after bytes end n are is all; index = places })
+    (record { are = are; count_is = all; few = few; end_is = is; marked_is = mark ∙ marker_after bytes end n are is all; index = places })
 
 pub begins_with_marker-marked-requires : goal.begins_with_marker-marked-requires
 begins_with_marker-marked-requires g c =
@@ -58,7 +58,7 @@ returns-then-entries-limits-clause-too_many_messages g c = λ _.
 pub invariant_of-result : goal.invariant_of-result
 invariant_of-result g c =
     let e = c.entries_extent-entries.ensures in
-    is_day _ _ _ _ _ _ c.as_slice-whole.ensures.value e.are e.count e.end c.begins_with_marker-marked.ensures c.in_ok-starts.ensures
+    is_day _ _ _ _ _ _ c.as_slice-whole.ensures.value e.are e.count (omega arith) e.end c.begins_with_marker-marked.ensures c.in_ok-starts.ensures
 
 pub returns-clause-loaded : goal.returns-clause-loaded
 returns-clause-loaded g c =
