@@ -1,0 +1,22 @@
+-- The exit status of the program, by what its engine answered. The numbers are of this project.
+use Rattle.std.specs.Prelude.{ℕ, zero, suc, Result, Ok, Err}
+use Rattle.itch_engine.specs.declared.fault.ProgFault.{ProgFault}
+use Rattle.itch_engine.specs.declared.fault.ProgFault.TheVariants.{Memory, Read, TooManyBytes, TooManyMessages, BadHex, Write}
+
+-- 4 for want of memory, and 3 for input or output that failed
+abbrev pub fault_status : ProgFault → ℕ
+fault_status Memory = 4
+fault_status Read = 3
+fault_status TooManyBytes = 3
+fault_status TooManyMessages = 3
+fault_status BadHex = 3
+fault_status Write = 3
+
+-- 0 where no message was refused, and 1 where some were
+abbrev pub refused_status : ℕ → ℕ
+refused_status zero = 0
+refused_status (suc more) = 1
+
+abbrev pub exit_status : Result ℕ ProgFault → ℕ
+exit_status (Ok refused) = refused_status refused
+exit_status (Err fault) = fault_status fault

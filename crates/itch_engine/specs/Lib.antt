@@ -1,0 +1,5 @@
+pub mod Quoted
+pub mod Report
+pub mod ExitStatus
+pub mod Hexadecimal
+pub mod HexFault

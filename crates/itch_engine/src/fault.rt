@@ -1,0 +1,65 @@
+//! Why an engine stops, and the exit status of the program.
+ghost use Rattle.std.specs.Prelude.{◌≡◌};
+ghost use Rattle.itch_engine.specs.ExitStatus.{exit_status};
+ghost use Rattle.itch_engine.specs.declared.fault.ProgFault.TheVariants.{Memory};
+
+use std::alloc::{AllocError, AllocFailed};
+use thiserror::Error;
+
+/// Why an engine stopped before its work was done. The words are those that the program prints on standard error.
+#[derive(Debug, Clone, Copy, PartialEq, Eq, Drop, Error)]
+pub enum ProgFault {
+    /// Memory was refused.
+    #[error("no memory")]
+    Memory,
+    /// The input couldn't be opened or read.
+    #[error("read failed")]
+    Read,
+    /// The input has more bytes than the program takes.
+    #[error("too many bytes")]
+    TooManyBytes,
+    /// The file has more messages than a message number counts.
+    #[error("too many messages")]
+    TooManyMessages,
+    /// The input isn't an even number of hexadecimal digits.
+    #[error("bad hex")]
+    BadHex,
+    /// The output couldn't be written.
+    #[error("write failed")]
+    Write,
+}
+
+impl From<AllocError> for ProgFault {
+    ghost from_gives = { λ _ fault. fault ≡ Memory };
+
+    fn from(_error: AllocError) -> ProgFault {
+        ProgFault::Memory
+    }
+}
+
+impl<T: Drop> From<AllocFailed<T>> for ProgFault {
+    ghost from_gives = { λ _ fault. fault ≡ Memory };
+
+    fn from(_error: AllocFailed<T>) -> ProgFault {
+        ProgFault::Memory
+    }
+}
+
+/// The exit status for what an engine answered, of this project: 0 where no message was refused, 1 where some were,
+/// 3 where input or output failed and where the input isn't what it should be, and 4 for want of memory.
+pub fn status(answer: &Result<u32, ProgFault>) -> u8
+    ensures { result ≡ exit_status answer.now }
+{
+    match answer {
+        Ok(0) => 0,
+        Ok(_) => 1,
+        Err(ProgFault::Memory) => 4,
+        Err(
+            ProgFault::Read
+            | ProgFault::TooManyBytes
+            | ProgFault::TooManyMessages
+            | ProgFault::BadHex
+            | ProgFault::Write,
+        ) => 3,
+    }
+}

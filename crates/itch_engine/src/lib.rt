@@ -1,0 +1,12 @@
+//! The engines of the program: a whole input, a whole output in memory, and then the writing of it.
+#![tactic(auto)]
+
+mod fault;
+mod hexadecimal;
+mod numbers;
+mod quoting;
+mod stock;
+mod summary;
+
+pub use fault::{ProgFault, status};
+pub use hexadecimal::decode_digits;
