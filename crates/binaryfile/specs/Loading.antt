@@ -13,12 +13,16 @@ pub record Loads (old new : Option (List ℕ)) (limits : Limits) (contents : Con
   pub bytes : length (bytes_of contents) ≤ limits.bytes
   pub messages : length contents.payloads ≤ limits.messages
 
+-- The bytes split into more payloads than so many.
+abbrev pub HasMoreMessages : List ℕ → ℕ → Type 0
+HasMoreMessages bytes messages = (contents : Contents) → Splits bytes contents → messages < length contents.payloads
+
 -- All that the reader gave is within the limit of bytes, and splits into more payloads than the limit of messages.
 pub record ExceedsMessages (old new : Option (List ℕ)) (limits : Limits) : Type 0 where
   pub bytes : List ℕ
   pub gave : GaveAll old new bytes
   pub within : length bytes ≤ limits.bytes
-  pub more : (contents : Contents) → Splits bytes contents → limits.messages < length contents.payloads
+  pub more : HasMoreMessages bytes limits.messages
 
 -- One read gave some bytes. Where all went well they were added to those that came before.
 pub record TookPiece (old new : Option (List ℕ)) (before after : List ℕ) (most : ℕ) (result : Result Bool LoadFault) : Type 0 where

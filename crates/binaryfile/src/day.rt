@@ -1,8 +1,8 @@
 // A whole file in memory, with the places of its entries.
-ghost use Rattle.std.specs.Prelude.{◌≡◌, ◌+◌, ◌-◌, ◌<◌, ◌≤◌, ◌^◌, ◌↔◌, length, slice_index_or, Err, IfOk, IfErr, IsOk, IsErr, IsErrOf, IsTrue};
+ghost use Rattle.std.specs.Prelude.{◌≡◌, ◌≢◌, ◌+◌, ◌-◌, ◌<◌, ◌≤◌, ◌^◌, ◌↔◌, length, slice_index_or, Err, IfOk, IfErr, IsOk, IsErr, IsErrOf, IsTrue};
 ghost use Rattle.binaryfile.specs.Devices.{has_failed, reader_of, is_broken, writer_of, GaveMore, GaveUpTo, Sends};
-ghost use Rattle.binaryfile.specs.Entries.{bytes_of};
-ghost use Rattle.binaryfile.specs.Loading.{Loads, ExceedsMessages};
+ghost use Rattle.binaryfile.specs.Entries.{bytes_of, Splits};
+ghost use Rattle.binaryfile.specs.Loading.{Loads, ExceedsMessages, HasMoreMessages};
 
 use crate::load::read_to_end;
 use crate::scan::{begins_with_marker, bytes_after, entries_extent, index, nth_payload};
@@ -69,9 +69,23 @@ impl<A: Allocator + Copy> Day<A> {
         ensures not_asked { IsTrue (has_failed feed.old) → reader_of feed.new ≡ reader_of feed.old }
     {
         let bytes = read_to_end(alloc, feed, limits.bytes)?;
+        Day::from_bytes(alloc, bytes, limits.messages)
+    }
+
+    /// The day of a file's bytes that are in memory already. The memory of its index is that of `alloc`.
+    ///
+    /// [`LoadFault::TooManyMessages`] where the bytes have more than `messages` payloads, which is decided before any
+    /// memory is asked for; else [`LoadFault::Memory`] where memory is refused. There is no day after a fault.
+    pub fn from_bytes(alloc: A, bytes: Vec<u8, A>, messages: u32) -> Result<Day<A>, LoadFault>
+        ensures split { IfOk result (λ day. Splits bytes.items day) }
+        ensures within { IfOk result (λ day. length day.payloads ≤ messages) }
+        ensures too_many_messages { IsErrOf result LoadFault.TooManyMessages → HasMoreMessages bytes.items messages }
+        ensures not_read { result ≢ Err LoadFault.Read }
+        ensures not_bytes { result ≢ Err LoadFault.TooManyBytes }
+    {
         let whole = bytes.as_slice();
         let entries = entries_extent(whole);
-        if entries.count > limits.messages as usize {
+        if entries.count > messages as usize {
             return Err(LoadFault::TooManyMessages);
         }
         let marked = begins_with_marker(&whole[entries.end..]);

@@ -16,7 +16,7 @@ mod sink;
 
 pub use crate::day::{Day, Limits};
 pub use crate::feed::Feed;
-pub use crate::load::LoadFault;
+pub use crate::load::{LoadFault, read_to_end};
 pub use crate::payloads::Payloads;
 pub use crate::sink::{Sink, WriteFault, send};
 

@@ -74,7 +74,11 @@ fn read_piece<R: Read, A: Allocator>(
 }
 
 /// All that the feed gives to its end, where that is no more than `limit` bytes.
-pub(crate) fn read_to_end<R: Read, A: Allocator + Copy>(
+///
+/// In the course of reading the first of these is answered: [`LoadFault::Read`] where the feed fails (at once where it had
+/// failed before), [`LoadFault::Memory`] where memory is refused, [`LoadFault::TooManyBytes`] where the reader gave more
+/// than `limit` bytes. At most `limit + 1` bytes are taken from the reader, whatever the result.
+pub fn read_to_end<R: Read, A: Allocator + Copy>(
     alloc: A,
     feed: &mut Feed<R>,
     limit: u64,

@@ -1,8 +1,10 @@
 //! Why an engine stops, and the exit status of the program.
 ghost use Rattle.std.specs.Prelude.{◌≡◌};
 ghost use Rattle.itch_engine.specs.ExitStatus.{exit_status};
-ghost use Rattle.itch_engine.specs.declared.fault.ProgFault.TheVariants.{Memory};
+ghost use Rattle.itch_engine.specs.declared.fault.ProgFault.TheVariants.{Memory, Write as WriteFailed};
+ghost use Rattle.itch_engine.specs.DeviceFault.{fault_of_load};
 
+use binaryfile::{LoadFault, WriteFault};
 use std::alloc::{AllocError, AllocFailed};
 use thiserror::Error;
 
@@ -42,6 +44,27 @@ impl<T: Drop> From<AllocFailed<T>> for ProgFault {
 
     fn from(_error: AllocFailed<T>) -> ProgFault {
         ProgFault::Memory
+    }
+}
+
+impl From<LoadFault> for ProgFault {
+    ghost from_gives = { λ load fault. fault ≡ fault_of_load load };
+
+    fn from(fault: LoadFault) -> ProgFault {
+        match fault {
+            LoadFault::Memory => ProgFault::Memory,
+            LoadFault::Read => ProgFault::Read,
+            LoadFault::TooManyBytes => ProgFault::TooManyBytes,
+            LoadFault::TooManyMessages => ProgFault::TooManyMessages,
+        }
+    }
+}
+
+impl From<WriteFault> for ProgFault {
+    ghost from_gives = { λ _ fault. fault ≡ WriteFailed };
+
+    fn from(_fault: WriteFault) -> ProgFault {
+        ProgFault::Write
     }
 }
 

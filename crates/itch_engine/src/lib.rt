@@ -5,8 +5,11 @@ mod fault;
 mod hexadecimal;
 mod numbers;
 mod quoting;
+mod replay;
+mod run;
 mod stock;
 mod summary;
 
 pub use fault::{ProgFault, status};
 pub use hexadecimal::decode_digits;
+pub use run::{hex_run, replay_run};

@@ -1,4 +1,5 @@
 pub mod MapViews
+pub mod Days
 pub mod Counts
 pub mod Keys
 pub mod LevelSums
