@@ -1,5 +1,5 @@
 -- What a device gave or took over two steps, one after the other.
-use Rattle.std.proofs.Common.{ℕ, ◌+◌, ◌≤◌, List, [], ◌++◌, length, Option, arith, length-append}
+use Rattle.std.proofs.Common.{◌≡◌, ℕ, ◌+◌, ◌≤◌, List, [], ◌++◌, length, Option, None, Some, sym, ap, ◌∙◌, arith, length-append, append-nil}
 use Rattle.std.proofs.KnownBytes.{Appends-trans, Consumes-trans, Consumes-nil}
 use Rattle.std.specs.Io.KnownBytes.{Appends, Consumes}
 use Rattle.binaryfile.specs.Devices.{GaveAll, GaveUpTo}
@@ -27,3 +27,8 @@ GaveUpTo-after a b c before most whole gave more fits = record {
   gave = Consumes-both a b c before more.bytes gave more.gave;
   within = omega (arith, length-append before more.bytes, more.within, fits);
 }
+
+-- a reader whose bytes are known gave all of them
+pub GaveAll-known : (known : List ℕ) (new : Option (List ℕ)) (bytes : List ℕ) → GaveAll (Some known) new bytes → bytes ≡ known
+GaveAll-known known None bytes all = absurd all.gave
+GaveAll-known known (Some left) bytes all = sym (all.gave ∙ ap (λ (rest : List ℕ). bytes ++ rest) all.ended ∙ append-nil bytes)

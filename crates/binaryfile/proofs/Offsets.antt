@@ -1,6 +1,7 @@
 -- Where the entries lie.
-use Rattle.std.proofs.Common.{inl, inr, ◌≡◌, ℕ, zero, suc, ◌+◌, ◌-◌, ◌*◌, ◌%◌, ◌^◌, ◌<◌, ◌≤◌, Bool, true, false, List, [], ◌∷◌, ◌++◌, length, take, drop, get_or, refl, sym, ◌∙◌, ap, subst, arith}
-use Rattle.std.proofs.lemmas.List.{append_assoc, length-append, drop_at, drop_more, drop_all, take_more, length-drop, append-nil, take_rest}
+use Rattle.std.proofs.Common.{inl, inr, ◌≡◌, ℕ, zero, suc, ◌+◌, ◌-◌, ◌*◌, ◌%◌, ◌<◌, ◌≤◌, List, [], ◌∷◌, ◌++◌, length, take, drop, get_or, refl, sym, ◌∙◌, ap, subst, arith}
+use Rattle.std.proofs.lemmas.List.{append_assoc, length-append, drop_at, drop_more, drop_all, take_more, length-drop, append-nil, take_rest, take-append-drop, length-take-le, drop-drop, length_push, get_or_append_left, get_or_push}
+use Rattle.std.proofs.lemmas.Bool.{cases_lt}
 use Rattle.std.proofs.lemmas.List.Concat.{flat_map-append}
 use Rattle.std.proofs.lemmas.List.Elements.{All-drop}
 use Rattle.std.specs.List.{All, flat_map}
@@ -9,6 +10,7 @@ use Rattle.binaryfile.specs.Entries.{IsPayload, entry, marker, Contents, Splits}
 use Rattle.binaryfile.specs.Bytes.{IsByte}
 use Rattle.binaryfile.specs.Scanned.{scanned, contents_of}
 use Rattle.binaryfile.specs.Index.{offset, payloads_of, IsIndex}
+use Rattle.binaryfile.specs.declared.TheConstants.{STRIDE}
 use Rattle.binaryfile.proofs.Splitting.{contents_again, contents_splits, scanned_entry}
 
 -- the payload that two bytes of length say
@@ -19,8 +21,8 @@ payload_first (x ∷ []) n long is positive fits = absurd (omega arith)
 payload_first (high ∷ low ∷ rest) n long is positive fits =
     let p : List ℕ = take n rest in
     let more : List ℕ = drop n rest in
-    let whole : p ++ more ≡ rest = Rattle.std.proofs.lemmas.List.take-append-drop n rest in
-    let p-len : length p ≡ n = Rattle.std.proofs.lemmas.List.length-take-le n rest fits in
+    let whole : p ++ more ≡ rest = take-append-drop n rest in
+    let p-len : length p ≡ n = length-take-le n rest fits in
     let says : 256 * high + low ≡ length p = omega arith in
     let fuel : ℕ = suc (suc (length rest)) in (
       (scanned fuel more).payloads,
@@ -32,9 +34,9 @@ drop_entries : (n : ℕ) (ps : List (List ℕ)) (more : List ℕ) → drop (offs
 drop_entries zero ps more = refl
 drop_entries (suc n) [] more = refl
 drop_entries (suc n) (p ∷ ps) more =
-    ap (λ (k : ℕ). drop k ((entry p ++ flat_map entry ps) ++ more)) (length-append (entry p) (flat_map entry (Rattle.std.proofs.Common.take n ps)))
+    ap (λ (k : ℕ). drop k ((entry p ++ flat_map entry ps) ++ more)) (length-append (entry p) (flat_map entry (take n ps)))
     ∙ ap (λ (x : List ℕ). drop (length (entry p) + offset ps n) x) (append_assoc (entry p) (flat_map entry ps) more)
-    ∙ sym (Rattle.std.proofs.lemmas.List.drop-drop (offset ps n) (length (entry p)) (entry p ++ (flat_map entry ps ++ more)))
+    ∙ sym (drop-drop (offset ps n) (length (entry p)) (entry p ++ (flat_map entry ps ++ more)))
     ∙ ap (λ (x : List ℕ). drop (offset ps n) x) (drop_at (entry p) (flat_map entry ps ++ more) (length (entry p)) refl)
     ∙ drop_entries n ps more
 
@@ -74,10 +76,10 @@ payloads_split bytes n are long says positive fits =
     let p : List ℕ = take n (drop 2 bytes) in
     let first = payload_first bytes n long says positive fits in
     let a : Advances (payloads_of bytes) 0 p = advances (payloads_of bytes) 0 p first.0 first.1 in
-    let p-len : length p ≡ n = Rattle.std.proofs.lemmas.List.length-take-le n (drop 2 bytes) fits in
+    let p-len : length p ≡ n = length-take-le n (drop 2 bytes) fits in
     let next : offset (payloads_of bytes) 1 ≡ 2 + n = omega (arith, a.next, p-len) in
     let more : payloads_of (drop n (drop 2 bytes)) ≡ first.0 =
-    ap payloads_of (Rattle.std.proofs.lemmas.List.drop-drop n 2 bytes) ∙ ap (λ (k : ℕ). payloads_of (drop k bytes)) (sym next) ∙ payloads_at bytes 1 are ∙ ap (drop 1) first.1 in
+    ap payloads_of (drop-drop n 2 bytes) ∙ ap (λ (k : ℕ). payloads_of (drop k bytes)) (sym next) ∙ payloads_at bytes 1 are ∙ ap (drop 1) first.1 in
     first.1 ∙ ap (λ (ps : List (List ℕ)). p ∷ ps) (sym more)
 
 pub ends : (ps : List (List ℕ)) (n : ℕ) → n ≤ length ps → drop n ps ≡ [] → n ≡ length ps
@@ -90,7 +92,7 @@ offset_within bytes n are =
     let s : Splits bytes c = contents_splits bytes are in
     let parts : length (flat_map entry (take n c.payloads)) + length (flat_map entry (drop n c.payloads)) ≡ length (flat_map entry c.payloads) =
     sym (length-append (flat_map entry (take n c.payloads)) (flat_map entry (drop n c.payloads))) ∙ ap length (sym (flat_map-append entry (take n c.payloads) (drop n c.payloads)))
-    ∙ ap (λ (xs : List (List ℕ)). length (flat_map entry xs)) (Rattle.std.proofs.lemmas.List.take-append-drop n c.payloads) in
+    ∙ ap (λ (xs : List (List ℕ)). length (flat_map entry xs)) (take-append-drop n c.payloads) in
     omega (arith, ap length s.whole, length-append (flat_map entry c.payloads) (marker c.marked ++ c.tail))
 
 -- what is read at a place
@@ -119,38 +121,38 @@ stops bytes at n are is within none = ends (payloads_of bytes) n within (sym (re
 
 -- the index that has grown by one place, or stays
 pub record Indexed (bytes starts : List ℕ) (n : ℕ) : Type 0 where
-  pub enough : n ≤ length starts * 16
-  pub few : length starts * 16 < n + 16
-  pub found : (k : ℕ) → k < length starts → get_or starts k 0 ≡ offset (payloads_of bytes) (k * 16)
+  pub enough : n ≤ length starts * STRIDE
+  pub few : length starts * STRIDE < n + STRIDE
+  pub found : (k : ℕ) → k < length starts → get_or starts k 0 ≡ offset (payloads_of bytes) (k * STRIDE)
 
-pub indexed_push : (bytes starts : List ℕ) (n at : ℕ) → n % 16 ≡ 0 → at ≡ offset (payloads_of bytes) n → Indexed bytes starts n → Indexed bytes (starts ++ at ∷ []) (n + 1)
+pub indexed_push : (bytes starts : List ℕ) (n at : ℕ) → n % STRIDE ≡ 0 → at ≡ offset (payloads_of bytes) n → Indexed bytes starts n → Indexed bytes (starts ++ at ∷ []) (n + 1)
 indexed_push bytes starts n at even is h =
-    let len : length (starts ++ at ∷ []) ≡ length starts + 1 = Rattle.std.proofs.lemmas.List.length_push starts at in
-    let here : n ≡ length starts * 16 = omega (arith, h.enough, h.few) in
+    let len : length (starts ++ at ∷ []) ≡ length starts + 1 = length_push starts at in
+    let here : n ≡ length starts * STRIDE = omega (arith, h.enough, h.few) in
     record {
       enough = omega (arith, h.enough);
       few = omega (arith, h.few);
-      found = λ k below. elim (Rattle.std.proofs.lemmas.Bool.cases_lt k (length starts)) [
-        | inl old ↦ Rattle.std.proofs.lemmas.List.get_or_append_left starts (at ∷ []) 0 k old ∙ h.found k old
+      found = λ k below. elim (cases_lt k (length starts)) [
+        | inl old ↦ get_or_append_left starts (at ∷ []) 0 k old ∙ h.found k old
         | inr new ↦
             let last : length starts ≡ k = omega arith in
-            Rattle.std.proofs.lemmas.List.get_or_push starts at 0 k last ∙ is ∙ ap (offset (payloads_of bytes)) (here ∙ ap (λ (x : ℕ). x * 16) last)
+            get_or_push starts at 0 k last ∙ is ∙ ap (offset (payloads_of bytes)) (here ∙ ap (λ (x : ℕ). x * STRIDE) last)
       ];
     }
 
-pub indexed_stay : (bytes starts : List ℕ) (n : ℕ) → (n % 16 ≡ 0 → ⊥) → Indexed bytes starts n → Indexed bytes starts (n + 1)
+pub indexed_stay : (bytes starts : List ℕ) (n : ℕ) → (n % STRIDE ≡ 0 → ⊥) → Indexed bytes starts n → Indexed bytes starts (n + 1)
 indexed_stay bytes starts n odd h =
-    let other : n ≡ length starts * 16 → ⊥ = λ e. odd (omega arith) in
+    let other : n ≡ length starts * STRIDE → ⊥ = λ e. odd (omega arith) in
     record { enough = omega (arith, h.enough, h.few); few = omega (arith, h.few); found = h.found }
 
 pub indexed_none : (bytes : List ℕ) → Indexed bytes [] 0
 indexed_none bytes = record { enough = omega arith; few = omega arith; found = λ k below. absurd (omega arith) }
 
 -- what follows the entries
-pub after_entries : (bytes : List ℕ) (listed : ℕ) → All IsByte bytes → listed ≡ offset (payloads_of bytes) (length (payloads_of bytes))
-    → (drop listed bytes ≡ marker (contents_of bytes).marked ++ (contents_of bytes).tail)
-    × (contents_of (drop listed bytes) ≡ record { payloads = []; marked = (contents_of bytes).marked; tail = (contents_of bytes).tail })
-after_entries bytes listed are is =
+pub after_entries : (bytes : List ℕ) (end : ℕ) → All IsByte bytes → end ≡ offset (payloads_of bytes) (length (payloads_of bytes))
+    → (drop end bytes ≡ marker (contents_of bytes).marked ++ (contents_of bytes).tail)
+    × (contents_of (drop end bytes) ≡ record { payloads = []; marked = (contents_of bytes).marked; tail = (contents_of bytes).tail })
+after_entries bytes end are is =
     let c : Contents = contents_of bytes in
     let n : ℕ = length c.payloads in
     let none : drop n c.payloads ≡ [] = drop_all n c.payloads (omega arith) in
@@ -165,12 +167,12 @@ pub same_index : (bytes items starts places : List ℕ) → bytes ≡ items → 
 same_index bytes items starts places b s h = subst (λ (x : List ℕ). IsIndex x bytes) (sym s) (subst (λ (x : List ℕ). IsIndex places x) (sym b) h)
 
 -- the bytes after the marker, or after the entries where there is none
-pub tail_at : (bytes : List ℕ) (listed n : ℕ) → All IsByte bytes → n ≡ length (payloads_of bytes) → listed ≡ offset (payloads_of bytes) n
-    → (listed + length (marker (contents_of bytes).marked) ≤ length bytes) × (drop (listed + length (marker (contents_of bytes).marked)) bytes ≡ (contents_of bytes).tail)
-tail_at bytes listed n are all is =
+pub tail_at : (bytes : List ℕ) (end n : ℕ) → All IsByte bytes → n ≡ length (payloads_of bytes) → end ≡ offset (payloads_of bytes) n
+    → (end + length (marker (contents_of bytes).marked) ≤ length bytes) × (drop (end + length (marker (contents_of bytes).marked)) bytes ≡ (contents_of bytes).tail)
+tail_at bytes end n are all is =
     let c : Contents = contents_of bytes in
-    let rest : drop listed bytes ≡ marker c.marked ++ c.tail = (after_entries bytes listed are (is ∙ ap (offset c.payloads) all)).0 in
-    let within : listed ≤ length bytes = rw is (offset_within bytes n are) in (
-      omega (arith, ap length rest, length-append (marker c.marked) c.tail, length-drop listed bytes),
-      sym (Rattle.std.proofs.lemmas.List.drop-drop (length (marker c.marked)) listed bytes) ∙ ap (drop (length (marker c.marked))) rest ∙ drop_at (marker c.marked) c.tail (length (marker c.marked)) refl,
+    let rest : drop end bytes ≡ marker c.marked ++ c.tail = (after_entries bytes end are (is ∙ ap (offset c.payloads) all)).0 in
+    let within : end ≤ length bytes = rw is (offset_within bytes n are) in (
+      omega (arith, ap length rest, length-append (marker c.marked) c.tail, length-drop end bytes),
+      sym (drop-drop (length (marker c.marked)) end bytes) ∙ ap (drop (length (marker c.marked))) rest ∙ drop_at (marker c.marked) c.tail (length (marker c.marked)) refl,
     )

@@ -2,7 +2,7 @@
 use Rattle.std.proofs.Common.{inl, inr, ◌≡◌, ℕ, zero, suc, ◌+◌, ◌*◌, ◌/◌, ◌%◌, ◌^◌, ◌<◌, ◌≤◌, Bool, true, false, List, [], ◌∷◌, ◌++◌, length, take, drop, refl, sym, ◌∙◌, ap, subst, arith}
 use Rattle.std.proofs.lemmas.List.{append_assoc, length-append, take_at, drop_at, take-append-drop, length-take-le, length-drop}
 use Rattle.std.proofs.lemmas.List.Elements.{All-nil, All-cons, All-head, All-tail, All-drop}
-use Rattle.std.proofs.lemmas.Bool.{cases_Bool, cond-true, cond-false, eqb-true, eqb-false, ltb-true, ltb-false, eq-eqb, ne_eqb, lt-ltb, le-ltb, true≢false}
+use Rattle.std.proofs.lemmas.Bool.{cases_lt, cases_Bool, cond-true, cond-false, eqb-true, eqb-false, ltb-true, ltb-false, ne_eqb, lt-ltb, le-ltb, true≢false}
 use Rattle.std.specs.Prelude.{nat_eq, nat_lt}
 use Rattle.std.specs.List.{All, flat_map}
 use Rattle.std.specs.Int.{w16, to_be_bytes}
@@ -93,7 +93,7 @@ scanned_splits (suc n) (high ∷ low ∷ rest) h are =
             let more : List ℕ = drop len rest in
             let enough : len ≤ length rest = ltb-false (length rest) len whole in
             let p-len : length p ≡ len = length-take-le len rest enough in
-            let positive : 0 < len = elim (Rattle.std.proofs.lemmas.Bool.cases_lt 0 len) [ inl q ↦ q | inr q ↦ absurd (eqb-false len 0 some (omega arith)) ] in
+            let positive : 0 < len = elim (cases_lt 0 len) [ inl q ↦ q | inr q ↦ absurd (eqb-false len 0 some (omega arith)) ] in
             let is : IsPayload p = (omega arith, omega arith) in
             let whole-rest : p ++ more ≡ rest = take-append-drop len rest in
             let all : entry p ++ more ≡ high ∷ low ∷ rest =

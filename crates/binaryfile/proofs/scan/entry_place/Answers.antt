@@ -1,16 +1,17 @@
 use Rattle.std.proofs.Common.{arith, ap, ◌∙◌, ◌/◌, ◌*◌, ◌+◌, ◌≡◌}
+use Rattle.binaryfile.specs.declared.TheConstants.{STRIDE}
 use Rattle.binaryfile.specs.Index.{offset, payloads_of}
 use Rattle.binaryfile.proofs.ByteRanges.{bytes_are}
 use Rattle.binaryfile.proofs.Offsets.{steps, stops, offset_within}
 use Rattle.binaryfile.proofs.scan.entry_place.Goals as goal
 
 pub bounds-starts-number : goal.bounds-starts-number
-bounds-starts-number c = (c.requires.index (c.args.number / 16) (omega arith)).0
+bounds-starts-number c = (c.requires.index (c.args.number / STRIDE) (omega arith)).0
 
 pub loop-init : goal.loop-init
 loop-init c =
-    let found = (c.requires.index (c.args.number / 16) (omega arith)).1 in
-    (c.args.number / 16 * 16, omega arith, found, rw found (offset_within c.args.bytes.now (c.args.number / 16 * 16) (bytes_are c.args.bytes.now c.type_inv.bytes)))
+    let found = (c.requires.index (c.args.number / STRIDE) (omega arith)).1 in
+    (c.args.number / STRIDE * STRIDE, omega arith, found, rw found (offset_within c.args.bytes.now (c.args.number / STRIDE * STRIDE) (bytes_are c.args.bytes.now c.type_inv.bytes)))
 
 pub unreachable-requires : goal.unreachable-requires
 unreachable-requires c =

@@ -1,4 +1,4 @@
-use Rattle.std.proofs.Common.{◌≡◌, ℕ, ◌+◌, ◌-◌, ◌≤◌, List, length, take, drop, refl, sym, ap, subst, ◌∙◌, arith}
+use Rattle.std.proofs.Common.{◌≡◌, ℕ, ◌+◌, Bool, List, length, drop, refl, ap, ◌∙◌, arith}
 use Rattle.binaryfile.specs.Entries.{marker}
 use Rattle.binaryfile.specs.Scanned.{contents_of}
 use Rattle.binaryfile.specs.Index.{payloads_of}
@@ -6,8 +6,8 @@ use Rattle.binaryfile.proofs.ByteRanges.{bytes_are}
 use Rattle.binaryfile.proofs.Offsets.{tail_at}
 use Rattle.binaryfile.proofs.scan.tail_start.Goals as goal
 
-start_is : (bytes : List ℕ) (end n : ℕ) → (m k : Rattle.std.proofs.Common.Bool) → m ≡ k → n ≡ length (marker m) → end + n ≡ end + length (marker k)
-start_is bytes end n m k e is = ap (λ (x : ℕ). end + x) (is ∙ ap (λ (b : Rattle.std.proofs.Common.Bool). length (marker b)) e)
+start_is : (bytes : List ℕ) (end n : ℕ) → (m k : Bool) → m ≡ k → n ≡ length (marker m) → end + n ≡ end + length (marker k)
+start_is bytes end n m k e is = ap (λ (x : ℕ). end + x) (is ∙ ap (λ (b : Bool). length (marker b)) e)
 
 pub overflow_add-result : goal.overflow_add-result
 overflow_add-result c =
