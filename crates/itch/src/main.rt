@@ -1,0 +1,89 @@
+//! The program `itch`: its words, the files that they name, and the lines that it prints on standard error.
+#![tactic(auto)]
+
+mod words;
+
+use binaryfile::{Feed, Sink};
+use clap::error::ErrorKind;
+use itch_engine::{ProgFault, hex_run, replay_run, status};
+use std::process::ExitCode;
+use std::rt::Runtime;
+use std::{env, fs, io};
+use words::Task;
+
+/// The status for words that don't fit.
+const MISUSE: u8 = 2;
+
+/// The status where what is to be read or written can't be.
+const DEVICE: u8 = 3;
+
+/// Ends with the status for what an engine answered, and says why on standard error where it stopped before its work
+/// was done. A line that can't be printed changes no status.
+fn end(rt: &impl Eprint, answer: Result<u32, ProgFault>) -> ExitCode {
+    if let Err(fault) = &answer {
+        let _ = eprintln!(rt; "itch: {fault}");
+    }
+    ExitCode::from(status(&answer))
+}
+
+/// Replays a file, and writes its report on standard output.
+fn replay<R: Runtime + AllocGlobal>(rt: &R, path: &str) -> Result<u32, ProgFault> {
+    let Ok(file) = fs::open(rt, path) else {
+        return Err(ProgFault::Read);
+    };
+    let mut feed = Feed::new(file);
+    let mut sink = Sink::new(io::writer(rt));
+    replay_run(rt.alloc(), &mut feed, &mut sink, 1)
+}
+
+/// Replays the file whose hexadecimal digits are standard input, and writes its report on standard output.
+fn replay_digits<R: Runtime + AllocGlobal>(rt: &R) -> Result<u32, ProgFault> {
+    let mut feed = Feed::new(rt.reader());
+    let mut sink = Sink::new(io::writer(rt));
+    hex_run(rt.alloc(), &mut feed, &mut sink)
+}
+
+/// Prints help, or how the words are used where they don't fit, and ends with the status for that.
+fn explain<R: Runtime>(rt: &R, error: &clap::Error) -> ExitCode {
+    if let ErrorKind::OutOfMemory = error.kind() {
+        return end(rt, Err(ProgFault::Memory));
+    }
+    match error.print(rt) {
+        Ok(()) => ExitCode::from(words::usage_status(error)),
+        Err(_) => ExitCode::from(DEVICE),
+    }
+}
+
+/// Does what the words ask for.
+fn run<R: Runtime + AllocGlobal>(rt: &R, words: &[String]) -> ExitCode {
+    let matches = match words::parse(rt.alloc(), words) {
+        Ok(matches) => matches,
+        Err(error) => return explain(rt, &error),
+    };
+    match words::chosen_task(&matches) {
+        Task::Replay { file } => end(rt, replay(rt, file)),
+        Task::ReplayDigits => end(rt, replay_digits(rt)),
+    }
+}
+
+/// Ends where the words can't be taken: one of them isn't UTF-8, or memory was refused.
+fn refuse_words(rt: &impl Eprint, error: io::Error) -> ExitCode {
+    if error.kind() == io::ErrorKind::OutOfMemory {
+        return end(rt, Err(ProgFault::Memory));
+    }
+    match eprintln!(rt; "itch: a word isn't UTF-8") {
+        Ok(()) => ExitCode::from(MISUSE),
+        Err(_) => ExitCode::from(DEVICE),
+    }
+}
+
+fn main(rt: HostRuntime) -> ExitCode {
+    let arguments = match env::args(&rt) {
+        Ok(arguments) => arguments,
+        Err(error) => return refuse_words(&rt, error),
+    };
+    match arguments.collect::<Vec<String>>(rt.alloc()) {
+        Ok(words) => run(&rt, &words),
+        Err(_) => end(&rt, Err(ProgFault::Memory)),
+    }
+}
