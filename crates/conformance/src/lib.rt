@@ -1,0 +1,17 @@
+//! Tests that cross crates: worked days with their reports, growths that are refused in turn, and devices that fail.
+//!
+//! The expected values are worked out by hand from the rules in docs/FORMATS.md.
+#![tactic(auto)]
+
+#[cfg(test)]
+mod containers;
+#[cfg(test)]
+mod devices;
+#[cfg(test)]
+mod growths;
+#[cfg(test)]
+mod machine;
+#[cfg(test)]
+mod payloads;
+#[cfg(test)]
+mod reports;
