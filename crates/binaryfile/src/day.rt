@@ -14,7 +14,7 @@ use std::marker::Model;
 /// How much a file may hold.
 #[derive(Debug, Clone, Copy, PartialEq, Eq)]
 pub struct Limits {
-    /// At most so many bytes, in all.
+    /// At most so many bytes in all, where a caller allows no more than 2^40.
     pub bytes: u64,
     /// At most so many payloads.
     pub messages: u32,
@@ -46,7 +46,7 @@ impl<A: Allocator> Model for Day<A> {
 }
 
 impl<A: Allocator + Copy> Day<A> {
-    /// Reads a file to its end. Its memory is that of `alloc`.
+    /// Reads a file to its end, of at most `limits.bytes` bytes, which are no more than 2^40. Its memory is that of `alloc`.
     ///
     /// No file is refused for its form. In the course of reading the first of these is answered:
     /// [`LoadFault::Read`] where the feed fails (at once, and with no memory, where it had failed before),
