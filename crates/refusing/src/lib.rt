@@ -97,7 +97,7 @@ fn is_refused(growths: &Growths) -> bool {
 }
 
 unsafe impl<B: Allocator> Allocator for Refusing<B> {
-    ghost dealloc_token = { λ heap ty ptr. B.dealloc_token heap.inner ty ptr };
+    ghost dealloc_token = { λ heap ty ptr. B.dealloc_token (inner_of heap) ty ptr };
 
     fn allocate(&self, size: usize, align: usize) -> Result<*mut u8, AllocError> {
         if is_refused(&self.growths) {
