@@ -2,6 +2,7 @@
 use binaryfile::{Feed, Sink};
 use itch_engine::{ProgFault, hex_run, replay_run, status};
 use std::process::Abort;
+use std::test::Fail;
 
 // The bytes of an answer that the engine gave, with the number of refused messages and the exit status.
 fn expect_report<R: Abort + AllocGlobal>(rt: &R, digits: &[u8], refused: u32, report: &[u8]) {
@@ -146,19 +147,22 @@ fn bytes_as_digits(rt: HostRuntime) {
 }
 
 #[test]
-fn statuses(rt: HostRuntime) {
-    let cases = [
-        (Ok(0), 0),
-        (Ok(1), 1),
-        (Ok(u32::MAX), 1),
-        (Err(ProgFault::Memory), 4),
-        (Err(ProgFault::Read), 3),
-        (Err(ProgFault::TooManyBytes), 3),
-        (Err(ProgFault::TooManyMessages), 3),
-        (Err(ProgFault::BadHex), 3),
-        (Err(ProgFault::Write), 3),
-    ];
-    for (answer, wanted) in cases {
-        assert_eq!(rt; status(&answer), wanted);
+fn statuses_and_words(rt: HostRuntime) -> Result<(), Fail> {
+    for (refused, wanted) in [(0, 0), (1, 1), (u32::MAX, 1)] {
+        assert_eq!(rt; status(&Ok(refused)), wanted);
     }
+    let faults = [
+        (ProgFault::Memory, 4, "no memory"),
+        (ProgFault::Read, 3, "read failed"),
+        (ProgFault::TooManyBytes, 3, "too many bytes"),
+        (ProgFault::TooManyMessages, 3, "too many messages"),
+        (ProgFault::BadHex, 3, "bad hex"),
+        (ProgFault::Write, 3, "write failed"),
+    ];
+    for (fault, wanted, words) in faults {
+        assert_eq!(rt; status(&Err(fault)), wanted);
+        let said = format!(in rt.alloc(); "{fault}")?;
+        assert_eq!(rt; said.as_str(), words);
+    }
+    Ok(())
 }
