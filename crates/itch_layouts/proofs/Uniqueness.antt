@@ -4,9 +4,9 @@ use Rattle.std.proofs.lemmas.Bool.Decides.{nat_tests}
 use Rattle.std.specs.List.{find}
 use Rattle.itch_layouts.specs.Layouts.{Layout, table, layout, size_of, values_at, Value}
 use Rattle.itch_layouts.specs.Means.{layout_of, values_of, Means, Reads}
-use Rattle.itch_layouts.specs.Shapes.{Reading, readings, reading, system_from, directory_from, add_from, delete_from, shape_by, shape_of}
+use Rattle.itch_layouts.specs.Shapes.{Reading, readings, reading, system_from, directory_from, trading_from, regsho_from, participant_from, decline_from, breach_from, ipo_from, collar_from, operational_from, add_from, add_mpid_from, execute_from, execute_price_from, cancel_from, delete_from, replace_from, trade_from, cross_from, broken_from, imbalance_from, retail_from, shape_by, shape_of}
 use Rattle.itch_layouts.specs.declared.message.Msg.{Msg}
-use Rattle.itch_layouts.specs.declared.message.Msg.TheVariants.{System, Directory, Add, Delete}
+use Rattle.itch_layouts.specs.declared.message.Msg.TheVariants.{System, Directory, Trading, Regsho, Participant, Decline, Breach, Ipo, Collar, Operational, Add, AddMpid, Execute, ExecutePrice, Cancel, Delete, Replace, Trade, Cross, Broken, Imbalance, Retail}
 use Rattle.itch_layouts.specs.declared.reading.Shape.{Shape}
 use Rattle.itch_layouts.specs.declared.reading.Shape.TheVariants.{Known, Unknown, BadLength}
 
@@ -14,16 +14,52 @@ use Rattle.itch_layouts.specs.declared.reading.Shape.TheVariants.{Known, Unknown
 from_values : Msg → List Value → Msg
 from_values (System head m) = system_from
 from_values (Directory head m) = directory_from
+from_values (Trading head m) = trading_from
+from_values (Regsho head m) = regsho_from
+from_values (Participant head m) = participant_from
+from_values (Decline head m) = decline_from
+from_values (Breach head m) = breach_from
+from_values (Ipo head m) = ipo_from
+from_values (Collar head m) = collar_from
+from_values (Operational head m) = operational_from
 from_values (Add head m) = add_from
+from_values (AddMpid head m) = add_mpid_from
+from_values (Execute head m) = execute_from
+from_values (ExecutePrice head m) = execute_price_from
+from_values (Cancel head m) = cancel_from
 from_values (Delete head m) = delete_from
+from_values (Replace head m) = replace_from
+from_values (Trade head m) = trade_from
+from_values (Cross head m) = cross_from
+from_values (Broken head m) = broken_from
+from_values (Imbalance head m) = imbalance_from
+from_values (Retail head m) = retail_from
 
 -- the values of a message's fields make the message
 made_again : (m : Msg) → from_values m (values_of m) ≡ m
 unfolding from_values
 made_again (System head m) = refl
 made_again (Directory head m) = refl
+made_again (Trading head m) = refl
+made_again (Regsho head m) = refl
+made_again (Participant head m) = refl
+made_again (Decline head m) = refl
+made_again (Breach head m) = refl
+made_again (Ipo head m) = refl
+made_again (Collar head m) = refl
+made_again (Operational head m) = refl
 made_again (Add head m) = refl
+made_again (AddMpid head m) = refl
+made_again (Execute head m) = refl
+made_again (ExecutePrice head m) = refl
+made_again (Cancel head m) = refl
 made_again (Delete head m) = refl
+made_again (Replace head m) = refl
+made_again (Trade head m) = refl
+made_again (Cross head m) = refl
+made_again (Broken head m) = refl
+made_again (Imbalance head m) = refl
+made_again (Retail head m) = refl
 
 abbrev has_kind : ℕ → Reading → Bool
 has_kind kind r = r.layout.kind == kind
@@ -32,15 +68,51 @@ found : (m : Msg) → find (has_kind (layout_of m).kind) readings ≡ Some (read
 unfolding from_values
 found (System head m) = refl
 found (Directory head m) = refl
+found (Trading head m) = refl
+found (Regsho head m) = refl
+found (Participant head m) = refl
+found (Decline head m) = refl
+found (Breach head m) = refl
+found (Ipo head m) = refl
+found (Collar head m) = refl
+found (Operational head m) = refl
 found (Add head m) = refl
+found (AddMpid head m) = refl
+found (Execute head m) = refl
+found (ExecutePrice head m) = refl
+found (Cancel head m) = refl
 found (Delete head m) = refl
+found (Replace head m) = refl
+found (Trade head m) = refl
+found (Cross head m) = refl
+found (Broken head m) = refl
+found (Imbalance head m) = refl
+found (Retail head m) = refl
 
 -- no message is empty
 not_empty : (m : Msg) → 0 < (layout_of m).size
 not_empty (System head m) = omega arith
 not_empty (Directory head m) = omega arith
+not_empty (Trading head m) = omega arith
+not_empty (Regsho head m) = omega arith
+not_empty (Participant head m) = omega arith
+not_empty (Decline head m) = omega arith
+not_empty (Breach head m) = omega arith
+not_empty (Ipo head m) = omega arith
+not_empty (Collar head m) = omega arith
+not_empty (Operational head m) = omega arith
 not_empty (Add head m) = omega arith
+not_empty (AddMpid head m) = omega arith
+not_empty (Execute head m) = omega arith
+not_empty (ExecutePrice head m) = omega arith
+not_empty (Cancel head m) = omega arith
 not_empty (Delete head m) = omega arith
+not_empty (Replace head m) = omega arith
+not_empty (Trade head m) = omega arith
+not_empty (Cross head m) = omega arith
+not_empty (Broken head m) = omega arith
+not_empty (Imbalance head m) = omega arith
+not_empty (Retail head m) = omega arith
 
 same_number : (a b : ℕ) → a ≡ b → (a == b) ≡ true
 same_number a b e = grind (arith, nat_tests)

@@ -4,8 +4,13 @@
 mod fields;
 mod message;
 mod nanos;
+mod readers;
 mod reading;
 
-pub use message::{Add, Delete, Directory, Head, Msg, System};
+pub use message::{
+    Add, AddMpid, Breach, Broken, Cancel, Collar, Cross, Decline, Delete, Directory, Execute,
+    ExecutePrice, Head, Imbalance, Ipo, Msg, Operational, Participant, Regsho, Replace, Retail,
+    System, Trade, Trading,
+};
 pub use nanos::Nanos;
 pub use reading::{Shape, read_msg, size_of_kind};

@@ -1,12 +1,16 @@
 //! From a payload to the message that it means.
-ghost use Rattle.std.specs.Prelude.{◌≡◌, ℕ, ◌<◌, Some, length, slice_index, map};
-ghost use Rattle.itch_layouts.specs.Layouts.{head, value_at, size_of, system, directory, add, delete};
-ghost use Rattle.itch_layouts.specs.Means.{head_values, IsOf, Means, Reads};
+ghost use Rattle.std.specs.Prelude.{◌≡◌, ℕ, Some, length, slice_index};
+ghost use Rattle.itch_layouts.specs.Layouts.{size_of};
+ghost use Rattle.itch_layouts.specs.Means.{Means, Reads};
 ghost use Rattle.itch_layouts.specs.Shapes.{shape_of};
 ghost use Rattle.itch_layouts.specs.declared.message.Msg.{Msg};
 
-use crate::fields::{array_at, byte_at, nanos_at, u16_at, u32_at, u64_at};
-use crate::message::{Add, Delete, Directory, Head, Msg, System};
+use crate::message::Msg;
+use crate::readers::{
+    add_mpid_of, add_of, breach_of, broken_of, cancel_of, collar_of, cross_of, decline_of,
+    delete_of, directory_of, execute_of, execute_price_of, imbalance_of, ipo_of, operational_of,
+    participant_of, regsho_of, replace_of, retail_of, system_of, trade_of, trading_of,
+};
 
 /// What a payload is.
 #[derive(Debug, Clone, Copy, PartialEq, Eq)]
@@ -19,74 +23,6 @@ pub enum Shape {
     BadLength,
 }
 
-fn head_of(payload: &[u8]) -> Head
-    requires { 10 < length payload.now }
-    ensures { head_values result ≡ map (value_at payload.now) head }
-{
-    Head {
-        locate: u16_at(payload, 1),
-        tracking: u16_at(payload, 3),
-        time: nanos_at(payload, 5),
-    }
-}
-
-fn system_of(payload: &[u8]) -> Msg
-    requires { IsOf system payload.now }
-    ensures { Means payload.now result }
-{
-    let system = System {
-        event: byte_at(payload, 11),
-    };
-    Msg::System(head_of(payload), system)
-}
-
-fn directory_of(payload: &[u8]) -> Msg
-    requires { IsOf directory payload.now }
-    ensures { Means payload.now result }
-{
-    let directory = Directory {
-        stock: array_at(payload, 11),
-        category: byte_at(payload, 19),
-        status: byte_at(payload, 20),
-        lot: u32_at(payload, 21),
-        lots_only: byte_at(payload, 25),
-        issue_class: byte_at(payload, 26),
-        issue_subtype: array_at(payload, 27),
-        authenticity: byte_at(payload, 29),
-        short_sale: byte_at(payload, 30),
-        ipo: byte_at(payload, 31),
-        luld: byte_at(payload, 32),
-        etp: byte_at(payload, 33),
-        leverage: u32_at(payload, 34),
-        inverse: byte_at(payload, 38),
-    };
-    Msg::Directory(head_of(payload), directory)
-}
-
-fn add_of(payload: &[u8]) -> Msg
-    requires { IsOf add payload.now }
-    ensures { Means payload.now result }
-{
-    let add = Add {
-        reference: u64_at(payload, 11),
-        side: byte_at(payload, 19),
-        shares: u32_at(payload, 20),
-        stock: array_at(payload, 24),
-        price: u32_at(payload, 32),
-    };
-    Msg::Add(head_of(payload), add)
-}
-
-fn delete_of(payload: &[u8]) -> Msg
-    requires { IsOf delete payload.now }
-    ensures { Means payload.now result }
-{
-    let delete = Delete {
-        reference: u64_at(payload, 11),
-    };
-    Msg::Delete(head_of(payload), delete)
-}
-
 /// The size in bytes of a type's messages, or `None` where the type has no layout.
 #[tactic(auto, using(crate::proofs::Sizes::sizes))]
 pub fn size_of_kind(kind: u8) -> Option<u16>
@@ -95,8 +31,26 @@ pub fn size_of_kind(kind: u8) -> Option<u16>
     match kind {
         b'S' => Some(12),
         b'R' => Some(39),
+        b'H' => Some(25),
+        b'Y' => Some(20),
+        b'L' => Some(26),
+        b'V' => Some(35),
+        b'W' => Some(12),
+        b'K' => Some(28),
+        b'J' => Some(35),
+        b'h' => Some(21),
         b'A' => Some(36),
+        b'F' => Some(40),
+        b'E' => Some(31),
+        b'C' => Some(36),
+        b'X' => Some(23),
         b'D' => Some(19),
+        b'U' => Some(35),
+        b'P' => Some(44),
+        b'Q' => Some(40),
+        b'B' => Some(19),
+        b'I' => Some(50),
+        b'N' => Some(20),
         _ => None,
     }
 }
@@ -110,8 +64,26 @@ fn message_of(kind: u8, payload: &[u8]) -> Msg
     match kind {
         b'S' => system_of(payload),
         b'R' => directory_of(payload),
+        b'H' => trading_of(payload),
+        b'Y' => regsho_of(payload),
+        b'L' => participant_of(payload),
+        b'V' => decline_of(payload),
+        b'W' => breach_of(payload),
+        b'K' => ipo_of(payload),
+        b'J' => collar_of(payload),
+        b'h' => operational_of(payload),
         b'A' => add_of(payload),
+        b'F' => add_mpid_of(payload),
+        b'E' => execute_of(payload),
+        b'C' => execute_price_of(payload),
+        b'X' => cancel_of(payload),
         b'D' => delete_of(payload),
+        b'U' => replace_of(payload),
+        b'P' => trade_of(payload),
+        b'Q' => cross_of(payload),
+        b'B' => broken_of(payload),
+        b'I' => imbalance_of(payload),
+        b'N' => retail_of(payload),
         _ => unreachable!(),
     }
 }

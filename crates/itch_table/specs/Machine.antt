@@ -2,7 +2,7 @@
 use Rattle.std.specs.Prelude.{◌≡◌, ℕ, List, Bool, true, false, IsTrue}
 use Rattle.itch_layouts.specs.Shapes.{shape_of}
 use Rattle.itch_layouts.specs.declared.message.Msg.{Msg}
-use Rattle.itch_layouts.specs.declared.message.Msg.TheVariants.{System, Directory, Add, Delete}
+use Rattle.itch_layouts.specs.declared.message.Msg.TheVariants.{Directory, Add}
 use Rattle.itch_layouts.specs.declared.reading.Shape.{Shape}
 use Rattle.itch_layouts.specs.declared.reading.Shape.TheVariants.{Known, Unknown, BadLength}
 use Rattle.itch_table.specs.declared.outcome.Outcome.TheVariants.{Applied}
@@ -15,10 +15,9 @@ pub record Machine : Type 0 where
 
 -- a message of this kind may need a new row
 abbrev pub adds_row : Msg → Bool
-adds_row (System head m) = false
 adds_row (Directory head m) = true
 adds_row (Add head m) = true
-adds_row (Delete head m) = false
+adds_row other = false
 
 abbrev pub shape_adds_row : Shape → Bool
 shape_adds_row Unknown = false

@@ -35,7 +35,7 @@ is_side byte = (byte == 66) || (byte == 83)
 abbrev pub side_of : ℕ → Side
 side_of byte = if byte == 66 then Buy else Sell
 
--- ---- the checks of each message, in order
+-- ---- the checks of each message, in order; of another type, which has no row yet, none
 
 abbrev pub checks : Msg → World → List (Option Fault)
 checks (System head m) w = []
@@ -53,19 +53,21 @@ checks (Delete head m) w =
     refuse_unless (is_some (directory w head.locate)) NoDirectory
     ∷ refuse_unless (is_some (live w head.locate m.reference)) ReferenceUnknown
     ∷ []
+checks other w = []
 
 abbrev pub first_fault : List (Option Fault) → Option Fault
 first_fault [] = None
 first_fault (None ∷ rest) = first_fault rest
 first_fault (Some fault ∷ rest) = Some fault
 
--- ---- the effect of each message, where no check fails
+-- ---- the effect of each message, where no check fails; of another type, which has no row yet, none
 
 abbrev pub effect : Msg → World → World
 effect (System head m) w = record w { event = Some m.event }
 effect (Directory head m) w = record w { directories = maps.insert w.directories head.locate m }
 effect (Add head m) w = record w { orders = maps.insert w.orders (key head.locate m.reference) (record { side = side_of m.side; shares = m.shares; price = m.price; attribution = None }) }
 effect (Delete head m) w = record w { orders = maps.remove w.orders (key head.locate m.reference) }
+effect other w = w
 
 -- ---- one step
 
@@ -82,6 +84,15 @@ step_shape w Unknown = (Passed, w)
 step_shape w BadLength = (Refused WrongLength, w)
 step_shape w (Known m) = step_message w m
 
--- a payload of an unknown type is passed over, one of a wrong length is refused, and a message takes its row of the table
+-- the types that the table has a row for yet: S, R, A and D
+abbrev pub has_row : ℕ → Bool
+has_row kind = (kind == 83) || (kind == 82) || (kind == 65) || (kind == 68)
+
+-- a payload of another type, or without one, is of no shape that the table knows, whatever its length
+abbrev pub table_shape : List ℕ → Shape
+table_shape [] = Unknown
+table_shape (kind ∷ rest) = if has_row kind then shape_of (kind ∷ rest) else Unknown
+
+-- a payload of a type without a row is passed over, one of a wrong length is refused, and a message takes its row of the table
 abbrev pub step : World → List ℕ → Outcome × World
-step w payload = step_shape w (shape_of payload)
+step w payload = step_shape w (table_shape payload)

@@ -45,5 +45,6 @@ pub(crate) fn apply<A: Allocator + Copy>(rows: &mut Rows<A>, msg: &Msg) -> Resul
             rows.remove_order(head.locate, delete.reference);
             Ok(())
         }
+        _ => Ok(()),
     }
 }

@@ -61,9 +61,9 @@ pub(crate) fn fault<A: Allocator + Copy>(rows: &Rows<A>, msg: &Msg) -> Option<Fa
     ensures { result ≡ first_fault (checks msg.now rows.now) }
 {
     match msg {
-        Msg::System(_, _) => None,
         Msg::Directory(head, directory) => directory_fault(rows, head, directory),
         Msg::Add(head, add) => add_fault(rows, head, add),
         Msg::Delete(head, delete) => delete_fault(rows, head, delete),
+        _ => None,
     }
 }

@@ -55,7 +55,7 @@ impl Fault {
 pub enum Outcome {
     /// The message had its effect.
     Applied,
-    /// The message's type is unknown. Nothing changed.
+    /// The table has no row for the message's type. Nothing changed.
     Passed,
     /// A check failed. Nothing changed.
     Refused(Fault),

@@ -2,7 +2,7 @@
 ghost use Rattle.std.specs.Prelude.{◌≡◌, ◌+◌, ◌-◌, ◌<◌, ◌^◌, ℕ, List, IfOk, OnOk, OnErr};
 ghost use Rattle.itch_table.specs.World.{empty_world, locates, order, orders_of, status, totals};
 ghost use Rattle.itch_table.specs.Levels.{levels, top};
-ghost use Rattle.itch_table.specs.Table.{step};
+ghost use Rattle.itch_table.specs.Table.{step, table_shape};
 ghost use Rattle.itch_table.specs.Machine.{MayGrow};
 
 use crate::effects::apply;
@@ -146,13 +146,23 @@ impl<A: Allocator + Copy> Plain<A> {
     }
 }
 
+// What a payload is to the table, which has no row for most types yet.
+fn table_shape_of(payload: &[u8]) -> Shape
+    ensures { result ≡ table_shape payload.now }
+{
+    match payload.first() {
+        Some(b'S' | b'R' | b'A' | b'D') => read_msg(payload),
+        _ => Shape::Unknown,
+    }
+}
+
 // One message over the rows alone.
 fn step_rows<A: Allocator + Copy>(rows: &mut Rows<A>, payload: &[u8]) -> Result<Outcome, AllocError>
     ensures ok { IfOk result (λ outcome. (outcome, rows.new) ≡ step rows.old payload.now) }
     ensures err { OnErr result (rows.new ≡ rows.old) }
     ensures grows { OnErr result (MayGrow rows.old payload.now) }
 {
-    let msg = match read_msg(payload) {
+    let msg = match table_shape_of(payload) {
         Shape::Unknown => return Ok(Outcome::Passed),
         Shape::BadLength => return Ok(Outcome::Refused(Fault::WrongLength)),
         Shape::Known(msg) => msg,
