@@ -175,6 +175,13 @@ reads_shape [] BadLength h = absurd (none_some h.0 h.1)
     none_some n e = cc
 reads_shape (kind ∷ rest) BadLength h = sym (bad_length_by (kind ∷ rest) (find (has_kind kind) readings) h.0 (sym (sized kind) ∙ h.1) h.2)
 
+known_once : (m n : Msg) → Known m ≡ Known n → m ≡ n
+known_once m n e = cc
+
+-- a payload means at most one message
+pub one_message : (payload : List ℕ) (m n : Msg) → Means payload m → Means payload n → m ≡ n
+one_message payload m n means means' = known_once m n (sym (shape_of_means payload m means) ∙ shape_of_means payload n means')
+
 pub only : (payload : List ℕ) (shape : Shape) (m : Msg) → Reads payload shape → Means payload m → shape ≡ Known m
 only payload shape m h means = reads_shape payload shape h ∙ shape_of_means payload m means
 

@@ -1,0 +1,59 @@
+-- A message is meant by exactly one payload.
+use Rattle.std.proofs.Common.{◌≡◌, ℕ, ◌+◌, ◌<◌, ◌≤◌, ◌∙◌, sym, ap, refl, List, [], ◌∷◌, ◌++◌, length, drop, append-nil, IsTrue, arith}
+use Rattle.itch_layouts.specs.Layouts.{fields, value_at, Value}
+use Rattle.itch_layouts.specs.Means.{layout_of, values_of, Means}
+use Rattle.itch_layouts.specs.Spelling.{IsBytes, spelling, tiles, payload_of, Fits}
+use Rattle.itch_layouts.specs.declared.message.Msg.{Msg}
+use Rattle.itch_layouts.specs.declared.message.Msg.TheVariants.{System, Directory, Trading, Regsho, Participant, Decline, Breach, Ipo, Collar, Operational, Add, AddMpid, Execute, ExecutePrice, Cancel, Delete, Replace, Trade, Cross, Broken, Imbalance, Retail}
+use Rattle.itch_layouts.proofs.SpelledFields.{tile_of, Tile, Tile_le, values_spelled, spelled_values, length_spelling}
+
+-- the fields of a message follow its type, up to its size
+tiled : (m : Msg) → IsTrue (tiles 1 (fields (layout_of m)) (layout_of m).size)
+tiled (System head m) = refl
+tiled (Directory head m) = refl
+tiled (Trading head m) = refl
+tiled (Regsho head m) = refl
+tiled (Participant head m) = refl
+tiled (Decline head m) = refl
+tiled (Breach head m) = refl
+tiled (Ipo head m) = refl
+tiled (Collar head m) = refl
+tiled (Operational head m) = refl
+tiled (Add head m) = refl
+tiled (AddMpid head m) = refl
+tiled (Execute head m) = refl
+tiled (ExecutePrice head m) = refl
+tiled (Cancel head m) = refl
+tiled (Delete head m) = refl
+tiled (Replace head m) = refl
+tiled (Trade head m) = refl
+tiled (Cross head m) = refl
+tiled (Broken head m) = refl
+tiled (Imbalance head m) = refl
+tiled (Retail head m) = refl
+
+tile : (m : Msg) → Tile 1 (fields (layout_of m)) (layout_of m).size
+tile m = tile_of 1 (fields (layout_of m)) (layout_of m).size (tiled m)
+
+pub means_payload : (m : Msg) → Fits m → Means (payload_of m) m
+means_payload m h =
+    let size : length (payload_of m) ≡ (layout_of m).size = omega (arith, length_spelling 1 (fields (layout_of m)) (layout_of m).size (values_of m) (tile m) h) in
+    ((refl, size), sym (values_spelled ((layout_of m).kind ∷ []) (fields (layout_of m)) (layout_of m).size (values_of m) (tile m) h))
+
+drop_all : (bs : List ℕ) → drop (length bs) bs ≡ []
+drop_all [] = refl
+drop_all (b ∷ bs) = drop_all bs
+
+pub one_payload : (m : Msg) (payload : List ℕ) → IsBytes payload → Means payload m → payload ≡ payload_of m
+one_payload m [] b h = absurd (omega (arith, h.0.1, Tile_le 1 (fields (layout_of m)) (layout_of m).size (tile m)))
+one_payload m (kind ∷ body) b h =
+    let end : drop (layout_of m).size (kind ∷ body) ≡ [] = rw (← h.0.1) (drop_all (kind ∷ body)) in
+    let is : spelling (fields (layout_of m)) (values_of m) ≡ body =
+    sym (append-nil (spelling (fields (layout_of m)) (values_of m)))
+    ∙ ap (λ (rest : List ℕ). spelling (fields (layout_of m)) (values_of m) ++ rest) (sym end)
+    ∙ ap (λ (vs : List Value). spelling (fields (layout_of m)) vs ++ drop (layout_of m).size (kind ∷ body)) h.1
+    ∙ spelled_values (kind ∷ body) 1 (fields (layout_of m)) (layout_of m).size b (tile m) (omega (arith, h.0.1)) in
+    let first : kind ≡ (layout_of m).kind = h.0.0 in
+    ap (λ (k : ℕ). k ∷ body) first ∙ ap (λ (bs : List ℕ). (layout_of m).kind ∷ bs) (sym is)
+
+pub ruleset payloads = (means_payload, one_payload)
