@@ -5,3 +5,6 @@ pub mod SpelledFields
 pub mod Words
 pub mod Uniqueness
 pub mod OnePayload
+pub mod Finding
+pub mod SoundRows
+pub mod OneLayout

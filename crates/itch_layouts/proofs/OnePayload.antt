@@ -1,8 +1,8 @@
 -- A message is meant by exactly one payload.
-use Rattle.std.proofs.Common.{◌≡◌, ℕ, ◌+◌, ◌<◌, ◌≤◌, ◌∙◌, sym, ap, refl, List, [], ◌∷◌, ◌++◌, length, drop, append-nil, IsTrue, arith}
-use Rattle.itch_layouts.specs.Layouts.{fields, value_at, Value}
-use Rattle.itch_layouts.specs.Means.{layout_of, values_of, Means}
-use Rattle.itch_layouts.specs.Spelling.{IsBytes, spelling, tiles, payload_of, Fits}
+use Rattle.std.proofs.Common.{◌≡◌, ℕ, ◌∙◌, sym, ap, refl, List, [], ◌∷◌, ◌++◌, length, drop, append-nil, IsTrue, arith}
+use Rattle.itch_layouts.specs.Layouts.{Layout, fields, values_at, Value}
+use Rattle.itch_layouts.specs.Means.{layout_of, values_of, IsOf, Means}
+use Rattle.itch_layouts.specs.Spelling.{IsBytes, spelling, tiles, payload_of, Fit, Fits}
 use Rattle.itch_layouts.specs.declared.message.Msg.{Msg}
 use Rattle.itch_layouts.specs.declared.message.Msg.TheVariants.{System, Directory, Trading, Regsho, Participant, Decline, Breach, Ipo, Collar, Operational, Add, AddMpid, Execute, ExecutePrice, Cancel, Delete, Replace, Trade, Cross, Broken, Imbalance, Retail}
 use Rattle.itch_layouts.proofs.SpelledFields.{tile_of, Tile, Tile_le, values_spelled, spelled_values, length_spelling}
@@ -35,10 +35,16 @@ tiled (Retail head m) = refl
 tile : (m : Msg) → Tile 1 (fields (layout_of m)) (layout_of m).size
 tile m = tile_of 1 (fields (layout_of m)) (layout_of m).size (tiled m)
 
+-- what the values of a layout's fields spell, holds these values
+pub holds_spelled : (row : Layout) (vs : List Value) → IsTrue (tiles 1 (fields row) row.size) → Fit (fields row) vs
+    → IsOf row (row.kind ∷ spelling (fields row) vs) × (vs ≡ values_at row (row.kind ∷ spelling (fields row) vs))
+holds_spelled row vs tiled h =
+    let t = tile_of 1 (fields row) row.size tiled in
+    let size : length (row.kind ∷ spelling (fields row) vs) ≡ row.size = omega (arith, length_spelling 1 (fields row) row.size vs t h) in
+    ((refl, size), sym (values_spelled (row.kind ∷ []) (fields row) row.size vs t h))
+
 pub means_payload : (m : Msg) → Fits m → Means (payload_of m) m
-means_payload m h =
-    let size : length (payload_of m) ≡ (layout_of m).size = omega (arith, length_spelling 1 (fields (layout_of m)) (layout_of m).size (values_of m) (tile m) h) in
-    ((refl, size), sym (values_spelled ((layout_of m).kind ∷ []) (fields (layout_of m)) (layout_of m).size (values_of m) (tile m) h))
+means_payload m h = holds_spelled (layout_of m) (values_of m) (tiled m) h
 
 drop_all : (bs : List ℕ) → drop (length bs) bs ≡ []
 drop_all [] = refl

@@ -1,11 +1,10 @@
 -- What is spelled field by field is read again, and what is read spells the bytes again.
-use Rattle.std.proofs.Common.{IsTrue, Bool, true, false, ◌&&◌, ◌==◌, ◌≡◌, ℕ, zero, suc, ◌+◌, ◌-◌, ◌*◌, ◌^◌, ◌<◌, ◌≤◌, ◌∙◌, sym, ap, refl, List, [], ◌∷◌, ◌++◌, length, get_or, take, drop, map, arith, append_assoc, length-append, length-take, length-drop, slice_index, subst}
+use Rattle.std.proofs.Common.{IsTrue, Bool, true, false, ◌&&◌, ◌==◌, ◌≡◌, ℕ, zero, suc, ◌+◌, ◌<◌, ◌≤◌, ◌∙◌, sym, ap, refl, List, [], ◌∷◌, ◌++◌, length, get_or, take, drop, map, arith, append_assoc, length-append}
 use Rattle.std.proofs.lemmas.List.{take-append-drop, drop-drop}
-use Rattle.std.proofs.lemmas.Grind.{common_steps}
 use Rattle.std.proofs.lemmas.Bool.Decides.{nat_tests}
 use Rattle.itch_layouts.specs.Layouts.{Field, Form, Integer, Alpha, Value, Number, Bytes, value_of, value_at, bytes_at, number_at, big_endian}
 use Rattle.itch_layouts.specs.Spelling.{digits, IsBytes, Fit, FitsField, spelled, spelling, tiles}
-use Rattle.itch_layouts.proofs.Digits.{length_digits, big_endian_digits, digits_big_endian, IsBytes_digits}
+use Rattle.itch_layouts.proofs.Digits.{length_digits, big_endian_digits, digits_big_endian}
 use Rattle.itch_layouts.proofs.Numbers.{length_bytes_at}
 
 pub IsBytes_from : (bs : List ℕ) → ((i : ℕ) → get_or bs i 0 < 256) → IsBytes bs
@@ -66,7 +65,7 @@ abbrev pub Tile : ℕ → List Field → ℕ → Type 0
 Tile from [] to = from ≡ to
 Tile from (f ∷ fs) to = (f.offset ≡ from) × Tile (from + f.width) fs to
 
-and_true : (x y : Bool) → IsTrue (x && y) → IsTrue x × IsTrue y
+pub and_true : (x y : Bool) → IsTrue (x && y) → IsTrue x × IsTrue y
 and_true true true h = (refl, refl)
 and_true true false h = cc
 and_true false y h = cc

@@ -1,8 +1,8 @@
 -- A payload is of one shape, and means at most one message.
-use Rattle.std.proofs.Common.{◌≡◌, ◌≢◌, ℕ, ◌<◌, ◌≤◌, ◌∙◌, sym, ap, refl, List, [], ◌∷◌, length, map, Option, Some, None, Bool, true, false, cond, inl, inr, option_map, slice_index, arith, ◌==◌}
+use Rattle.std.proofs.Common.{◌≡◌, ◌≢◌, ℕ, ◌<◌, ◌∙◌, sym, ap, refl, List, [], ◌∷◌, length, map, Option, Some, None, Bool, true, false, cond, inl, inr, option_map, arith, ◌==◌}
 use Rattle.std.proofs.lemmas.Bool.Decides.{nat_tests}
 use Rattle.std.specs.List.{find}
-use Rattle.itch_layouts.specs.Layouts.{Layout, table, layout, size_of, values_at, Value}
+use Rattle.itch_layouts.specs.Layouts.{Layout, layout, size_of, values_at, Value}
 use Rattle.itch_layouts.specs.Means.{layout_of, values_of, Means, Reads}
 use Rattle.itch_layouts.specs.Shapes.{Reading, readings, reading, system_from, directory_from, trading_from, regsho_from, participant_from, decline_from, breach_from, ipo_from, collar_from, operational_from, add_from, add_mpid_from, execute_from, execute_price_from, cancel_from, delete_from, replace_from, trade_from, cross_from, broken_from, imbalance_from, retail_from, shape_by, shape_of}
 use Rattle.itch_layouts.specs.declared.message.Msg.{Msg}

@@ -1,6 +1,8 @@
 //! Laws of the definitions alone.
-ghost use Rattle.std.specs.Prelude.{◌≡◌, List, ℕ};
-ghost use Rattle.itch_layouts.specs.Means.{Means};
+ghost use Rattle.std.specs.Prelude.{◌≡◌, List, Some, ℕ};
+ghost use Rattle.itch_layouts.specs.Layouts.{layout};
+ghost use Rattle.itch_layouts.specs.Means.{Means, layout_of};
+ghost use Rattle.itch_layouts.specs.Rows.{named};
 ghost use Rattle.itch_layouts.specs.Spelling.{Fits, IsBytes, payload_of};
 ghost use Rattle.itch_layouts.specs.declared.message.Msg.{Msg};
 
@@ -15,4 +17,11 @@ pub fn one_message()
 pub fn one_payload()
     ensures means { (m : Msg) → Fits m → Means (payload_of m) m }
     ensures only { (m : Msg) (payload : List ℕ) → IsBytes payload → Means payload m → payload ≡ payload_of m }
+{}
+
+/// A message's layout is told by its type, and by its mnemonic: no other layout has either.
+#[tactic(auto, using(crate::proofs::OneLayout::told))]
+pub fn one_layout()
+    ensures kind { (m : Msg) → layout (layout_of m).kind ≡ Some (layout_of m) }
+    ensures mnemonic { (m : Msg) → named (layout_of m).mnemonic ≡ Some (layout_of m) }
 {}

@@ -8,10 +8,11 @@ mod message;
 mod nanos;
 mod readers;
 mod reading;
+mod table;
 mod writers;
 mod writing;
 
-pub use laws::{one_message, one_payload};
+pub use laws::{one_layout, one_message, one_payload};
 pub use message::{
     Add, AddMpid, Breach, Broken, Cancel, Collar, Cross, Decline, Delete, Directory, Execute,
     ExecutePrice, Head, Imbalance, Ipo, Msg, Operational, Participant, Regsho, Replace, Retail,
@@ -19,4 +20,5 @@ pub use message::{
 };
 pub use nanos::Nanos;
 pub use reading::{Shape, read_msg, size_of_kind};
+pub use table::{Field, Form, Layout, head_fields, layout_of_kind, layout_of_mnemonic, layouts};
 pub use writing::write_msg;
