@@ -1,13 +1,15 @@
 -- A tree map's entries as a finite map, before and after a change.
-use Rattle.std.proofs.Common.{◌&&◌, ◌≡◌, List, [], ◌∷◌, Some, None, cond, Bool, true, false, refl, ap, sym, ◌∙◌, subst}
+use Rattle.std.proofs.Common.{◌&&◌, ◌≡◌, List, [], ◌∷◌, Some, None, cond, Bool, true, false, refl, ap, sym, ◌∙◌, subst, arith}
 use Rattle.std.specs.Prelude.{T, map}
-use Rattle.std.specs.Ordering.{is_lt, eq_by_cmp}
+use Rattle.std.specs.Ordering.{is_eq, is_lt, eq_by_cmp}
 use Rattle.std.specs.declared.cmp.Ordering.{Ordering}
-use Rattle.std.specs.declared.cmp.Ordering.TheVariants.{Less}
+use Rattle.std.specs.declared.cmp.Ordering.TheVariants.{Less, Equal, Greater}
 use Rattle.std.specs.BTreeMap.{is_at}
 use Rattle.std.specs.Map.{lookup}
 use Rattle.std.specs.Cmp.{IsTotalOrder, eq_by_cmp_equiv}
-use Rattle.std.specs.FinMap.{entries, find, get, insert, remove, from_entries, from_sorted, get-from_entries, get-from_sorted, entries-from_sorted, get-insert, get-remove, same_map, IsAntisymmetric}
+use Rattle.std.specs.FinMap.{FinMap, entries, find, get, insert, remove, from_entries, from_sorted, get-from_entries, get-from_sorted, entries-from_sorted, get-insert, get-remove, get_tied, same_map, IsAntisymmetric}
+use Rattle.std.proofs.lemmas.Grind.{common_steps}
+use mathlib.Core.Bool.{false≢true}
 use Rattle.std.specs.FinMap.Entries.{is_sorted, below_all}
 use Rattle.std.specs.List.{AllByRecursion}
 use Rattle.std.specs.List.Sorted.{IsStrictlySortedBy}
@@ -15,6 +17,13 @@ use Rattle.std.specs.List.Sorted.{IsStrictlySortedBy}
 both : (a b : Bool) → T a → T b → T (a && b)
 both true b p q = q
 both false b p q = p
+
+tied : {K : Type 0} (R : K → K → Ordering) (j k : K) → eq_by_cmp R j k ≡ true → R j k ≡ Equal
+tied R j k = elim (R j k) as (λ (r : Ordering). is_eq r ≡ true → r ≡ Equal) [
+    | Less ↦ λ h. absurd (false≢true h)
+    | Equal ↦ λ h. refl
+    | Greater ↦ λ h. absurd (false≢true h)
+  ]
 
 module _ {K X : Type 0} (R : K → K → Ordering) where
   pub find_lookup : (es : List (K × X)) (q : K) → find R q es ≡ lookup (is_at (R q)) es
@@ -52,3 +61,19 @@ module _ {K X : Type 0} {R : K → K → Ordering} (o : IsTotalOrder R) where
     view_remove es fs k updates = same_map o same _ _ (λ q.
         get_view fs q ∙ updates q ∙ ap (λ b. cond b None (lookup (is_at (R q)) es)) ((eq_by_cmp_equiv o).symm k q)
         ∙ ap (cond (eq_by_cmp R q k) None) (sym (get_view es q)) ∙ sym (get-remove o (from_entries es) k q))
+
+    -- to insert at one key and to remove at another may be done in either order
+    pub remove-insert : (m : FinMap R X) (j k : K) (v : X) → eq_by_cmp R j k ≡ false → remove (insert m k v) j ≡ insert (remove m j) k v
+    remove-insert m j k v apart = same_map o same _ _ (λ q.
+      let laws = eq_by_cmp_equiv o in
+      grind (arith, common_steps, get-remove o (insert m k v) j q, get-insert o m k v q, get-insert o (remove m j) k v q, get-remove o m j q, laws.congr q j k, laws.symm q j, laws.symm q k))
+
+    -- a key at which something stands is another than one at which nothing stands
+    pub apart_by_get : (m : FinMap R X) (j k : K) (v : X) → get m j ≡ Some v → get m k ≡ None → eq_by_cmp R j k ≡ false
+    apart_by_get m j k v here there = elim (eq_by_cmp R j k) as (λ (b : Bool). eq_by_cmp R j k ≡ b → b ≡ false) [
+        | true ↦ λ t. absurd (some_none (sym here ∙ sym (get_tied o m j k (tied R j k t)) ∙ there))
+        | false ↦ λ t. refl
+      ] refl
+      where
+        some_none : Some v ≡ None → ⊥
+        some_none e = cc

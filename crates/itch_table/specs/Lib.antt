@@ -1,8 +1,10 @@
 pub mod Fault
 pub mod World
+pub mod Trades
 pub mod Levels
 pub mod Best
 pub mod Table
 pub mod After
+pub mod Parts
 pub mod Machine
 pub use Rattle.itch_layouts.specs.Shapes

@@ -6,14 +6,20 @@ mod faults;
 mod laws;
 mod levels;
 mod listing;
+
 mod order;
 mod outcome;
+mod parts;
 mod plain;
+
 mod rows;
 mod status;
+mod trades;
 
 pub use laws::levels_are_sums;
 pub use order::{Level, Order, Side, Top};
-pub use outcome::{Fault, Outcome};
+pub use outcome::{Fault, Outcome, Part};
+pub use parts::part;
 pub use plain::Plain;
+
 pub use status::{Status, Totals, Trading};

@@ -1,11 +1,12 @@
 //! What the rows of one stock amount to: its orders, its levels, the best of them.
 ghost use Rattle.std.specs.Prelude.{◌≡◌, ◌<◌, ◌^◌, length, filter, map, IfOk};
-ghost use Rattle.itch_table.specs.World.{is_under, order, order_of, orders_of};
+ghost use Rattle.itch_table.specs.World.{is_under, order, order_of, orders_of, status};
 ghost use Rattle.itch_table.specs.Levels.{best, levels, top};
 
 use crate::levels::{best_with, levels_of};
 use crate::order::{Level, Order, OrderKey, OrderRow, Side, Top};
 use crate::rows::Rows;
+use crate::status::Status;
 use std::alloc::{AllocError, Allocator};
 use std::collections::btree_map::Range;
 
@@ -41,6 +42,24 @@ impl<A: Allocator + Copy> Rows<A> {
     {
         let row = self.order(locate, reference)?;
         Some(order_from(&OrderKey { locate, reference }, &row))
+    }
+
+    /// What is known of a stock beside its book.
+    pub fn status(&self, locate: u16) -> Status
+        ensures { result ≡ status self.now locate }
+    {
+        match self.stock(locate) {
+            Some(row) => Status {
+                directory: Some(row.directory),
+                trading: row.trading,
+                regsho: row.regsho,
+            },
+            None => Status {
+                directory: None,
+                trading: None,
+                regsho: None,
+            },
+        }
     }
 
     /// A stock's live orders, by rising reference.

@@ -1,4 +1,4 @@
-//! What becomes of a message.
+//! What becomes of a message, and whose rows it may change.
 ghost use Rattle.std.specs.Prelude.{◌≡◌};
 ghost use Rattle.itch_table.specs.Fault.{number_of};
 
@@ -59,4 +59,13 @@ pub enum Outcome {
     Passed,
     /// A check failed. Nothing changed.
     Refused(Fault),
+}
+
+/// The stock whose rows alone a payload may read and change.
+#[derive(Debug, Clone, Copy, PartialEq, Eq)]
+pub enum Part {
+    /// The stock of this locate code.
+    Locate(u16),
+    /// No stock's: the payload has this outcome in every world.
+    Nowhere(Outcome),
 }

@@ -2,7 +2,7 @@
 ghost use Rattle.std.specs.Prelude.{◌≡◌, ◌+◌, ◌-◌, ◌<◌, ◌^◌, ℕ, List, IfOk, OnOk, OnErr};
 ghost use Rattle.itch_table.specs.World.{empty_world, locates, order, orders_of, status, totals};
 ghost use Rattle.itch_table.specs.Levels.{levels, top};
-ghost use Rattle.itch_table.specs.Table.{step, table_shape};
+ghost use Rattle.itch_table.specs.Table.{step};
 ghost use Rattle.itch_table.specs.Machine.{MayGrow};
 
 use crate::effects::apply;
@@ -25,23 +25,23 @@ pub struct Plain<A: Allocator> {
 }
 
 impl<A: Allocator> Model for Plain<A> {
-    ghost use Rattle.std.specs.Prelude.{◌<◌, ◌≤◌, ◌^◌};
     ghost use Rattle.std.specs.Coded.{codes, coded_ℕ};
     ghost use Rattle.std.specs.FinMap as maps;
     ghost use Rattle.std.specs.Ordering.{nat_cmp};
     ghost use Rattle.itch_table.specs.World.{coded_key, key_cmp};
-    ghost use Rattle.itch_table.specs.Machine.{Machine};
+    ghost use Rattle.itch_table.specs.Machine.{Machine, IsWithin};
     ghost use Rattle.itch_table.specs.contracts.order.OrderRow as order_row;
-    ghost use Rattle.itch_layouts.specs.contracts.message.Directory as directory_row;
+    ghost use Rattle.itch_table.specs.contracts.status.StockRow as stock_row;
+    ghost use Rattle.itch_table.specs.contracts.trades.Trade as trade_row;
 
     ghost Value = { Machine };
 
-    ghost coded = { Prim.hlevel (codes, maps.code {R = key_cmp} coded_key order_row.the_row.coded, maps.code {R = nat_cmp} coded_ℕ directory_row.the_row.coded) };
+    ghost coded = { Prim.hlevel (codes, maps.code {R = key_cmp} coded_key order_row.the_row.coded, maps.code {R = nat_cmp} coded_ℕ stock_row.the_row.coded, trade_row.the_row.coded) };
 
     ghost view = { λ p. record { world = p.rows; steps = p.steps } };
 
-    // Each live order was added by a step.
-    ghost invariant = { λ p. (maps.len p.rows.orders ≤ p.steps) × (p.steps < 2 ^ 32) };
+    // Each live order and each trade was added by a step of its own.
+    ghost invariant = { λ p. IsWithin p.rows p.steps };
 }
 
 impl<A: Allocator + Copy> Plain<A> {
@@ -81,23 +81,14 @@ impl<A: Allocator + Copy> Plain<A> {
     pub fn status(&self, locate: u16) -> Status
         ensures { result ≡ status self.now.world locate }
     {
-        Status {
-            directory: self.rows.directory(locate),
-            trading: None,
-            regsho: None,
-        }
+        self.rows.status(locate)
     }
 
-    /// A stock's totals. No message that is known yet makes a trade, so they are zeros.
-    pub fn totals(&self, _locate: u16) -> Totals
-        ensures { result ≡ totals self.now.world _locate }
+    /// The sums over a stock's trades that no later message broke.
+    pub fn totals(&self, locate: u16) -> Totals
+        ensures { result ≡ totals self.now.world locate }
     {
-        Totals {
-            trades: 0,
-            shares: 0,
-            notional: 0,
-            unprinted: 0,
-        }
+        self.rows.totals(locate)
     }
 
     /// The best bid and the best ask of a stock, with the shares there; zeros where a side is empty.
@@ -146,23 +137,13 @@ impl<A: Allocator + Copy> Plain<A> {
     }
 }
 
-// What a payload is to the table, which has no row for most types yet.
-fn table_shape_of(payload: &[u8]) -> Shape
-    ensures { result ≡ table_shape payload.now }
-{
-    match payload.first() {
-        Some(b'S' | b'R' | b'A' | b'D') => read_msg(payload),
-        _ => Shape::Unknown,
-    }
-}
-
 // One message over the rows alone.
 fn step_rows<A: Allocator + Copy>(rows: &mut Rows<A>, payload: &[u8]) -> Result<Outcome, AllocError>
     ensures ok { IfOk result (λ outcome. (outcome, rows.new) ≡ step rows.old payload.now) }
     ensures err { OnErr result (rows.new ≡ rows.old) }
     ensures grows { OnErr result (MayGrow rows.old payload.now) }
 {
-    let msg = match table_shape_of(payload) {
+    let msg = match read_msg(payload) {
         Shape::Unknown => return Ok(Outcome::Passed),
         Shape::BadLength => return Ok(Outcome::Refused(Fault::WrongLength)),
         Shape::Known(msg) => msg,

@@ -1,22 +1,28 @@
 //! The rows of all stocks.
-ghost use Rattle.std.specs.Prelude.{◌≡◌, ℕ, Some, filter, IfOk, OnOk, OnErr};
+ghost use Rattle.std.specs.Prelude.{◌≡◌, ◌<◌, ◌^◌, ℕ, Some, None, length, map, filter, IfOk, OnOk, OnErr};
+ghost use Rattle.std.specs.List.{list_any};
 ghost use Rattle.std.specs.BTreeMap.{IsOrdered, keys};
 ghost use Rattle.std.specs.Ordering.{nat_cmp};
 ghost use Rattle.std.specs.FinMap as maps;
-ghost use Rattle.itch_table.specs.World.{directory, empty_world, is_under, key, live, locates};
+ghost use Rattle.itch_table.specs.World.{directory, empty_world, is_under, live, locates, stock_row, totals};
+ghost use Rattle.itch_table.specs.Table.{with_order, with_stock, with_trade, without_order};
+ghost use Rattle.itch_table.specs.Trades.{broken_at, is_unbroken};
 
 use crate::order::{OrderKey, OrderRow};
+use crate::status::{StockRow, Totals};
+use crate::trades::{Trade, TradeRow, break_trades, has_unbroken, totals_under};
 use itch_layouts::Directory;
 use std::alloc::{AllocError, Allocator};
 use std::collections::BTreeMap;
 use std::collections::btree_map::Range;
 use std::marker::Model;
 
-/// The live orders of all stocks, the directory rows and the last event.
+/// The live orders of all stocks, the trades, what is known of each stock, and the last event.
 #[derive(Drop)]
 pub(crate) struct Rows<A: Allocator> {
     orders: BTreeMap<OrderKey, OrderRow, A>,
-    directories: BTreeMap<u16, Directory, A>,
+    trades: Vec<TradeRow, A>,
+    stocks: BTreeMap<u16, StockRow, A>,
     event: Option<u8>,
 }
 
@@ -26,15 +32,17 @@ impl<A: Allocator> Model for Rows<A> {
     ghost use Rattle.std.specs.Ordering.{nat_cmp};
     ghost use Rattle.itch_table.specs.World.{World, coded_key, key_cmp};
     ghost use Rattle.itch_table.specs.contracts.order.OrderRow as order_row;
-    ghost use Rattle.itch_layouts.specs.contracts.message.Directory as directory_row;
+    ghost use Rattle.itch_table.specs.contracts.status.StockRow as stock_row;
+    ghost use Rattle.itch_table.specs.contracts.trades.Trade as trade_row;
 
     ghost Value = { World };
 
-    ghost coded = { Prim.hlevel (codes, maps.code {R = key_cmp} coded_key order_row.the_row.coded, maps.code {R = nat_cmp} coded_ℕ directory_row.the_row.coded) };
+    ghost coded = { Prim.hlevel (codes, maps.code {R = key_cmp} coded_key order_row.the_row.coded, maps.code {R = nat_cmp} coded_ℕ stock_row.the_row.coded, trade_row.the_row.coded) };
 
     ghost view = { λ r. record {
       orders = maps.from_entries r.orders.entries;
-      directories = maps.from_entries r.directories.entries;
+      trades = r.trades.items;
+      stocks = maps.from_entries r.stocks.entries;
       event = r.event;
     } };
 }
@@ -45,7 +53,8 @@ impl<A: Allocator + Copy> Rows<A> {
     {
         Rows {
             orders: BTreeMap::new(alloc),
-            directories: BTreeMap::new(alloc),
+            trades: Vec::new(alloc),
+            stocks: BTreeMap::new(alloc),
             event: None,
         }
     }
@@ -56,10 +65,16 @@ impl<A: Allocator + Copy> Rows<A> {
         self.event
     }
 
+    pub fn stock(&self, locate: u16) -> Option<StockRow>
+        ensures { result ≡ stock_row self.now locate }
+    {
+        self.stocks.get(&locate).copied()
+    }
+
     pub fn directory(&self, locate: u16) -> Option<Directory>
         ensures { result ≡ directory self.now locate }
     {
-        self.directories.get(&locate).copied()
+        self.stock(locate).map(|row| row.directory)
     }
 
     pub fn order(&self, locate: u16, reference: u64) -> Option<OrderRow>
@@ -74,31 +89,64 @@ impl<A: Allocator + Copy> Rows<A> {
         self.event = Some(event);
     }
 
-    pub fn set_directory(&mut self, locate: u16, directory: Directory) -> Result<(), AllocError>
-        ensures ok { OnOk result (self.new ≡ record self.old { directories = maps.insert self.old.directories locate directory }) }
+    pub fn set_stock(&mut self, locate: u16, row: StockRow) -> Result<(), AllocError>
+        ensures ok { OnOk result (self.new ≡ with_stock self.old locate row) }
         ensures err { OnErr result (self.new ≡ self.old) }
+        ensures room { OnErr result (stock_row self.old locate ≡ None) }
     {
-        self.directories.insert(locate, directory)?;
-        Ok(())
+        match self.stocks.insert(locate, row) {
+            Ok(_) => Ok(()),
+            Err(_) => Err(AllocError),
+        }
     }
 
-    pub fn add_order(
+    pub fn set_order(
         &mut self,
         locate: u16,
         reference: u64,
         row: OrderRow,
     ) -> Result<(), AllocError>
-        ensures ok { OnOk result (self.new ≡ record self.old { orders = maps.insert self.old.orders (key locate reference) row }) }
+        ensures ok { OnOk result (self.new ≡ with_order self.old locate reference row) }
         ensures err { OnErr result (self.new ≡ self.old) }
+        ensures room { OnErr result (live self.old locate reference ≡ None) }
     {
-        self.orders.insert(OrderKey { locate, reference }, row)?;
-        Ok(())
+        match self.orders.insert(OrderKey { locate, reference }, row) {
+            Ok(_) => Ok(()),
+            Err(_) => Err(AllocError),
+        }
     }
 
     pub fn remove_order(&mut self, locate: u16, reference: u64)
-        ensures { self.new ≡ record self.old { orders = maps.remove self.old.orders (key locate reference) } }
+        ensures { self.new ≡ without_order self.old locate reference }
     {
         self.orders.remove(&OrderKey { locate, reference });
+    }
+
+    pub fn add_trade(&mut self, locate: u16, trade: Trade) -> Result<(), AllocError>
+        ensures ok { OnOk result (self.new ≡ with_trade self.old locate trade) }
+        ensures err { OnErr result (self.new ≡ self.old) }
+    {
+        self.trades.push((locate, trade))?;
+        Ok(())
+    }
+
+    pub fn has_unbroken(&self, locate: u16, match_no: u64) -> bool
+        ensures { result ≡ list_any (is_unbroken locate match_no) self.now.trades }
+    {
+        has_unbroken(&self.trades, locate, match_no)
+    }
+
+    pub fn break_trades(&mut self, locate: u16, match_no: u64)
+        ensures { self.new ≡ record self.old { trades = map (broken_at locate match_no) self.old.trades } }
+    {
+        break_trades(&mut self.trades, locate, match_no);
+    }
+
+    pub fn totals(&self, locate: u16) -> Totals
+        requires { length self.now.trades < 2 ^ 32 }
+        ensures { result ≡ totals self.now locate }
+    {
+        totals_under(&self.trades, locate)
     }
 
     // A part of the order rows that has all of a stock's, in order.
@@ -115,21 +163,21 @@ impl<A: Allocator + Copy> Rows<A> {
         }
     }
 
-    // The locate codes of the directory rows, rising.
+    // The locate codes that have a directory row, rising.
     pub fn locates(&self, alloc: A) -> Result<Vec<u16, A>, AllocError>
         ensures { IfOk result (λ list. list.items ≡ locates self.now) }
     {
-        keys_of(alloc, &self.directories)
+        keys_of(alloc, &self.stocks)
     }
 }
 
 fn keys_of<A: Allocator + Copy>(
     alloc: A,
-    directories: &BTreeMap<u16, Directory, A>,
+    stocks: &BTreeMap<u16, StockRow, A>,
 ) -> Result<Vec<u16, A>, AllocError>
-    ensures list { IfOk result (λ list. list.items ≡ keys directories.now) }
-    ensures ordered { IsOrdered nat_cmp directories.now }
+    ensures list { IfOk result (λ list. list.items ≡ keys stocks.now) }
+    ensures ordered { IsOrdered nat_cmp stocks.now }
 {
-    let _ = directories.len();
-    directories.keys().copied().collect(alloc)
+    let _ = stocks.len();
+    stocks.keys().copied().collect(alloc)
 }

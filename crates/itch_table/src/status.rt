@@ -21,6 +21,14 @@ pub struct Status {
     pub regsho: Option<u8>,
 }
 
+/// What is known of a stock that has a directory row.
+#[derive(Debug, Clone, Copy, PartialEq, Eq)]
+pub(crate) struct StockRow {
+    pub directory: Directory,
+    pub trading: Option<Trading>,
+    pub regsho: Option<u8>,
+}
+
 /// Sums over a stock's trades that no later message broke.
 #[derive(Debug, Clone, Copy, PartialEq, Eq)]
 pub struct Totals {

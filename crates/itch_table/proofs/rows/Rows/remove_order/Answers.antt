@@ -8,6 +8,6 @@ pub returns : goal.returns
 returns g c =
     let inside = c.self.inside in
     rw (← c.self.view_is) (
-    ap (λ m. record { orders = m; directories = maps.from_entries inside.directories.entries; event = inside.event })
+    ap (λ m. record { orders = m; trades = inside.trades.items; stocks = maps.from_entries inside.stocks.entries; event = inside.event })
     (view_remove key_total key_exact inside.orders.entries c.remove.new.self.entries _ c.remove.ensures.updates.0)
     )

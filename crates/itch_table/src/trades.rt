@@ -1,0 +1,107 @@
+//! Trades, and the sums over them.
+ghost use Rattle.std.specs.Prelude.{◌≡◌, ◌+◌, ◌<◌, ◌^◌, ℕ, length, map};
+ghost use Rattle.std.specs.List.{list_any};
+ghost use Rattle.itch_table.specs.Trades.{Within, HasRoom, broken_at, is_unbroken, plus_trade, totals_of, trades_under};
+
+use crate::status::Totals;
+
+/// An execution, a trade of non-displayed orders or a cross.
+#[derive(Debug, Clone, Copy, PartialEq, Eq)]
+pub(crate) struct Trade {
+    pub match_no: u64,
+    pub shares: u64,
+    /// The price, in 1/10,000 of a currency unit.
+    pub price: u32,
+    /// Whether it counts in the volume that is told.
+    pub printed: bool,
+    /// Whether a later message broke it.
+    pub broken: bool,
+}
+
+/// A trade behind the locate code of its stock.
+pub(crate) type TradeRow = (u16, Trade);
+
+// Whether a trade is the stock's, has that match number and isn't broken.
+fn is_unbroken(row: &TradeRow, locate: u16, match_no: u64) -> bool
+    ensures { result ≡ is_unbroken locate match_no row.now }
+{
+    row.0 == locate && row.1.match_no == match_no && !row.1.broken
+}
+
+/// Whether a stock has an unbroken trade with that match number.
+pub(crate) fn has_unbroken(rows: &[TradeRow], locate: u16, match_no: u64) -> bool
+    ensures { result ≡ list_any (is_unbroken locate match_no) rows.now }
+{
+    rows.iter().any(|row| is_unbroken(row, locate, match_no))
+}
+
+// The trade, broken where it is the stock's and has that match number.
+fn broken_row(row: TradeRow, locate: u16, match_no: u64) -> TradeRow
+    ensures { result ≡ broken_at locate match_no row }
+{
+    if !is_unbroken(&row, locate, match_no) {
+        return row;
+    }
+    let (locate, trade) = row;
+    (
+        locate,
+        Trade {
+            broken: true,
+            ..trade
+        },
+    )
+}
+
+/// Breaks all trades of a stock with that match number.
+pub(crate) fn break_trades(rows: &mut [TradeRow], locate: u16, match_no: u64)
+    ensures { rows.new ≡ map (broken_at locate match_no) rows.old }
+{
+    for row in rows.iter_mut() {
+        *row = broken_row(*row, locate, match_no);
+    }
+}
+
+const NO_TOTALS: Totals = Totals {
+    trades: 0,
+    shares: 0,
+    notional: 0,
+    unprinted: 0,
+};
+
+// The totals with one trade more.
+fn with_trade(totals: Totals, trade: &Trade) -> Totals
+    requires { HasRoom totals }
+    ensures plus { result ≡ plus_trade totals trade.now }
+    ensures within { (count : ℕ) → Within totals count → Within result (count + 1) }
+{
+    if trade.broken {
+        return totals;
+    }
+    let shares = u128::from(trade.shares);
+    if !trade.printed {
+        return Totals {
+            unprinted: totals.unprinted + shares,
+            ..totals
+        };
+    }
+    Totals {
+        trades: totals.trades + 1,
+        shares: totals.shares + shares,
+        notional: totals.notional + shares * u128::from(trade.price),
+        ..totals
+    }
+}
+
+/// The totals of a stock's trades.
+pub(crate) fn totals_under(rows: &[TradeRow], locate: u16) -> Totals
+    requires { length rows.now < 2 ^ 32 }
+    ensures { result ≡ totals_of (trades_under locate rows.now) }
+{
+    let mut totals = NO_TOTALS;
+    for (under, trade) in rows {
+        if *under == locate {
+            totals = with_trade(totals, trade);
+        }
+    }
+    totals
+}
