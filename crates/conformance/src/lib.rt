@@ -1,4 +1,5 @@
-//! Tests that cross crates: worked days with their reports, growths that are refused in turn, and devices that fail.
+//! Tests that cross crates: messages of every type, worked days with their reports, growths that are refused in turn,
+//! and devices that fail.
 //!
 //! The expected values are worked out by hand from the rules in docs/FORMATS.md.
 #![tactic(auto)]
@@ -9,6 +10,8 @@ mod containers;
 mod devices;
 #[cfg(test)]
 mod growths;
+#[cfg(test)]
+mod layouts;
 #[cfg(test)]
 mod machine;
 #[cfg(test)]
