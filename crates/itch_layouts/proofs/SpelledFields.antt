@@ -83,6 +83,12 @@ pub Tile_le : (from : ℕ) (fs : List Field) (to : ℕ) → Tile from fs to → 
 Tile_le from [] to t = omega arith
 Tile_le from (f ∷ fs) to t = omega (arith, Tile_le (from + f.width) fs to t.1)
 
+-- each of them ends at or before the end
+pub Tile_within : (from : ℕ) (fs : List Field) (to : ℕ) → Tile from fs to → (k : ℕ) (d : Field) → k < length fs → (get_or fs k d).offset + (get_or fs k d).width ≤ to
+Tile_within from [] to t k d h = absurd (omega arith)
+Tile_within from (f ∷ fs) to t zero d h = omega (arith, t.0, Tile_le (from + f.width) fs to t.1)
+Tile_within from (f ∷ fs) to t (suc k) d h = Tile_within (from + f.width) fs to t.1 k d (omega arith)
+
 pub length_spelling : (from : ℕ) (fs : List Field) (to : ℕ) (vs : List Value) → Tile from fs to → Fit fs vs → from + length (spelling fs vs) ≡ to
 length_spelling from [] to [] t h = omega arith
 length_spelling from [] to (v ∷ vs) t h = absurd h

@@ -1,9 +1,10 @@
 //! The table of layouts, for code that walks a message field by field.
 ghost use Rattle.std.specs.Prelude.{◌≡◌, IfSome, IsTrue, map, option_map};
 ghost use Rattle.std.specs.List.{list_all};
-ghost use Rattle.itch_layouts.specs.Layouts.{table, head, layout};
-ghost use Rattle.itch_layouts.specs.Rows.{as_field, as_layout, is_sound, is_sound_field, named};
+ghost use Rattle.itch_layouts.specs.Layouts.{Integer as IntegerForm, bytes_at, head, layout, number_at, table};
+ghost use Rattle.itch_layouts.specs.Rows.{Holds, as_field, as_layout, is_sound, is_sound_field, is_width, named};
 
+use crate::fields::{nanos_at, u16_at, u32_at, u64_at};
 use Form::{Alpha, Integer};
 
 /// What a field holds.
@@ -28,6 +29,36 @@ pub struct Field {
     pub width: u8,
     /// What it holds.
     pub form: Form,
+}
+
+impl Field {
+    /// The number in this field of a payload.
+    ///
+    /// Nasdaq TotalView-ITCH 5.0, "Data Types": unsigned, the highest byte first.
+    #[tactic(auto, using(std::proofs::lemmas::Bool::Decides::nat_tests))]
+    pub fn number_in(&self, payload: &[u8]) -> u64
+        requires holds { Holds payload.now (as_field self.now) }
+        requires width { IsTrue (is_width IntegerForm self.now.width) }
+        ensures { result ≡ number_at self.now.offset self.now.width payload.now }
+    {
+        let offset = usize::from(self.offset);
+        match self.width {
+            2 => u64::from(u16_at(payload, offset)),
+            4 => u64::from(u32_at(payload, offset)),
+            6 => nanos_at(payload, offset).get(),
+            _ => u64_at(payload, offset),
+        }
+    }
+
+    /// The bytes in this field of a payload, which are borrowed from it.
+    #[tactic(auto, unfolding(crate::specs::Layouts::bytes_at))]
+    pub fn bytes_in<'a>(&self, payload: &'a [u8]) -> &'a [u8]
+        requires { Holds payload.now (as_field self.now) }
+        ensures { result.now ≡ bytes_at self.now.offset self.now.width payload.now }
+    {
+        let offset = usize::from(self.offset);
+        &payload[offset..offset + usize::from(self.width)]
+    }
 }
 
 /// The layout of the messages of one type.
