@@ -112,6 +112,32 @@ fn imbalance_both_ways(rt: HostRuntime) -> Result<(), AllocError> {
     Ok(())
 }
 
+// The numbers of the imbalance message count from 7, field by field.
+#[test]
+fn fields_by_the_table(rt: HostRuntime) -> Result<(), AllocError> {
+    let Some(row) = layout_of_kind(b'I') else {
+        return Err(AllocError);
+    };
+    let mut next = 7u64;
+    let mut text = Vec::new(rt.alloc());
+    for field in head_fields().iter().chain(row.body) {
+        let end = usize::from(field.offset) + usize::from(field.width);
+        assert!(rt; end <= IMBALANCE.len());
+        match field.form {
+            itch_layouts::Form::Integer => {
+                let width = field.width;
+                assert!(rt; width == 2 || width == 4 || width == 6 || width == 8);
+                assert_eq!(rt; field.number_in(IMBALANCE), next);
+                next = next.wrapping_add(1);
+            }
+            itch_layouts::Form::Alpha => text.extend_from_slice(field.bytes_in(IMBALANCE))?,
+        }
+    }
+    assert_eq!(rt; next, 15);
+    assert!(rt; text.as_slice() == b"SAAPL    O1".as_slice());
+    Ok(())
+}
+
 #[test]
 fn replaces_of_other_lengths(rt: HostRuntime) -> Result<(), AllocError> {
     let mut payload = Vec::new(rt.alloc());
