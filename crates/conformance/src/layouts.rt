@@ -3,7 +3,6 @@ use itch_layouts::{
     Head, Imbalance, Msg, Nanos, Replace, Shape, head_fields, layout_of_kind, layout_of_mnemonic,
     layouts, read_msg, size_of_kind, write_msg,
 };
-use itch_table::{Outcome, Plain};
 use refusing::{Refusal, Refusing};
 use std::alloc::AllocError;
 use std::test::Fail;
@@ -221,28 +220,4 @@ fn table_of_layouts(rt: HostRuntime) {
     assert!(rt; layout_of_mnemonic(b"execute_").is_none());
     assert!(rt; layout_of_kind(b'O').is_none());
     assert_eq!(rt; head_fields().len(), 3);
-}
-
-// A type that the table of instructions has no row for yet is passed over, whatever the length.
-#[test]
-fn types_without_row(rt: HostRuntime) -> Result<(), Fail> {
-    let mut machine = Plain::new(rt.alloc());
-    for (kind, _) in &SIZES {
-        if b"SRAD".contains(kind) {
-            continue;
-        }
-        let bytes = filled(*kind, b' ');
-        for length in 0..61usize {
-            assert!(rt; machine.steps() < u32::MAX);
-            assert_eq!(rt;
-                machine.step(&bytes[..length]),
-                Ok(Outcome::Passed),
-                "{kind} {length}"
-            );
-        }
-    }
-    assert_eq!(rt; machine.steps(), 18 * 61);
-    assert_eq!(rt; machine.event(), None);
-    assert!(rt; machine.locates(rt.alloc())?.is_empty());
-    Ok(())
 }

@@ -11,9 +11,15 @@ mod devices;
 #[cfg(test)]
 mod growths;
 #[cfg(test)]
+mod instructions;
+#[cfg(test)]
 mod layouts;
 #[cfg(test)]
 mod machine;
+#[cfg(test)]
+mod memory;
+#[cfg(test)]
+mod messages;
 #[cfg(test)]
 mod payloads;
 #[cfg(test)]

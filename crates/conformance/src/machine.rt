@@ -9,7 +9,7 @@ use std::process::Abort;
 use std::test::Fail;
 
 // Steps a machine through payloads, and compares the outcomes.
-fn expect_outcomes<A: Allocator + Copy>(
+pub(crate) fn expect_outcomes<A: Allocator + Copy>(
     rt: &impl Abort,
     machine: &mut Plain<A>,
     days: &[(&[u8], Outcome)],
@@ -53,6 +53,11 @@ fn two_locates(rt: HostRuntime) -> Result<(), Fail> {
             (DELETE_7_UNDER_1, Outcome::Refused(Fault::ReferenceUnknown)),
         ],
     );
+    let mut other = [0; 39];
+    other.copy_from_slice(DIRECTORY_2);
+    other[2] = 1;
+    let taken = Outcome::Refused(Fault::LocateTaken);
+    expect_outcomes(&rt, &mut machine, &[(other.as_slice(), taken)]);
     let order = Order {
         reference: 7,
         side: Side::Buy,

@@ -78,6 +78,54 @@ fn two_locates(rt: HostRuntime) {
     );
 }
 
+// An order that is executed whole is gone from the book, and its trade counts.
+#[test]
+fn whole_execution(rt: HostRuntime) {
+    expect_report(
+        &rt,
+        b"0027 52 0001 0000 000000000000 4141504c20202020 51 4e 00000064 4e 43 5a20 50 4e 4e 31 4e 00000000 4e
+          0024 41 0001 0000 000000000001 0000000000000001 42 00000064 4141504c20202020 0016e360
+          001f 45 0001 0000 000000000002 0000000000000001 00000064 0000000000000009
+          0000",
+        0,
+        b"messages 3 applied 3 passed 0 refused 0 marked yes tail 0 event none\n\
+          stock 1 \"AAPL\" state none reason none regsho none\n\
+          trades 1 shares 100 notional 150000000 unprinted 0\n",
+    );
+}
+
+#[test]
+fn too_many_shares(rt: HostRuntime) {
+    expect_report(
+        &rt,
+        b"0027 52 0001 0000 000000000000 4141504c20202020 51 4e 00000064 4e 43 5a20 50 4e 4e 31 4e 00000000 4e
+          0024 41 0001 0000 000000000001 0000000000000001 42 00000064 4141504c20202020 0016e360
+          001f 45 0001 0000 000000000002 0000000000000001 00000065 0000000000000009",
+        1,
+        b"message 3 refused F9\n\
+          messages 3 applied 2 passed 0 refused 1 marked no tail 0 event none\n\
+          stock 1 \"AAPL\" state none reason none regsho none\n\
+          bid 1500000 100\n\
+          trades 0 shares 0 notional 0 unprinted 0\n",
+    );
+}
+
+// A trading state with its reason, a short sale restriction, a trade and the greatest cross.
+#[test]
+fn states_and_totals(rt: HostRuntime) {
+    expect_report(
+        &rt,
+        b"0027 52 0001 0000 000000000000 4141504c20202020 51 4e 00000064 4e 43 5a20 50 4e 4e 31 4e 00000000 4e
+          0019 48 0001 0000 000000000001 4141504c20202020 48 20 54312020
+          0014 59 0001 0000 000000000002 4141504c20202020 31
+          0028 51 0001 0000 000000000003 ffffffffffffffff 4141504c20202020 ffffffff 0000000000000001 4f",
+        0,
+        b"messages 4 applied 4 passed 0 refused 0 marked no tail 0 event none\n\
+          stock 1 \"AAPL\" state \"H\" reason \"T1\" regsho \"1\"\n\
+          trades 1 shares 18446744073709551615 notional 79228162495817593515539431425 unprinted 0\n",
+    );
+}
+
 #[test]
 fn crossed_book(rt: HostRuntime) {
     expect_report(

@@ -38,8 +38,8 @@ pub total_next : (rows : List (ℕ × Trade)) (i : ℕ) (d : ℕ × Trade) (loca
     → plus_trade (totals_of (trades_under locate (take i rows))) (get_or rows i d).1 ≡ totals_of (trades_under locate (take (i + 1) rows))
 total_next rows i d locate h under =
     sym (
-      ap totals_of (next_rows rows i d locate h ∙ ap (λ (b : Bool). cond b (trades_under locate (take i rows) ++ (get_or rows i d).1 ∷ []) (trades_under locate (take i rows))) under)
-      ∙ totals_push (trades_under locate (take i rows)) (get_or rows i d).1
+    ap totals_of (next_rows rows i d locate h ∙ ap (λ (b : Bool). cond b (trades_under locate (take i rows) ++ (get_or rows i d).1 ∷ []) (trades_under locate (take i rows))) under)
+    ∙ totals_push (trades_under locate (take i rows)) (get_or rows i d).1
     )
 
 -- another stock's trade adds nothing

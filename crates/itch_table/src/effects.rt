@@ -74,12 +74,7 @@ fn regsho<A: Allocator + Copy>(rows: &mut Rows<A>, locate: u16, action: u8)
 }
 
 // Sets an order that lives already, which takes no memory.
-fn update_order<A: Allocator + Copy>(
-    rows: &mut Rows<A>,
-    locate: u16,
-    reference: u64,
-    row: OrderRow,
-)
+fn update_order<A: Allocator + Copy>(rows: &mut Rows<A>, locate: u16, reference: u64, row: OrderRow)
     requires { IsSome (live rows.old locate reference) }
     ensures { rows.new ≡ with_order rows.old locate reference row }
 {

@@ -24,11 +24,7 @@ fn directory_fault<A: Allocator + Copy>(
 }
 
 // The checks of every message that names a stock.
-fn stock_fault<A: Allocator + Copy>(
-    rows: &Rows<A>,
-    locate: u16,
-    stock: &[u8; 8],
-) -> Option<Fault>
+fn stock_fault<A: Allocator + Copy>(rows: &Rows<A>, locate: u16, stock: &[u8; 8]) -> Option<Fault>
     ensures { result ≡ first_fault (listed rows.now locate ∷ names_stock rows.now locate stock.now ∷ []) }
 {
     let Some(directory) = rows.directory(locate) else {
@@ -149,11 +145,7 @@ fn replace_fault<A: Allocator + Copy>(
     None
 }
 
-fn broken_fault<A: Allocator + Copy>(
-    rows: &Rows<A>,
-    head: &Head,
-    broken: &Broken,
-) -> Option<Fault>
+fn broken_fault<A: Allocator + Copy>(rows: &Rows<A>, head: &Head, broken: &Broken) -> Option<Fault>
     ensures { result ≡ first_fault (checks (Msg.Broken head.now broken.now) rows.now) }
 {
     if rows.directory(head.locate).is_none() {

@@ -6,12 +6,10 @@ mod faults;
 mod laws;
 mod levels;
 mod listing;
-
 mod order;
 mod outcome;
 mod parts;
 mod plain;
-
 mod rows;
 mod status;
 mod trades;
@@ -21,5 +19,4 @@ pub use order::{Level, Order, Side, Top};
 pub use outcome::{Fault, Outcome, Part};
 pub use parts::part;
 pub use plain::Plain;
-
 pub use status::{Status, Totals, Trading};

@@ -22,8 +22,8 @@ loop-under-preserved c =
           let under : ((get_or rows i none).0 == locate) ≡ true = grind (arith, nat_tests, w.if-under-locate.true) in
           rw w.totals-is (record {
             sums =
-            w.with_trade-totals.ensures.plus ∙ ap (λ (t : Totals). plus_trade t (get_or rows i none).1) at.invariant.sums
-            ∙ total_next rows i none locate c.loop-under-test.true under;
+                w.with_trade-totals.ensures.plus ∙ ap (λ (t : Totals). plus_trade t (get_or rows i none).1) at.invariant.sums
+                ∙ total_next rows i none locate c.loop-under-test.true under;
             within = w.with_trade-totals.ensures.within i at.invariant.within;
           })
       | else-under-locate w ↦

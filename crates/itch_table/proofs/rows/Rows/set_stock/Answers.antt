@@ -14,7 +14,7 @@ returns-clause-ok g c =
       | in-Ok w ↦ rw (w.result-is, ← c.self.view_is) (
           ap (λ m. record { orders = maps.from_entries inside.orders.entries; trades = inside.trades.items; stocks = m; event = inside.event })
           (view_insert nat_cmp_total nat_cmp-IsAntisymmetric inside.stocks.entries c.insert.new.self.entries _ _ ((w.in-Ok.ensures {u = tt}).updates.0))
-        )
+          )
       | in-Err w ↦ rw w.result-is tt
     ]
 
@@ -24,5 +24,5 @@ returns-clause-room g c =
       | in-Ok w ↦ rw w.result-is tt
       | in-Err w ↦ rw w.result-is (
           ap (λ (v : World). stock_row v c.args.locate) (sym c.self.view_is) ∙ get_view nat_cmp_total c.self.inside.stocks.entries c.args.locate ∙ (w.in-Err.ensures {u = tt}).absent
-        )
+          )
     ]
