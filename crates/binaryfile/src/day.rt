@@ -1,4 +1,4 @@
-// A whole file in memory, with the places of its entries.
+//! A whole file in memory, with the places of its entries.
 ghost use Rattle.std.specs.Prelude.{◌≡◌, ◌≢◌, ◌+◌, ◌-◌, ◌<◌, ◌≤◌, ◌^◌, ◌↔◌, length, slice_index_or, Err, IfOk, IfErr, IsOk, IsErr, IsErrOf, IsTrue};
 ghost use Rattle.binaryfile.specs.Devices.{has_failed, reader_of, is_broken, writer_of, GaveMore, GaveUpTo, Sends};
 ghost use Rattle.binaryfile.specs.Entries.{bytes_of, Splits};

@@ -1,4 +1,4 @@
-// A reader that remembers its failure.
+//! A reader that remembers its failure.
 ghost use Rattle.std.specs.Prelude.{◌≡◌, IsTrue, false, is_err};
 ghost use Rattle.std.specs.Io.{ReadsAtMost};
 ghost use Rattle.std.specs.Io.KnownBytes.{ReadConsumes};

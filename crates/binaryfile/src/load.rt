@@ -1,4 +1,4 @@
-// Reading the whole of an input into memory.
+//! Reading the whole of an input into memory.
 ghost use Rattle.std.specs.Prelude.{◌≡◌, ◌≢◌, ◌+◌, ◌<◌, ◌≤◌, ◌^◌, ◌↔◌, IsTrue, length, vec_len, Ok, Err, IfOk, OnOk, IsErrOf, true, false};
 ghost use Rattle.std.specs.Io.KnownBytes.{IsAtEnd};
 ghost use Rattle.binaryfile.specs.Devices.{has_failed, reader_of, GaveAll, GaveMore, GaveUpTo};

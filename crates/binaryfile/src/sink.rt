@@ -1,4 +1,4 @@
-// A writer that remembers its failure.
+//! A writer that remembers its failure.
 ghost use Rattle.std.specs.Prelude.{◌≡◌, ◌<◌, length, IsTrue, IsErr, IsOk, false, is_none, IfSome, IfErr};
 ghost use Rattle.binaryfile.specs.Devices.{is_broken, writer_of, Sends, TakesSome};
 

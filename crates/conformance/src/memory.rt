@@ -5,10 +5,31 @@ use crate::messages::{
     trading,
 };
 use crate::payloads::{DIRECTORY_1, SYSTEM};
-use itch_table::{Fault, Outcome, Plain};
+use itch_table::{Fault, Outcome, Plain, Side, Status, Top, Totals};
 use refusing::{Refusal, Refusing};
 use std::alloc::{AllocError, Allocator};
 use std::process::Abort;
+use std::test::Fail;
+
+// All that a machine tells of the stock under locate code 1.
+#[derive(Debug, Clone, Copy, PartialEq, Eq)]
+struct Told {
+    top: Top,
+    totals: Totals,
+    status: Status,
+    event: Option<u8>,
+    steps: u32,
+}
+
+fn told<A: Allocator + Copy>(machine: &Plain<A>) -> Told {
+    Told {
+        top: machine.top(1),
+        totals: machine.totals(1),
+        status: machine.status(1),
+        event: machine.event(),
+        steps: machine.steps(),
+    }
+}
 
 // Steps a machine through one payload: with each of its growths refused in turn, and then with memory. Answers how many
 // growths there are.
@@ -17,36 +38,35 @@ fn growths_of<A: Allocator + Copy>(
     heap: &Refusing<A>,
     machine: &mut Plain<&Refusing<A>>,
     payload: &[u8],
-) -> u64 {
-    let order = machine.order(1, 1);
-    let (top, totals, status) = (machine.top(1), machine.totals(1), machine.status(1));
-    let (event, steps) = (machine.event(), machine.steps());
+) -> Result<u64, Fail> {
+    heap.restart(Refusal::Never);
+    let before = told(machine);
+    let orders = machine.orders(heap, 1)?;
+    let bids = machine.levels(heap, 1, Side::Buy)?;
+    let asks = machine.levels(heap, 1, Side::Sell)?;
+    let locates = machine.locates(heap)?;
     for growth in 1..=5u64 {
         heap.restart(Refusal::From(growth));
         assert!(rt; machine.steps() < u32::MAX);
-        match machine.step(payload) {
-            Ok(outcome) => {
-                assert_eq!(rt; outcome, Outcome::Applied);
-                assert_eq!(rt; heap.asked(), growth - 1);
-                return growth - 1;
-            }
-            Err(AllocError) => {
-                assert_eq!(rt; machine.order(1, 1), order);
-                assert_eq!(rt; machine.top(1), top);
-                assert_eq!(rt; machine.totals(1), totals);
-                assert_eq!(rt; machine.status(1), status);
-                assert_eq!(rt; machine.event(), event);
-                assert_eq!(rt; machine.steps(), steps);
-            }
+        if let Ok(outcome) = machine.step(payload) {
+            assert_eq!(rt; outcome, Outcome::Applied);
+            assert_eq!(rt; heap.asked(), growth - 1);
+            return Ok(growth - 1);
         }
+        heap.restart(Refusal::Never);
+        assert!(rt; told(machine) == before);
+        assert!(rt; machine.orders(heap, 1)?.as_slice() == orders.as_slice());
+        assert!(rt; machine.levels(heap, 1, Side::Buy)?.as_slice() == bids.as_slice());
+        assert!(rt; machine.levels(heap, 1, Side::Sell)?.as_slice() == asks.as_slice());
+        assert!(rt; machine.locates(heap)?.as_slice() == locates.as_slice());
     }
     assert!(rt; false, "more than four growths");
-    0
+    Ok(0)
 }
 
 // New trade rows: now and then there is no room for one more, and the step that finds none changes nothing.
 #[test]
-fn trades(rt: HostRuntime) {
+fn trades(rt: HostRuntime) -> Result<(), Fail> {
     let executed = execute(1, 0, 1);
     let priced = execute_price(1, 0, 2, b'Y', 5);
     let hidden = trade(b'B', 1, 1, 3);
@@ -63,15 +83,16 @@ fn trades(rt: HostRuntime) {
         expect_outcomes(&rt, &mut machine, &cases);
         let mut growths = 0u64;
         for _ in 0..40 {
-            growths = growths.saturating_add(growths_of(&rt, &heap, &mut machine, payload));
+            growths = growths.saturating_add(growths_of(&rt, &heap, &mut machine, payload)?);
         }
         assert!(rt; growths > 0 && growths < 40);
     }
+    Ok(())
 }
 
 // New order rows, of a new order and of a replacement.
 #[test]
-fn orders(rt: HostRuntime) {
+fn orders(rt: HostRuntime) -> Result<(), Fail> {
     for kind in [b'A', b'F', b'U'] {
         let heap = Refusing::new(rt.alloc(), Refusal::Never);
         let mut machine = Plain::new(&heap);
@@ -83,12 +104,12 @@ fn orders(rt: HostRuntime) {
             let moved = replace(reference, 200, 10, 300);
             let back = replace(200, reference, 10, 100);
             let more = match kind {
-                b'A' => growths_of(&rt, &heap, &mut machine, &bid),
-                b'F' => growths_of(&rt, &heap, &mut machine, &signed),
+                b'A' => growths_of(&rt, &heap, &mut machine, &bid)?,
+                b'F' => growths_of(&rt, &heap, &mut machine, &signed)?,
                 _ => {
                     heap.restart(Refusal::Never);
                     expect_outcomes(&rt, &mut machine, &[(bid.as_slice(), Outcome::Applied)]);
-                    let more = growths_of(&rt, &heap, &mut machine, &moved);
+                    let more = growths_of(&rt, &heap, &mut machine, &moved)?;
                     heap.restart(Refusal::Never);
                     expect_outcomes(&rt, &mut machine, &[(back.as_slice(), Outcome::Applied)]);
                     more
@@ -100,6 +121,7 @@ fn orders(rt: HostRuntime) {
         let shares = machine.order(1, 100).map(|order| order.shares);
         assert_eq!(rt; shares, Some(10), "{kind}");
     }
+    Ok(())
 }
 
 // The first directory row of a stock is one growth; until it is there nothing is known of the stock.
@@ -114,9 +136,9 @@ fn directories(rt: HostRuntime) {
     assert_eq!(rt; heap.asked(), 1);
 }
 
-// The kinds that need no new row take no memory, and neither do messages that are refused or passed over.
+// The kinds that need no new row take no memory, and neither do messages that are refused.
 #[test]
-fn kinds_without_growth(rt: HostRuntime) {
+fn steps_without_growth(rt: HostRuntime) {
     let heap = Refusing::new(rt.alloc(), Refusal::Never);
     let mut machine = Plain::new(&heap);
     let cases: [(&[u8], Outcome); 4] = [
@@ -141,7 +163,22 @@ fn kinds_without_growth(rt: HostRuntime) {
         (&trade(b'Z', 1, 1, 1), Outcome::Refused(Fault::BadSide)),
     ];
     expect_outcomes(&rt, &mut machine, &cases);
-    let named = [
+    let after = told(&machine);
+    assert_eq!(rt; after.event, Some(b'O'));
+    assert_eq!(rt; after.status.regsho, Some(b'1'));
+    assert_eq!(rt; after.totals.trades, 0);
+    assert_eq!(rt; after.top.bid_shares, 0);
+    assert_eq!(rt; heap.asked(), 0);
+}
+
+// Neither do the kinds without an effect.
+#[test]
+fn kinds_without_effect(rt: HostRuntime) {
+    let heap = Refusing::new(rt.alloc(), Refusal::Never);
+    let mut machine = Plain::new(&heap);
+    expect_outcomes(&rt, &mut machine, &[(DIRECTORY_1, Outcome::Applied)]);
+    heap.restart(Refusal::From(1));
+    let kinds = [
         (b'L', 26, 15),
         (b'J', 35, 11),
         (b'h', 21, 11),
@@ -151,7 +188,7 @@ fn kinds_without_growth(rt: HostRuntime) {
         (b'W', 12, 0),
         (b'K', 28, 11),
     ];
-    for (kind, size, stock) in named {
+    for (kind, size, stock) in kinds {
         let mut payload = [b' '; 50];
         payload[stock..stock + 4].copy_from_slice(b"AAPL");
         payload[0] = kind;
@@ -159,11 +196,5 @@ fn kinds_without_growth(rt: HostRuntime) {
         payload[2] = 1;
         expect_outcomes(&rt, &mut machine, &[(&payload[..size], Outcome::Applied)]);
     }
-    assert_eq!(rt; heap.asked(), 0);
-    assert_eq!(rt; machine.order(1, 1), None);
-    assert_eq!(rt; machine.order(1, 2), None);
-    assert_eq!(rt; machine.event(), Some(b'O'));
-    assert_eq!(rt; machine.status(1).regsho, Some(b'1'));
-    assert_eq!(rt; machine.totals(1).trades, 0);
     assert_eq!(rt; heap.asked(), 0);
 }

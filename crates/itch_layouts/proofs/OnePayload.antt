@@ -1,11 +1,11 @@
 -- A message is meant by exactly one payload.
-use Rattle.std.proofs.Common.{◌≡◌, ℕ, ◌∙◌, sym, ap, refl, List, [], ◌∷◌, ◌++◌, length, drop, append-nil, IsTrue, arith}
+use Rattle.std.proofs.Common.{◌≡◌, ℕ, lit<, ◌<◌, ◌∙◌, sym, ap, refl, List, [], ◌∷◌, ◌++◌, length, drop, append-nil, IsTrue, arith}
 use Rattle.itch_layouts.specs.Layouts.{Layout, fields, values_at, Value}
 use Rattle.itch_layouts.specs.Means.{layout_of, values_of, IsOf, Means}
 use Rattle.itch_layouts.specs.Spelling.{IsBytes, spelling, tiles, payload_of, Fit, Fits}
 use Rattle.itch_layouts.specs.declared.message.Msg.{Msg}
 use Rattle.itch_layouts.specs.declared.message.Msg.TheVariants.{System, Directory, Trading, Regsho, Participant, Decline, Breach, Ipo, Collar, Operational, Add, AddMpid, Execute, ExecutePrice, Cancel, Delete, Replace, Trade, Cross, Broken, Imbalance, Retail}
-use Rattle.itch_layouts.proofs.SpelledFields.{tile_of, Tile, Tile_le, values_spelled, spelled_values, length_spelling}
+use Rattle.itch_layouts.proofs.SpelledFields.{tile_of, Tile, Tile_le, values_spelled, spelled_values, length_spelling, IsBytes_spelling}
 
 -- the fields of a message follow its type, up to its size
 tiled : (m : Msg) → IsTrue (tiles 1 (fields (layout_of m)) (layout_of m).size)
@@ -46,6 +46,33 @@ holds_spelled row vs tiled h =
 pub means_payload : (m : Msg) → Fits m → Means (payload_of m) m
 means_payload m h = holds_spelled (layout_of m) (values_of m) (tiled m) h
 
+kind_fits : (m : Msg) → (layout_of m).kind < 256
+kind_fits (System head m) = lit< tt
+kind_fits (Directory head m) = lit< tt
+kind_fits (Trading head m) = lit< tt
+kind_fits (Regsho head m) = lit< tt
+kind_fits (Participant head m) = lit< tt
+kind_fits (Decline head m) = lit< tt
+kind_fits (Breach head m) = lit< tt
+kind_fits (Ipo head m) = lit< tt
+kind_fits (Collar head m) = lit< tt
+kind_fits (Operational head m) = lit< tt
+kind_fits (Add head m) = lit< tt
+kind_fits (AddMpid head m) = lit< tt
+kind_fits (Execute head m) = lit< tt
+kind_fits (ExecutePrice head m) = lit< tt
+kind_fits (Cancel head m) = lit< tt
+kind_fits (Delete head m) = lit< tt
+kind_fits (Replace head m) = lit< tt
+kind_fits (Trade head m) = lit< tt
+kind_fits (Cross head m) = lit< tt
+kind_fits (Broken head m) = lit< tt
+kind_fits (Imbalance head m) = lit< tt
+kind_fits (Retail head m) = lit< tt
+
+pub bytes_payload : (m : Msg) → Fits m → IsBytes (payload_of m)
+bytes_payload m h = (kind_fits m, IsBytes_spelling (fields (layout_of m)) (values_of m) h)
+
 drop_all : (bs : List ℕ) → drop (length bs) bs ≡ []
 drop_all [] = refl
 drop_all (b ∷ bs) = drop_all bs
@@ -62,4 +89,4 @@ one_payload m (kind ∷ body) b h =
     let first : kind ≡ (layout_of m).kind = h.0.0 in
     ap (λ (k : ℕ). k ∷ body) first ∙ ap (λ (bs : List ℕ). (layout_of m).kind ∷ bs) (sym is)
 
-pub ruleset payloads = (means_payload, one_payload)
+pub ruleset payloads = (bytes_payload, means_payload, one_payload)

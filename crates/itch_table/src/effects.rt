@@ -1,7 +1,7 @@
 //! The effects of the table. Each makes its growth before any change, so that an error leaves the rows as they were.
 ghost use Rattle.std.specs.Prelude.{◌≡◌, ◌≤◌, Some, None, true, IsTrue, IsSome, OnOk, OnErr};
 ghost use Rattle.itch_table.specs.World.{live, stock_row};
-ghost use Rattle.itch_table.specs.Table.{checks, effect, first_fault, less_shares, order_row, set_regsho, set_trading, side_of, trade_of, with_less, with_order, with_stock, with_trade};
+ghost use Rattle.itch_table.specs.Table.{checks, effect, first_fault, less_shares, order_row, set_regsho, side_of, trade_of, with_less, with_order, with_stock, with_trade};
 ghost use Rattle.itch_table.specs.Machine.{adds_row};
 
 use crate::order::{OrderRow, Side};
@@ -49,15 +49,21 @@ fn update_stock<A: Allocator + Copy>(rows: &mut Rows<A>, locate: u16, row: Stock
     }
 }
 
-fn trading<A: Allocator + Copy>(rows: &mut Rows<A>, locate: u16, state: Trading)
-    ensures { rows.new ≡ set_trading (stock_row rows.old locate) rows.old locate state }
+fn trading<A: Allocator + Copy>(rows: &mut Rows<A>, head: &Head, told: &itch_layouts::Trading)
+    ensures { rows.new ≡ effect (Msg.Trading head.now told.now) rows.old }
 {
-    if let Some(known) = rows.stock(locate) {
+    if let Some(known) = rows.stock(head.locate) {
+        let reason = told.reason;
+        let state = Trading {
+            state: told.state,
+            reserved: told.reserved,
+            reason,
+        };
         let row = StockRow {
             trading: Some(state),
             ..known
         };
-        update_stock(rows, locate, row);
+        update_stock(rows, head.locate, row);
     }
 }
 
@@ -274,15 +280,7 @@ pub(crate) fn apply<A: Allocator + Copy>(rows: &mut Rows<A>, msg: &Msg) -> Resul
             return trade_alone(rows, head.locate, m.match_no, m.shares, m.price);
         }
         Msg::System(_, m) => rows.set_event(m.event),
-        Msg::Trading(head, m) => {
-            let reason = m.reason;
-            let state = Trading {
-                state: m.state,
-                reserved: m.reserved,
-                reason,
-            };
-            trading(rows, head.locate, state);
-        }
+        Msg::Trading(head, m) => trading(rows, head, m),
         Msg::Regsho(head, m) => regsho(rows, head.locate, m.action),
         Msg::Cancel(head, m) => cancel(rows, head, m),
         Msg::Delete(head, m) => rows.remove_order(head.locate, m.reference),

@@ -1,17 +1,24 @@
 //! Orders, and what a book shows of them.
 
 /// Which side of the book an order is on.
+///
+/// Nasdaq TotalView-ITCH 5.0, "Add Order Message".
 #[derive(Debug, Clone, Copy, PartialEq, Eq)]
 pub enum Side {
+    /// A bid, `B` in messages.
     Buy,
+    /// An ask, `S` in messages.
     Sell,
 }
 
 /// A live order.
+///
+/// Nasdaq TotalView-ITCH 5.0, "Add Order Message".
 #[derive(Debug, Clone, Copy, PartialEq, Eq)]
 pub struct Order {
     /// Its reference, which is its own among the live orders of its stock.
     pub reference: u64,
+    /// Its side of the book.
     pub side: Side,
     /// The shares that remain.
     pub shares: u32,
@@ -35,9 +42,11 @@ pub struct Level {
 pub struct Top {
     /// The highest price of a bid, in 1/10,000 of a currency unit.
     pub bid_price: u32,
+    /// The shares at that bid.
     pub bid_shares: u64,
     /// The lowest price of an ask, in 1/10,000 of a currency unit.
     pub ask_price: u32,
+    /// The shares at that ask.
     pub ask_shares: u64,
 }
 

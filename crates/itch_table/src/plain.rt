@@ -98,21 +98,21 @@ impl<A: Allocator + Copy> Plain<A> {
         self.rows.top(locate)
     }
 
-    /// A side's levels: bids by falling price, asks by rising price.
+    /// A side's levels: bids by falling price, asks by rising price. An error says that memory was refused.
     pub fn levels(&self, alloc: A, locate: u16, side: Side) -> Result<Vec<Level, A>, AllocError>
         ensures { IfOk result (λ list. list.items ≡ levels (orders_of self.now.world locate) side) }
     {
         self.rows.levels(alloc, locate, side)
     }
 
-    /// A stock's live orders, by rising reference.
+    /// A stock's live orders, by rising reference. An error says that memory was refused.
     pub fn orders(&self, alloc: A, locate: u16) -> Result<Vec<Order, A>, AllocError>
         ensures { IfOk result (λ list. list.items ≡ orders_of self.now.world locate) }
     {
         self.rows.orders(alloc, locate)
     }
 
-    /// The locate codes that have a directory row, rising.
+    /// The locate codes that have a directory row, rising. An error says that memory was refused.
     pub fn locates(&self, alloc: A) -> Result<Vec<u16, A>, AllocError>
         ensures { IfOk result (λ list. list.items ≡ locates self.now.world) }
     {
@@ -124,6 +124,8 @@ impl<A: Allocator + Copy> Plain<A> {
     /// A message that is refused or passed over changes nothing but the number of steps. An error says that memory was
     /// refused: it comes only where the message would be applied and is one that may need a new row, and it leaves the
     /// machine as it was.
+    ///
+    /// At most 2^32 - 1 messages are taken: the caller hands the next one while `steps()` is below that.
     pub fn step(&mut self, payload: &[u8]) -> Result<Outcome, AllocError>
         requires { self.old.steps < 2 ^ 32 - 1 }
         ensures ok { IfOk result (λ outcome. (outcome, self.new.world) ≡ step self.old.world payload.now) }

@@ -2,6 +2,8 @@
 use itch_layouts::Directory;
 
 /// A stock's trading state.
+///
+/// Nasdaq TotalView-ITCH 5.0, "Stock Trading Action".
 #[derive(Debug, Clone, Copy, PartialEq, Eq)]
 pub struct Trading {
     /// The trading state: `H`, `P`, `Q` or `T`.
@@ -13,9 +15,13 @@ pub struct Trading {
 }
 
 /// What is known of a stock: its directory row, its trading state and its short sale action, where each was told.
+///
+/// Nasdaq TotalView-ITCH 5.0, "Stock Related Messages".
 #[derive(Debug, Clone, Copy, PartialEq, Eq)]
 pub struct Status {
+    /// The last directory row.
     pub directory: Option<Directory>,
+    /// The last trading state.
     pub trading: Option<Trading>,
     /// The action of the last short sale restriction message.
     pub regsho: Option<u8>,
@@ -29,7 +35,9 @@ pub(crate) struct StockRow {
     pub regsho: Option<u8>,
 }
 
-/// Sums over a stock's trades that no later message broke.
+/// Sums over a stock's trades that no later message broke, of this project.
+///
+/// They don't wrap: a day has fewer than 2^32 trades, each of at most 2^64 - 1 shares at a price below 2^32.
 #[derive(Debug, Clone, Copy, PartialEq, Eq)]
 pub struct Totals {
     /// How many trades were printed.
