@@ -21,7 +21,7 @@ struct Told {
     steps: u32,
 }
 
-fn told<A: Allocator + Copy>(machine: &Plain<A>) -> Told {
+fn told_by<A: Allocator + Copy>(machine: &Plain<A>) -> Told {
     Told {
         top: machine.top(1),
         totals: machine.totals(1),
@@ -40,7 +40,7 @@ fn growths_of<A: Allocator + Copy>(
     payload: &[u8],
 ) -> Result<u64, Fail> {
     heap.restart(Refusal::Never);
-    let before = told(machine);
+    let before = told_by(machine);
     let orders = machine.orders(heap, 1)?;
     let bids = machine.levels(heap, 1, Side::Buy)?;
     let asks = machine.levels(heap, 1, Side::Sell)?;
@@ -54,7 +54,7 @@ fn growths_of<A: Allocator + Copy>(
             return Ok(growth - 1);
         }
         heap.restart(Refusal::Never);
-        assert!(rt; told(machine) == before);
+        assert!(rt; told_by(machine) == before);
         assert!(rt; machine.orders(heap, 1)?.as_slice() == orders.as_slice());
         assert!(rt; machine.levels(heap, 1, Side::Buy)?.as_slice() == bids.as_slice());
         assert!(rt; machine.levels(heap, 1, Side::Sell)?.as_slice() == asks.as_slice());
@@ -163,7 +163,7 @@ fn steps_without_growth(rt: HostRuntime) {
         (&trade(b'Z', 1, 1, 1), Outcome::Refused(Fault::BadSide)),
     ];
     expect_outcomes(&rt, &mut machine, &cases);
-    let after = told(&machine);
+    let after = told_by(&machine);
     assert_eq!(rt; after.event, Some(b'O'));
     assert_eq!(rt; after.status.regsho, Some(b'1'));
     assert_eq!(rt; after.totals.trades, 0);
