@@ -33,10 +33,10 @@ fn told_by<A: Allocator + Copy>(machine: &Plain<A>) -> Told {
 
 // Steps a machine through one payload: with each of its growths refused in turn, and then with memory. Answers how many
 // growths there are.
-fn growths_of<A: Allocator + Copy>(
+fn growths_of<'h, A: Allocator + Copy>(
     rt: &impl Abort,
-    heap: &Refusing<A>,
-    machine: &mut Plain<&Refusing<A>>,
+    heap: &'h Refusing<A>,
+    machine: &mut Plain<&'h Refusing<A>>,
     payload: &[u8],
 ) -> Result<u64, Fail> {
     heap.restart(Refusal::Never);
