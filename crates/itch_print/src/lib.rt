@@ -1,0 +1,2 @@
+//! The disassembler: the one text of a day file, and the quoted form of its fields of text.
+#![tactic(auto)]

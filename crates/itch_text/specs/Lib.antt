@@ -1,0 +1,5 @@
+pub mod Words
+pub mod Values
+pub mod Items
+pub mod Text
+pub mod Faults

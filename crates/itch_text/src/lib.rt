@@ -1,0 +1,5 @@
+//! The text form of a day file, and the assembler.
+#![tactic(auto)]
+
+mod fault;
+mod place;
