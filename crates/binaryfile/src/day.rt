@@ -1,5 +1,7 @@
 //! A whole file in memory, with the places of its entries.
 ghost use Rattle.std.specs.Prelude.{◌≡◌, ◌≢◌, ◌+◌, ◌-◌, ◌<◌, ◌≤◌, ◌^◌, ◌↔◌, length, slice_index_or, Err, IfOk, IfErr, IsOk, IsErr, IsErrOf, IsTrue};
+ghost use Rattle.std.specs.List.{All};
+ghost use Rattle.binaryfile.specs.Bytes.{IsByte};
 ghost use Rattle.binaryfile.specs.Devices.{has_failed, reader_of, is_broken, writer_of, GaveMore, GaveUpTo, Sends};
 ghost use Rattle.binaryfile.specs.Entries.{bytes_of, Splits};
 ghost use Rattle.binaryfile.specs.Loading.{Loads, ExceedsMessages, HasMoreMessages};
@@ -146,6 +148,16 @@ impl<A: Allocator> Day<A> {
         bytes_after(self.bytes.as_slice(), self.end, self.marked)
     }
 
+    /// The bytes that were loaded.
+    pub fn bytes(&self) -> &[u8]
+        ensures bytes { result.now ≡ bytes_of self.now }
+        ensures split { Splits result.now self.now }
+        // Each is a byte, which the laws over byte strings ask for.
+        ensures range { All IsByte result.now }
+    {
+        self.bytes.as_slice()
+    }
+
     /// Sends the bytes that were loaded, all of them or the first ones up to where the writer fails, as [`send`] does.
     pub fn write_to<W: Write>(&self, sink: &mut Sink<W>) -> Result<(), WriteFault>
         ensures sent { Sends (W.contents (writer_of sink.old)) (W.contents (writer_of sink.new)) (bytes_of self.now) result }
@@ -159,6 +171,6 @@ impl<A: Allocator> Day<A> {
         ensures refused { IsTrue (is_broken sink.old) → 0 < length (bytes_of self.now) → IsErr result }
         ensures nothing { IsTrue (is_broken sink.old) → IfErr result (λ fault. fault.written ≡ 0) }
     {
-        send(sink, self.bytes.as_slice())
+        send(sink, self.bytes())
     }
 }

@@ -1,8 +1,8 @@
-use Rattle.std.proofs.Common.{◌≡◌, ℕ, ◌-◌, ◌^◌, ◌<◌, ◌≤◌, List, [], length, take, drop, Option, Bool, ap, subst, ◌∙◌, arith}
+use Rattle.std.proofs.Common.{◌≡◌, ℕ, ◌-◌, ◌^◌, ◌<◌, List, [], length, take, drop, Bool, ap, subst, ◌∙◌, arith}
 use Rattle.std.proofs.lemmas.List.{take_rest}
 use Rattle.std.specs.List.{All}
 use Rattle.binaryfile.specs.Bytes.{IsByte}
-use Rattle.binaryfile.specs.Entries.{Contents, Splits}
+use Rattle.binaryfile.specs.Entries.{Contents}
 use Rattle.binaryfile.specs.Scanned.{contents_of}
 use Rattle.binaryfile.specs.Index.{payloads_of, offset, IsIndex, IsDay}
 use Rattle.binaryfile.proofs.Splitting.{contents_splits, splits_contents}
