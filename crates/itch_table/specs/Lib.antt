@@ -1,6 +1,7 @@
 pub mod Fault
 pub mod World
 pub mod Trades
+pub mod RunningTotals
 pub mod Levels
 pub mod Best
 pub mod Table

@@ -1,7 +1,8 @@
 //! Trades, and the sums over them.
 ghost use Rattle.std.specs.Prelude.{◌≡◌, ◌+◌, ◌<◌, ◌^◌, ℕ, length, map};
 ghost use Rattle.std.specs.List.{list_any};
-ghost use Rattle.itch_table.specs.Trades.{Within, HasRoom, broken_at, is_unbroken, plus_trade, totals_of, trades_under};
+ghost use Rattle.itch_table.specs.RunningTotals.{Within, HasRoom, plus_trade};
+ghost use Rattle.itch_table.specs.Trades.{broken_at, is_unbroken, totals_of, trades_under};
 
 use crate::status::Totals;
 
