@@ -1,0 +1,5 @@
+pub mod OneWord
+pub mod PrintedValues
+pub mod PrintableRows
+pub mod PrintedLines
+pub mod PrintedFiles
