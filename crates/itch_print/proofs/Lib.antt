@@ -3,3 +3,5 @@ pub mod PrintedValues
 pub mod PrintableRows
 pub mod PrintedLines
 pub mod PrintedFiles
+pub mod Padding
+pub mod Steps

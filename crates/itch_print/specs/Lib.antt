@@ -1,2 +1,3 @@
 pub mod Quoted
 pub mod Spelling
+pub mod Printing

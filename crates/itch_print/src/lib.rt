@@ -1,6 +1,12 @@
 //! The disassembler: the one text of a day file, and the quoted form of its fields of text.
 #![tactic(auto)]
 
+mod disassembling;
 mod laws;
+mod lines;
+mod printing;
+mod quoting;
 
+pub use disassembling::disassemble;
 pub use laws::spelling_denotes;
+pub use quoting::{put_quoted, quote};

@@ -1,0 +1,8 @@
+-- What the printing of a field asks of the payload and of the field.
+use Rattle.std.specs.Prelude.{ℕ, List, IsTrue}
+use Rattle.itch_layouts.specs.Layouts.{Field}
+use Rattle.itch_layouts.specs.Rows.{Holds, is_sound_field}
+
+-- the payload has all of the field's bytes, and the field has the width of a value
+abbrev pub HasField : List ℕ → Field → Type 0
+HasField payload field = Holds payload field × IsTrue (is_sound_field field)

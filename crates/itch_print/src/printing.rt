@@ -1,0 +1,64 @@
+//! The fields of a message, as text.
+ghost use Rattle.std.specs.Prelude.{◌≡◌, ◌++◌, OnOk, codes, decimal, map};
+ghost use Rattle.std.specs.List.{All, flat_map};
+ghost use Rattle.itch_layouts.specs.Layouts.{value_at};
+ghost use Rattle.itch_layouts.specs.Rows.{as_field};
+ghost use Rattle.itch_print.specs.Printing.{HasField};
+ghost use Rattle.itch_print.specs.Spelling.{value_text, field_text};
+
+use crate::quoting::put_quoted;
+use itch_layouts::{Field, Form};
+use std::alloc::{AllocError, Allocator};
+
+// Adds a number in decimal digits.
+fn put_number<A: Allocator>(text: &mut Vec<u8, A>, number: u64) -> Result<(), AllocError>
+    ensures { OnOk result (text.new.items ≡ text.old.items ++ decimal number) }
+{
+    let mut buffer = itoa::Buffer::new();
+    text.extend_from_slice(buffer.format(number).as_bytes())
+}
+
+// Adds what stands in a field.
+fn put_value<A: Allocator>(
+    text: &mut Vec<u8, A>,
+    payload: &[u8],
+    field: &Field,
+) -> Result<(), AllocError>
+    requires { HasField payload.now (as_field field.now) }
+    ensures { OnOk result (text.new.items ≡ text.old.items ++ value_text (value_at payload.now (as_field field.now))) }
+{
+    match field.form {
+        Form::Integer => put_number(text, field.number_in(payload)),
+        Form::Alpha => put_quoted(text, field.bytes_in(payload)),
+    }
+}
+
+// Adds a space, the name of a field, `=`, and what stands in it.
+fn put_field<A: Allocator>(
+    text: &mut Vec<u8, A>,
+    payload: &[u8],
+    field: &Field,
+) -> Result<(), AllocError>
+    requires { HasField payload.now (as_field field.now) }
+    ensures { OnOk result (text.new.items ≡ text.old.items ++ (codes " " ++ field_text payload.now (as_field field.now))) }
+{
+    text.push(b' ')?;
+    text.extend_from_slice(field.name)?;
+    text.push(b'=')?;
+    put_value(text, payload, field)
+}
+
+/// Adds the fields of a payload, and one space before each.
+pub(crate) fn put_fields<A: Allocator>(
+    text: &mut Vec<u8, A>,
+    payload: &[u8],
+    fields: &[Field],
+) -> Result<(), AllocError>
+    requires { All (HasField payload.now) (map as_field fields.now) }
+    ensures { OnOk result (text.new.items ≡ text.old.items ++ flat_map (λ field. codes " " ++ field_text payload.now field) (map as_field fields.now)) }
+{
+    for field in fields {
+        put_field(text, payload, field)?;
+    }
+    Ok(())
+}

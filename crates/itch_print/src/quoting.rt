@@ -1,0 +1,72 @@
+//! The quoted form of fields of text.
+ghost use Rattle.std.specs.Prelude.{◌≡◌, ◌++◌, IfOk, OnOk};
+ghost use Rattle.itch_text.specs.Values.{stands_for_itself};
+ghost use Rattle.itch_print.specs.Quoted.{escaped, unpadded, quoted};
+
+use std::alloc::{AllocError, Allocator};
+
+// Whether a byte stands for itself between quotes.
+fn stands_for_itself(byte: u8) -> bool
+    ensures { result ≡ stands_for_itself byte }
+{
+    (b' '..=b'~').contains(&byte) && byte != b'"' && byte != b'\\'
+}
+
+// Adds a byte as it stands between quotes.
+fn put_escaped<A: Allocator>(text: &mut Vec<u8, A>, byte: u8) -> Result<(), AllocError>
+    ensures { OnOk result (text.new.items ≡ text.old.items ++ escaped byte) }
+{
+    if stands_for_itself(byte) {
+        text.push(byte)?;
+        return Ok(());
+    }
+    let mut digits = [0u8; 2];
+    if hex::encode_to_slice([byte], &mut digits).is_err() {
+        unreachable!();
+    }
+    text.extend_from_slice(b"\\x")?;
+    text.extend_from_slice(&digits)
+}
+
+// The bytes without the spaces that pad them on the right.
+#[tactic(auto, using(crate::proofs::Padding::padding_lemmas))]
+fn unpadded(field: &[u8]) -> &[u8]
+    ensures { result.now ≡ unpadded field.now }
+{
+    let mut rest = field;
+    while let Some((last, front)) = rest.split_last() {
+        if *last != b' ' {
+            break;
+        }
+        rest = front;
+    }
+    rest
+}
+
+/// Adds a field of text between quotes, without the spaces that pad it on the right.
+///
+/// A byte from the space to the tilde that is neither the quote nor the backslash stands for itself, any other is `\x`
+/// and its two hexadecimal digits in lower case; a field of spaces alone is `""`. The form is of this project.
+/// After an error, which is the want of memory, a part of this may have been added.
+pub fn put_quoted<A: Allocator>(text: &mut Vec<u8, A>, field: &[u8]) -> Result<(), AllocError>
+    ensures { OnOk result (text.new.items ≡ text.old.items ++ quoted field.now) }
+{
+    text.push(b'"')?;
+    let kept = unpadded(field);
+    for byte in kept {
+        put_escaped(text, *byte)?;
+    }
+    text.push(b'"')?;
+    Ok(())
+}
+
+/// A field of text between quotes, as [`put_quoted`] adds it. Its memory is that of `alloc`.
+///
+/// The error is the want of memory.
+pub fn quote<A: Allocator + Copy>(alloc: A, field: &[u8]) -> Result<Vec<u8, A>, AllocError>
+    ensures { IfOk result (λ text. text.items ≡ quoted field.now) }
+{
+    let mut text = Vec::new(alloc);
+    put_quoted(&mut text, field)?;
+    Ok(text)
+}
