@@ -3,3 +3,4 @@ pub mod Values
 pub mod Items
 pub mod Text
 pub mod Faults
+pub mod Reading

@@ -2,4 +2,7 @@
 #![tactic(auto)]
 
 mod fault;
+mod laws;
 mod place;
+
+pub use laws::one_meaning;

@@ -1,0 +1,3 @@
+pub mod FieldReading
+pub mod ItemReading
+pub mod WholeTexts
