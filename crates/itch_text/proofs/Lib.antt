@@ -1,3 +1,10 @@
 pub mod FieldReading
 pub mod ItemReading
 pub mod WholeTexts
+pub mod FirstWord
+pub mod Widths
+pub mod Numerals
+pub mod Escapes
+pub mod Behind
+pub mod FieldBytes
+pub mod FirstLine

@@ -10,6 +10,7 @@ use Rattle.itch_text.specs.Items.{Item, Nothing, Entry, End, Cut, Rest, Denotes,
 use Rattle.itch_text.specs.Text.{Ordered, Lines, Text, lines_of, HasOneMeaning}
 use Rattle.itch_text.specs.Faults.{Name, Message, RawName, EndName, CutName, RestName, name_of, may_stand, after, after_all, IsWrong, IsWrongAfter, IsWrongBehindName, IsFirstFault}
 use Rattle.itch_text.specs.Reading.{hex_in, is_partial, is_short, when, item_in, named_item, item_of, values_in}
+use Rattle.itch_text.specs.Steps.{Stands}
 use Rattle.itch_text.specs.declared.place.Place.{Place}
 use Rattle.itch_text.specs.declared.place.Place.TheVariants.{Entries, Ended, Closed}
 use Rattle.itch_text.specs.declared.fault.LineFault.{LineFault}
@@ -27,14 +28,6 @@ one_list (line ∷ lines) (x ∷ xs) [] h k = absurd k
 
 pub one_meaning : HasOneMeaning
 one_meaning text a b h k = h.whole ∙ ap (flat_map item_bytes) (one_list (lines_of text) h.items k.items h.denoted k.denoted) ∙ sym k.whole
-
--- where an item may stand
-abbrev pub Stands : Place → Item → Type 0
-Stands place Nothing = Unit {0}
-Stands place (Entry payload) = place ≡ Entries
-Stands place End = place ≡ Entries
-Stands place (Cut bytes) = place ≡ Entries
-Stands place (Rest bytes) = place ≡ Ended
 
 pub ordered_parts : (place : Place) (item : Item) (items : List Item) → Ordered place (item ∷ items) → Stands place item × Ordered (after place item) items
 ordered_parts place Nothing items h = (tt, h)

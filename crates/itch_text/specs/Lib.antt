@@ -4,3 +4,7 @@ pub mod Items
 pub mod Text
 pub mod Faults
 pub mod Reading
+pub mod Fields
+pub mod Names
+pub mod Steps
+pub mod Blames

@@ -1,0 +1,42 @@
+-- Reading the digits of a number, and its fit.
+use Rattle.std.proofs.Common.{◌≡◌, ◌≢◌, ◌⊎◌, inl, inr, ℕ, zero, suc, ◌+◌, ◌*◌, ◌^◌, ◌<◌, ◌≤◌, Bool, true, false, List, [], ◌∷◌, length, drop, get_or, ltb, lt-ltb, Option, Some, None, refl, arith, add-one, drop-cons}
+use Rattle.std.specs.Str.Parse.{AllDigits, digits_value, digits_value_after}
+use Rattle.std.specs.Char.{digit_value}
+use Rattle.std.proofs.lemmas.Bool.{cases_lt}
+use Rattle.std.proofs.lemmas.Bool.Decides.{nat_tests}
+use Rattle.itch_layouts.specs.Layouts.{Number, Integer}
+use Rattle.itch_layouts.specs.Rows.{is_width}
+use Rattle.std.specs.Prelude.{IsTrue}
+use Rattle.itch_text.specs.Values.{NumberText}
+use Rattle.itch_text.specs.Reading.{fitting, number_in}
+use Rattle.itch_text.proofs.FieldReading.{number_sound, number_complete}
+use Rattle.itch_text.proofs.Widths.{below_64, width_within}
+
+-- a numeral is at least what stands before it
+grows : (n : ℕ) (ds : List ℕ) → n ≤ digits_value_after 10 n ds
+grows n [] = omega arith
+grows n (c ∷ cs) = omega (arith, grows (n * 10 + digit_value c) cs)
+
+pub grows_at : (n i : ℕ) (ds : List ℕ) → i < length ds → n * 10 + digit_value (get_or ds i 0) ≤ digits_value_after 10 n (drop i ds)
+grows_at n i ds h = rw (drop-cons ds i 0) (grows (n * 10 + digit_value (get_or ds i 0)) (drop (suc i) ds))
+
+not_lt : (m n : ℕ) → n ≤ m → ltb m n ≡ false
+not_lt m n h = grind (arith, nat_tests)
+
+le_of_not : (m n : ℕ) → (m < n → ⊥) → n ≤ m
+le_of_not m n h = elim (cases_lt m n) [ | inl l ↦ absurd (h l) | inr l ↦ l ]
+
+pub number_fits : (text : List ℕ) (n width g : ℕ) → NumberText text n → g + 1 ≡ 256 ^ width → n ≤ g → fitting width (number_in text) ≡ Some (Number n)
+number_fits text n width g h e l = rw (number_complete text n h, lt-ltb n (256 ^ width) (omega (arith, e))) refl
+
+pub number_exceeds : (text : List ℕ) (n width g : ℕ) → NumberText text n → g + 1 ≡ 256 ^ width → g < n → fitting width (number_in text) ≡ None
+number_exceeds text n width g h e l = rw (number_complete text n h, not_lt n (256 ^ width) (omega (arith, e))) refl
+
+no_number_by : (text : List ℕ) (width : ℕ) (o : Option ℕ) → width ≤ 8 → number_in text ≡ o → ((n : ℕ) → NumberText text n → n < 2 ^ 64 → ⊥) → fitting width o ≡ None
+no_number_by text width None w e h = refl
+no_number_by text width (Some n) w e h = rw (not_lt n (256 ^ width) (le_of_not n (256 ^ width) (λ l. h n (number_sound text n e) (below_64 n width w l)))) refl
+
+pub no_number : (text : List ℕ) (width : ℕ) → IsTrue (is_width Integer width) → ((n : ℕ) → NumberText text n → n < 2 ^ 64 → ⊥) → fitting width (number_in text) ≡ None
+no_number text width w h = no_number_by text width (number_in text) (width_within Integer width w) refl h
+
+pub ruleset numbers = (number_fits, number_exceeds, no_number)

@@ -1,0 +1,14 @@
+use Rattle.std.proofs.Common.{map, refl, ◌∙◌, sym}
+use Rattle.itch_layouts.specs.Rows.{as_field}
+use Rattle.itch_text.specs.Words.{words}
+use Rattle.itch_text.proofs.FieldBytes.{field_read, no_word_left, field_refused}
+use Rattle.itch_text.proofs.fields.put_fields.Goals as goal
+
+pub returns-in_default : goal.returns-in_default
+returns-in_default g c = (refl, no_word_left c.args.out.now.items c.fields.out.items c.args.fields.now (words c.fields.rest.now) (words c.args.line.now) c.fields.field-index c.fields-test.true c.in_default.ensures c.fields.invariant)
+
+pub returns-in-Err : goal.returns-in-Err
+returns-in-Err g c = field_refused c.args.out.now.items c.fields.out.items c.put_field.new.out.items c.args.fields.now (words c.fields.rest.now) (words c.args.line.now) c.fields.field-index _ c.in-Some.word.now (words c.in-Some.behind.now) c.in-Err.error c.fields-test.true c.in-Some.ensures c.in-Err.ensures c.fields.invariant
+
+pub fields-preserved : goal.fields-preserved
+fields-preserved g c = field_read c.args.out.now.items c.fields.out.items c.put_field.new.out.items c.args.fields.now (words c.fields.rest.now) (words c.args.line.now) c.fields.field-index _ c.in-Some.word.now (words c.in-Some.behind.now) c.fields-test.true c.in-Some.ensures c.in_default-put_field.ensures c.fields.invariant

@@ -1,0 +1,62 @@
+//! From a text to the bytes of a file.
+ghost use Rattle.std.specs.Prelude.{◌≡◌, ◌≢◌, IfOk, IfErr};
+ghost use Rattle.itch_text.specs.Text.{Text};
+ghost use Rattle.itch_text.specs.Blames.{Blames, DenotesNothing, fault_at};
+ghost use Rattle.itch_text.specs.declared.assembler.AsmFault.TheVariants.{Memory as MemoryRefused};
+
+use crate::fault::{LineError, LineFault};
+use crate::line::{put_line, split_line};
+use crate::place::Place;
+use std::alloc::Allocator;
+
+/// Why a text was not assembled. All lines of the text are counted, from 1, and the first faulty one is named.
+///
+/// In one line `Mnemonic` comes before `AfterEnd`, and that before `Field`. The rules are of this project.
+#[derive(Debug, Clone, Copy, PartialEq, Eq)]
+pub enum AsmFault {
+    /// Memory was refused. It says nothing of the text.
+    Memory,
+    /// The line's first word is neither a mnemonic nor `raw`, `end`, `cut` or `rest`.
+    Mnemonic(u64),
+    /// What stands behind the line's first word is not what that word wants.
+    Field(u64),
+    /// The line can't stand there: behind `end` only `rest` may stand, behind `rest` and `cut` nothing, and `rest` only
+    /// behind `end`.
+    AfterEnd(u64),
+}
+
+/// The fault of a text whose line of this number was not taken.
+fn fault_at(line: u64, error: LineError) -> AsmFault
+    ensures { result ≡ fault_at line error }
+{
+    match error {
+        LineError::Memory => AsmFault::Memory,
+        LineError::Wrong(LineFault::Mnemonic) => AsmFault::Mnemonic(line),
+        LineError::Wrong(LineFault::Field) => AsmFault::Field(line),
+        LineError::Wrong(LineFault::AfterEnd) => AsmFault::AfterEnd(line),
+    }
+}
+
+/// The bytes of the file that a text denotes. The text form is of this project.
+///
+/// A fault names the first faulty line, and then the text denotes no bytes at all; `Memory` says nothing of the text.
+pub fn assemble<A: Allocator + Copy>(alloc: A, text: &[u8]) -> Result<Vec<u8, A>, AsmFault>
+    ensures bytes { IfOk result (λ bytes. Text text.now bytes.items) }
+    ensures first_fault { IfErr result (Blames text.now) }
+    ensures nothing_denoted { IfErr result (λ fault. fault ≢ MemoryRefused → DenotesNothing text.now) }
+{
+    let mut bytes = Vec::new(alloc);
+    let mut place = Place::Entries;
+    let mut number = 0u64;
+    let mut rest = Some(text);
+    'lines: while let Some(lines) = rest {
+        let (line, behind) = split_line(lines);
+        number += 1;
+        match put_line(&mut bytes, place, line) {
+            Ok(next) => place = next,
+            Err(error) => return Err(fault_at(number, error)),
+        }
+        rest = behind;
+    }
+    Ok(bytes)
+}

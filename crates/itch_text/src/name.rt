@@ -1,0 +1,39 @@
+//! The names that lines begin with.
+ghost use Rattle.std.specs.Prelude.{◌≡◌, option_map, IfSome};
+ghost use Rattle.itch_text.specs.Faults.{name_of};
+ghost use Rattle.itch_text.specs.Names.{as_name, HasSoundRow};
+
+use itch_layouts::{Layout, layout_of_mnemonic};
+
+/// The name that a line begins with.
+#[derive(Clone, Copy)]
+pub(crate) enum Name {
+    /// The mnemonic of a layout: a message.
+    Message(&'static Layout),
+    /// `raw`: any payload.
+    Raw,
+    /// `end`: the end marker.
+    End,
+    /// `cut`: less than a whole entry.
+    Cut,
+    /// `rest`: bytes behind the marker.
+    Rest,
+}
+
+/// The name that a word is, or `None` where it is none.
+#[tactic(auto, unfolding(crate::specs::Faults::name_of))]
+pub(crate) fn name_of(word: &[u8]) -> Option<Name>
+    ensures name { option_map as_name result ≡ name_of word.now }
+    ensures sound { IfSome result HasSoundRow }
+{
+    if let Some(row) = layout_of_mnemonic(word) {
+        return Some(Name::Message(row));
+    }
+    match word {
+        b"raw" => Some(Name::Raw),
+        b"end" => Some(Name::End),
+        b"cut" => Some(Name::Cut),
+        b"rest" => Some(Name::Rest),
+        _ => None,
+    }
+}
