@@ -23,7 +23,7 @@ some_bytes_sound (Ok []) bytes h = absurd (none-some bytes h)
 some_bytes_sound (Ok (b ∷ bs)) bytes h = (ap Ok (same_Some _ _ h), subst (λ xs. 0 < length xs) (same_Some _ _ h) (omega arith))
 some_bytes_sound (Err e) bytes h = absurd (none-some bytes h)
 
-bytes_sound : (text bytes : List ℕ) → bytes_in text ≡ Some bytes → HexText text bytes
+pub bytes_sound : (text bytes : List ℕ) → bytes_in text ≡ Some bytes → HexText text bytes
 unfolding bytes_in
 bytes_sound text bytes h = some_bytes_sound (decode_of text) bytes h
 

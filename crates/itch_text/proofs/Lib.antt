@@ -2,9 +2,12 @@ pub mod FieldReading
 pub mod ItemReading
 pub mod WholeTexts
 pub mod FirstWord
+pub mod FirstLine
 pub mod Widths
 pub mod Numerals
 pub mod Escapes
 pub mod Behind
 pub mod FieldBytes
-pub mod FirstLine
+pub mod MessageBytes
+pub mod HexLines
+pub mod LinesTaken

@@ -60,14 +60,14 @@ after_end Ended m = refl
 after_end Closed m = absurd (false≢true m)
 
 -- what an item and its name have in common
-abbrev IsNamed : Name → Item → Type 0
+abbrev pub IsNamed : Name → Item → Type 0
 IsNamed (Message row) item = (payload : List ℕ) × (item ≡ Entry payload)
 IsNamed RawName item = (payload : List ℕ) × (item ≡ Entry payload)
 IsNamed EndName item = item ≡ End
 IsNamed CutName item = (bytes : List ℕ) × (item ≡ Cut bytes)
 IsNamed RestName item = (bytes : List ℕ) × (item ≡ Rest bytes)
 
-item_named : (name : Name) (ws : List (List ℕ)) (item : Item) → item_in name ws ≡ Some item → IsNamed name item
+pub item_named : (name : Name) (ws : List (List ℕ)) (item : Item) → item_in name ws ≡ Some item → IsNamed name item
 item_named (Message row) ws item h = let v = map_some (λ vs. Entry (row.kind ∷ spelling (fields row) vs)) (values_in (fields row) ws) item h in (row.kind ∷ spelling (fields row) v.0, sym v.2)
 item_named RawName ws item h = let v = map_some Entry (when is_short (hex_in ws)) item h in (v.0, sym v.2)
 item_named EndName [] item h = cc

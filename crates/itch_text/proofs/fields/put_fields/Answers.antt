@@ -2,6 +2,7 @@ use Rattle.std.proofs.Common.{map, refl, ◌∙◌, sym}
 use Rattle.itch_layouts.specs.Rows.{as_field}
 use Rattle.itch_text.specs.Words.{words}
 use Rattle.itch_text.proofs.FieldBytes.{field_read, no_word_left, field_refused}
+use Rattle.itch_text.proofs.Widths.{sound_at}
 use Rattle.itch_text.proofs.fields.put_fields.Goals as goal
 
 pub returns-in_default : goal.returns-in_default
@@ -12,3 +13,6 @@ returns-in-Err g c = field_refused c.args.out.now.items c.fields.out.items c.put
 
 pub fields-preserved : goal.fields-preserved
 fields-preserved g c = field_read c.args.out.now.items c.fields.out.items c.put_field.new.out.items c.args.fields.now (words c.fields.rest.now) (words c.args.line.now) c.fields.field-index _ c.in-Some.word.now (words c.in-Some.behind.now) c.fields-test.true c.in-Some.ensures c.in_default-put_field.ensures c.fields.invariant
+
+pub put_field-requires : goal.put_field-requires
+put_field-requires g c = sound_at as_field c.args.fields.now c.fields.field-index _ c.requires c.fields-test.true
