@@ -1,5 +1,5 @@
 -- A line taken where it stands, and the lines of a text taken one after another.
-use Rattle.std.proofs.Common.{◌≡◌, ℕ, zero, suc, ◌+◌, ◌<◌, ◌≤◌, Bool, true, false, List, [], ◌∷◌, ◌++◌, length, Option, Some, None, Result, Ok, Err, option_map, MatchOption, refl, sym, ap, ap₂, ◌∙◌, subst, arith, append_assoc, append-nil, add-one, length-append}
+use Rattle.std.proofs.Common.{◌≡◌, ◌≢◌, ℕ, zero, suc, ◌+◌, ◌<◌, ◌≤◌, Bool, true, false, List, [], ◌∷◌, ◌++◌, length, Option, Some, None, Result, Ok, Err, option_map, MatchOption, refl, sym, ap, ap₂, ◌∙◌, subst, arith, append_assoc, append-nil, add-one, length-append}
 use Rattle.std.proofs.lemmas.Grind.{flat_map-append}
 use Rattle.std.proofs.lemmas.Option.{same_Some, none-some}
 use Rattle.std.specs.List.{flat_map}
@@ -11,14 +11,17 @@ use Rattle.itch_text.specs.Reading.{item_in, named_item, item_of}
 use Rattle.itch_text.specs.Names.{behind_name}
 use Rattle.itch_text.specs.Fields.{ahead, Puts}
 use Rattle.itch_text.specs.Steps.{Stands, LineTaken, TakesLine, Taken}
+use Rattle.itch_text.specs.Blames.{Blames, DenotesNothing, fault_at}
+use Rattle.itch_text.specs.declared.assembler.AsmFault.{AsmFault}
+use Rattle.itch_text.specs.declared.assembler.AsmFault.TheVariants.{Memory as MemoryRefused}
 use Rattle.itch_text.specs.declared.place.Place.{Place}
 use Rattle.itch_text.specs.declared.place.Place.TheVariants.{Entries, Ended, Closed}
 use Rattle.itch_text.specs.declared.fault.LineFault.{LineFault}
-use Rattle.itch_text.specs.declared.fault.LineFault.TheVariants.{Field}
+use Rattle.itch_text.specs.declared.fault.LineFault.TheVariants.{Mnemonic, Field, AfterEnd}
 use Rattle.itch_text.specs.declared.fault.LineError.{LineError}
 use Rattle.itch_text.specs.declared.fault.LineError.TheVariants.{Memory, Wrong}
 use Rattle.itch_text.proofs.ItemReading.{item_complete, item_sound}
-use Rattle.itch_text.proofs.WholeTexts.{IsNamed, item_named, named_stands, ordered_parts, ordered_whole}
+use Rattle.itch_text.proofs.WholeTexts.{IsNamed, item_named, named_stands, ordered_parts, ordered_whole, nothing_denoted}
 
 -- ---- one line
 behind_is : (place : Place) (name : Name) (item : Item) → IsNamed name item → behind_name name ≡ after place item
@@ -112,3 +115,18 @@ left_len (Some text) = suc (length text)
 pub split_lines : {X : Type 0} (f : X → List ℕ) (text line : List ℕ) (o : Option X) → MatchOption o (lines_of text ≡ line ∷ []) (λ r. (lines_of text ≡ line ∷ lines_of (f r)) × (length (f r) < length text)) → lines_of text ≡ line ∷ lines_left (option_map f o)
 split_lines f text line None h = h
 split_lines f text line (Some r) h = h.0
+
+pub left_shorter : {X : Type 0} (f : X → List ℕ) (text line : List ℕ) (o : Option X) → MatchOption o (lines_of text ≡ line ∷ []) (λ r. (lines_of text ≡ line ∷ lines_of (f r)) × (length (f r) < length text)) → left_len (option_map f o) ≤ length text
+left_shorter f text line None h = omega arith
+left_shorter f text line (Some r) h = omega (arith, h.1)
+
+-- ---- a line that wasn't taken
+pub fault_blames : (text bytes new : List ℕ) (place : Place) (number : ℕ) (line : List ℕ) (left : List (List ℕ)) (error : LineError) → Taken text bytes place number (line ∷ left) → TakesLine bytes new place line (Err error) → Blames text (fault_at (number + 1) error)
+fault_blames text bytes new place number line left Memory t h = tt
+fault_blames text bytes new place number line left (Wrong Mnemonic) t h = first_fault text bytes place number line left Mnemonic t h
+fault_blames text bytes new place number line left (Wrong Field) t h = first_fault text bytes place number line left Field t h
+fault_blames text bytes new place number line left (Wrong AfterEnd) t h = first_fault text bytes place number line left AfterEnd t h
+
+pub fault_denotes_nothing : (text bytes new : List ℕ) (place : Place) (number : ℕ) (line : List ℕ) (left : List (List ℕ)) (error : LineError) → Taken text bytes place number (line ∷ left) → TakesLine bytes new place line (Err error) → fault_at (number + 1) error ≢ MemoryRefused → DenotesNothing text
+fault_denotes_nothing text bytes new place number line left Memory t h n = absurd (n refl)
+fault_denotes_nothing text bytes new place number line left (Wrong fault) t h n = nothing_denoted text (number + 1) fault (first_fault text bytes place number line left fault t h)
