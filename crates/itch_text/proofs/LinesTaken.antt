@@ -8,10 +8,10 @@ use Rattle.itch_text.specs.Items.{Item, Nothing, Entry, End, Cut, Rest, Denotes,
 use Rattle.itch_text.specs.Text.{Lines, Ordered, Text, lines_of}
 use Rattle.itch_text.specs.Faults.{Name, Message, RawName, EndName, CutName, RestName, name_of, may_stand, after, after_all, IsWrong, IsWrongAfter, IsFirstFault}
 use Rattle.itch_text.specs.Reading.{item_in, named_item, item_of}
-use Rattle.itch_text.specs.Names.{behind_name}
+use Rattle.itch_text.specs.Names.{place_behind}
 use Rattle.itch_text.specs.Fields.{ahead, Puts}
-use Rattle.itch_text.specs.Steps.{Stands, LineTaken, TakesLine, Taken}
-use Rattle.itch_text.specs.Blames.{Blames, DenotesNothing, fault_at}
+use Rattle.itch_text.specs.Steps.{Stands, LineTaken, TakesLine, Taken, fault_at}
+use Rattle.itch_text.specs.Blames.{Blames, DenotesNothing}
 use Rattle.itch_text.specs.declared.assembler.AsmFault.{AsmFault}
 use Rattle.itch_text.specs.declared.assembler.AsmFault.TheVariants.{Memory as MemoryRefused}
 use Rattle.itch_text.specs.declared.place.Place.{Place}
@@ -24,14 +24,14 @@ use Rattle.itch_text.proofs.ItemReading.{item_complete, item_sound}
 use Rattle.itch_text.proofs.WholeTexts.{IsNamed, item_named, named_stands, ordered_parts, ordered_whole, nothing_denoted}
 
 -- ---- one line
-behind_is : (place : Place) (name : Name) (item : Item) → IsNamed name item → behind_name name ≡ after place item
+behind_is : (place : Place) (name : Name) (item : Item) → IsNamed name item → place_behind name ≡ after place item
 behind_is place (Message row) item n = rw n.1 refl
 behind_is place RawName item n = rw n.1 refl
 behind_is place EndName item n = rw n refl
 behind_is place CutName item n = rw n.1 refl
 behind_is place RestName item n = rw n.1 refl
 
-taken_by : (old new : List ℕ) (place next : Place) (line w : List ℕ) (ws : List (List ℕ)) (name : Name) (o : Option Item) → item_in name ws ≡ o → words line ≡ w ∷ ws → name_of w ≡ Some name → may_stand place name ≡ true → next ≡ behind_name name → ahead old (option_map item_bytes o) ≡ Some new → LineTaken old new place line next
+taken_by : (old new : List ℕ) (place next : Place) (line w : List ℕ) (ws : List (List ℕ)) (name : Name) (o : Option Item) → item_in name ws ≡ o → words line ≡ w ∷ ws → name_of w ≡ Some name → may_stand place name ≡ true → next ≡ place_behind name → ahead old (option_map item_bytes o) ≡ Some new → LineTaken old new place line next
 taken_by old new place next line w ws name None i e n m b h = absurd (none-some new h)
 taken_by old new place next line w ws name (Some item) i e n m b h = record {
   item = item;
@@ -41,7 +41,7 @@ taken_by old new place next line w ws name (Some item) i e n m b h = record {
   wrote = sym (same_Some _ _ h)
 }
 
-pub line_taken : (old new : List ℕ) (place next : Place) (line w : List ℕ) (ws : List (List ℕ)) (name : Name) → words line ≡ w ∷ ws → Some name ≡ name_of w → may_stand place name ≡ true → next ≡ behind_name name → ahead old (option_map item_bytes (item_in name ws)) ≡ Some new → LineTaken old new place line next
+pub line_taken : (old new : List ℕ) (place next : Place) (line w : List ℕ) (ws : List (List ℕ)) (name : Name) → words line ≡ w ∷ ws → Some name ≡ name_of w → may_stand place name ≡ true → next ≡ place_behind name → ahead old (option_map item_bytes (item_in name ws)) ≡ Some new → LineTaken old new place line next
 line_taken old new place next line w ws name e n m b h = taken_by old new place next line w ws name (item_in name ws) refl e (sym n) m b h
 
 no_item : (o : Option Item) (item : Item) → option_map item_bytes o ≡ None → o ≡ Some item → ⊥

@@ -1,7 +1,8 @@
 -- Reading the digits of a number, and its fit.
-use Rattle.std.proofs.Common.{◌≡◌, ◌≢◌, ◌⊎◌, inl, inr, ℕ, zero, suc, ◌+◌, ◌*◌, ◌^◌, ◌<◌, ◌≤◌, Bool, true, false, List, [], ◌∷◌, length, drop, get_or, ltb, lt-ltb, Option, Some, None, refl, arith, add-one, drop-cons}
+use Rattle.std.proofs.Common.{◌≡◌, ◌≢◌, ◌⊎◌, inl, inr, ℕ, zero, suc, ◌+◌, ◌*◌, ◌^◌, ◌<◌, ◌≤◌, Bool, true, false, List, [], ◌∷◌, length, drop, get_or, ltb, lt-ltb, leb, leb-true, leb-false, Option, Some, None, option_map, refl, sym, ap, ◌∙◌, arith, add-one, drop-cons}
 use Rattle.std.specs.Str.Parse.{AllDigits, digits_value, digits_value_after}
 use Rattle.std.specs.Char.{digit_value}
+use Rattle.std.specs.Bool.{then_some}
 use Rattle.std.proofs.lemmas.Bool.{cases_lt}
 use Rattle.std.proofs.lemmas.Bool.Decides.{nat_tests}
 use Rattle.itch_layouts.specs.Layouts.{Number, Integer}
@@ -26,10 +27,10 @@ not_lt m n h = grind (arith, nat_tests)
 le_of_not : (m n : ℕ) → (m < n → ⊥) → n ≤ m
 le_of_not m n h = elim (cases_lt m n) [ | inl l ↦ absurd (h l) | inr l ↦ l ]
 
-pub number_fits : (text : List ℕ) (n width g : ℕ) → NumberText text n → g + 1 ≡ 256 ^ width → n ≤ g → fitting width (number_in text) ≡ Some (Number n)
+number_fits : (text : List ℕ) (n width g : ℕ) → NumberText text n → g + 1 ≡ 256 ^ width → n ≤ g → fitting width (number_in text) ≡ Some (Number n)
 number_fits text n width g h e l = rw (number_complete text n h, lt-ltb n (256 ^ width) (omega (arith, e))) refl
 
-pub number_exceeds : (text : List ℕ) (n width g : ℕ) → NumberText text n → g + 1 ≡ 256 ^ width → g < n → fitting width (number_in text) ≡ None
+number_exceeds : (text : List ℕ) (n width g : ℕ) → NumberText text n → g + 1 ≡ 256 ^ width → g < n → fitting width (number_in text) ≡ None
 number_exceeds text n width g h e l = rw (number_complete text n h, not_lt n (256 ^ width) (omega (arith, e))) refl
 
 no_number_by : (text : List ℕ) (width : ℕ) (o : Option ℕ) → width ≤ 8 → number_in text ≡ o → ((n : ℕ) → NumberText text n → n < 2 ^ 64 → ⊥) → fitting width o ≡ None
@@ -39,4 +40,12 @@ no_number_by text width (Some n) w e h = rw (not_lt n (256 ^ width) (le_of_not n
 pub no_number : (text : List ℕ) (width : ℕ) → IsTrue (is_width Integer width) → ((n : ℕ) → NumberText text n → n < 2 ^ 64 → ⊥) → fitting width (number_in text) ≡ None
 no_number text width w h = no_number_by text width (number_in text) (width_within Integer width w) refl h
 
-pub ruleset numbers = (number_fits, number_exceeds, no_number)
+kept_by : (text : List ℕ) (n width g : ℕ) (b : Bool) → NumberText text n → g + 1 ≡ 256 ^ width → leb n g ≡ b → option_map Number (then_some b n) ≡ fitting width (number_in text)
+kept_by text n width g true h e l = sym (number_fits text n width g h e (leb-true n g l))
+kept_by text n width g false h e l = sym (number_exceeds text n width g h e (leb-false n g l))
+
+-- a number is kept where it is no greater than the greatest
+pub number_kept : (text : List ℕ) (n width g : ℕ) (o : Option ℕ) → NumberText text n → g + 1 ≡ 256 ^ width → o ≡ then_some (leb n g) n → option_map Number o ≡ fitting width (number_in text)
+number_kept text n width g o h e k = ap (option_map Number) k ∙ kept_by text n width g (leb n g) h e refl
+
+pub ruleset numbers = (no_number)

@@ -23,9 +23,9 @@ HasSoundRow Cut = Unit {0}
 HasSoundRow Rest = Unit {0}
 
 -- where the line behind a line of this name stands
-abbrev pub behind_name : LineName → Place
-behind_name (MessageName row) = Entries
-behind_name RawName = Entries
-behind_name EndName = Ended
-behind_name CutName = Closed
-behind_name RestName = Closed
+abbrev pub place_behind : LineName → Place
+place_behind (MessageName row) = Entries
+place_behind RawName = Entries
+place_behind EndName = Ended
+place_behind CutName = Closed
+place_behind RestName = Closed

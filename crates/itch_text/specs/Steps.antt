@@ -9,6 +9,9 @@ use Rattle.itch_text.specs.declared.place.Place.{Place}
 use Rattle.itch_text.specs.declared.place.Place.TheVariants.{Entries, Ended}
 use Rattle.itch_text.specs.declared.fault.LineError.{LineError}
 use Rattle.itch_text.specs.declared.fault.LineError.TheVariants.{Memory, Wrong}
+use Rattle.itch_text.specs.declared.fault.LineFault.TheVariants.{Mnemonic as WrongMnemonic, Field as WrongField, AfterEnd as WrongPlace}
+use Rattle.itch_text.specs.declared.assembler.AsmFault.{AsmFault}
+use Rattle.itch_text.specs.declared.assembler.AsmFault.TheVariants.{Memory as MemoryRefused, Mnemonic, Field, AfterEnd}
 
 -- where an item may stand
 abbrev pub Stands : Place → Item → Type 0
@@ -42,3 +45,10 @@ pub record Taken (text bytes : List ℕ) (place : Place) (number : ℕ) (left : 
   pub ordered : Ordered Entries items
   pub reached : place ≡ after_all Entries items
   pub wrote : bytes ≡ flat_map item_bytes items
+
+-- the fault of a text whose line of this number wasn't taken
+abbrev pub fault_at : ℕ → LineError → AsmFault
+fault_at line Memory = MemoryRefused
+fault_at line (Wrong WrongMnemonic) = Mnemonic line
+fault_at line (Wrong WrongField) = Field line
+fault_at line (Wrong WrongPlace) = AfterEnd line

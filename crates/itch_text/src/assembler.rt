@@ -1,7 +1,8 @@
 //! From a text to the bytes of a file.
 ghost use Rattle.std.specs.Prelude.{◌≡◌, ◌≢◌, IfOk, IfErr};
 ghost use Rattle.itch_text.specs.Text.{Text};
-ghost use Rattle.itch_text.specs.Blames.{Blames, DenotesNothing, fault_at};
+ghost use Rattle.itch_text.specs.Blames.{Blames, DenotesNothing};
+ghost use Rattle.itch_text.specs.Steps.{fault_at};
 ghost use Rattle.itch_text.specs.declared.assembler.AsmFault.TheVariants.{Memory as MemoryRefused};
 
 use crate::fault::{LineError, LineFault};

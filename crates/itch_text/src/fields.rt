@@ -100,9 +100,7 @@ pub(crate) fn put_fields<'a, A: Allocator>(
         let Some((word, behind)) = split_word(rest) else {
             return Err(LineError::Wrong(LineFault::Field));
         };
-        if let Err(error) = put_field(out, field, word) {
-            return Err(error);
-        }
+        put_field(out, field, word)?;
         rest = behind;
     }
     Ok(rest)

@@ -13,7 +13,7 @@ use crate::fault::{LineError, LineFault};
 use crate::hexadecimal::{put_cut, put_raw, put_rest};
 use crate::message::put_message;
 use crate::name::{Name, name_of};
-use crate::place::{Place, behind, may_stand};
+use crate::place::Place;
 use crate::words::split_word;
 use std::alloc::Allocator;
 
@@ -75,9 +75,9 @@ pub(crate) fn put_line<A: Allocator>(out: &mut Vec<u8, A>, place: Place, line: &
     let Some(name) = name_of(word) else {
         return Err(LineError::Wrong(LineFault::Mnemonic));
     };
-    if !may_stand(place, name) {
+    if !place.allows(name) {
         return Err(LineError::Wrong(LineFault::AfterEnd));
     }
     put_item(out, name, rest)?;
-    Ok(behind(name))
+    Ok(name.place_behind())
 }

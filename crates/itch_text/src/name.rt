@@ -1,8 +1,9 @@
 //! The names that lines begin with.
 ghost use Rattle.std.specs.Prelude.{◌≡◌, option_map, IfSome};
 ghost use Rattle.itch_text.specs.Faults.{name_of};
-ghost use Rattle.itch_text.specs.Names.{as_name, HasSoundRow};
+ghost use Rattle.itch_text.specs.Names.{HasSoundRow, as_name, place_behind};
 
+use crate::place::Place;
 use itch_layouts::{Layout, layout_of_mnemonic};
 
 /// The name that a line begins with.
@@ -18,6 +19,19 @@ pub(crate) enum Name {
     Cut,
     /// `rest`: bytes behind the marker.
     Rest,
+}
+
+impl Name {
+    /// Where the line behind a line of this name stands.
+    pub(crate) fn place_behind(self) -> Place
+        ensures { result ≡ place_behind (as_name self) }
+    {
+        match self {
+            Name::Message(_) | Name::Raw => Place::Entries,
+            Name::End => Place::Ended,
+            Name::Cut | Name::Rest => Place::Closed,
+        }
+    }
 }
 
 /// The name that a word is, or `None` where it is none.

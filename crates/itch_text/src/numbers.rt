@@ -58,14 +58,6 @@ pub(crate) fn number(text: &[u8], width: u8) -> Option<u64>
     ensures value { option_map (λ n. Number n) result ≡ value_in Integer width text.now }
     ensures fits { IfSome result (λ n. n < 256 ^ width) }
 {
-    match number_of_text(text) {
-        Some(number) => {
-            if number <= greatest(width) {
-                Some(number)
-            } else {
-                None
-            }
-        }
-        None => None,
-    }
+    let number = number_of_text(text)?;
+    (number <= greatest(width)).then_some(number)
 }

@@ -1,7 +1,7 @@
 //! Where a line stands in a text.
 ghost use Rattle.std.specs.Prelude.{◌≡◌};
 ghost use Rattle.itch_text.specs.Faults.{may_stand};
-ghost use Rattle.itch_text.specs.Names.{as_name, behind_name};
+ghost use Rattle.itch_text.specs.Names.{as_name};
 
 use crate::name::Name;
 
@@ -16,24 +16,15 @@ pub(crate) enum Place {
     Closed,
 }
 
-/// Whether a line of this name may stand at this place.
-pub(crate) fn may_stand(place: Place, name: Name) -> bool
-    ensures { result ≡ may_stand place (as_name name) }
-{
-    match place {
-        Place::Entries => !matches!(name, Name::Rest),
-        Place::Ended => matches!(name, Name::Rest),
-        Place::Closed => false,
-    }
-}
-
-/// Where the line behind a line of this name stands.
-pub(crate) fn behind(name: Name) -> Place
-    ensures { result ≡ behind_name (as_name name) }
-{
-    match name {
-        Name::Message(_) | Name::Raw => Place::Entries,
-        Name::End => Place::Ended,
-        Name::Cut | Name::Rest => Place::Closed,
+impl Place {
+    /// Whether a line of this name may stand here.
+    pub(crate) fn allows(self, name: Name) -> bool
+        ensures { result ≡ may_stand self (as_name name) }
+    {
+        match self {
+            Place::Entries => !matches!(name, Name::Rest),
+            Place::Ended => matches!(name, Name::Rest),
+            Place::Closed => false,
+        }
     }
 }

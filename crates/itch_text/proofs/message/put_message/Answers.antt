@@ -23,5 +23,5 @@ returns-then-is_some g c =
 pub returns : goal.returns
 returns g c =
     let none = no_words (λ parts. parts.0.now) (λ parts. words parts.1.now) c.split_word.result (words c.in_ok-rest.rest.now) (sym c.is_some.ensures ∙ c.if-is_some.false) c.split_word.ensures in
-    let began = c.in_ok-push.ensures.items ∙ ap (λ xs. xs ++ c.args.row.now.kind ∷ []) (rw c.to_be_bytes.ensures at c.in_ok-extend_from_slice.ensures.items) in
+    let began = rw (c.in_ok-extend_from_slice.ensures.items, c.to_be_bytes.ensures) at c.in_ok-push.ensures.items in
     message_put c.args.out.now.items c.push.new.self.items c.put_fields.new.out.items c.put_fields-2.new.out.items (as_layout c.args.row.now) (map as_field c.head_fields.result.now) (words c.args.line.now) (words c.in_ok-body.body.now) (words c.in_ok-rest.rest.now) c.requires began c.head_fields.ensures.head c.in_ok-body.ensures c.in_ok-rest.ensures none

@@ -1,9 +1,5 @@
-use Rattle.std.proofs.Common.{sym, ◌∙◌}
-use Rattle.itch_text.proofs.Numerals.{number_fits, number_exceeds}
+use Rattle.itch_text.proofs.Numerals.{number_kept}
 use Rattle.itch_text.proofs.numbers.number.Goals as goal
 
-pub returns-then-number-greatest-clause-value : goal.returns-then-number-greatest-clause-value
-returns-then-number-greatest-clause-value c = sym (number_fits c.args.text.now c.in-Some.number c.args.width c.greatest.result c.in-Some.ensures.some c.greatest.ensures c.if-number-greatest.true)
-
-pub returns-else-number-greatest-clause-value : goal.returns-else-number-greatest-clause-value
-returns-else-number-greatest-clause-value c = sym (number_exceeds c.args.text.now c.in-Some.number c.args.width c.greatest.result c.in-Some.ensures.some c.greatest.ensures c.if-number-greatest.false)
+pub returns-clause-value : goal.returns-clause-value
+returns-clause-value c = number_kept c.args.text.now c.in_ok-number.number c.args.width c.greatest.result c.then_some.result c.in_ok-number.ensures.some c.greatest.ensures c.then_some.ensures
