@@ -2,6 +2,7 @@
 #![tactic(auto)]
 
 mod disassembling;
+mod hexadecimal;
 mod laws;
 mod lines;
 mod printing;

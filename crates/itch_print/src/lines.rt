@@ -1,35 +1,14 @@
 //! The lines of a file's payloads and of its end.
-ghost use Rattle.std.specs.Prelude.{◌≡◌, [], ◌∷◌, ◌++◌, IsTrue, IfSome, OnOk, length, option_map, slice_index};
+ghost use Rattle.std.specs.Prelude.{◌≡◌, ◌++◌, IsTrue, IfSome, OnOk, length, option_map, slice_index};
 ghost use Rattle.std.specs.List.{flat_map};
-ghost use Rattle.hex.specs.Hex.{encode_lower};
 ghost use Rattle.itch_layouts.specs.Layouts.{layout};
 ghost use Rattle.itch_layouts.specs.Rows.{as_layout, is_sound};
 ghost use Rattle.itch_print.specs.Spelling.{message_line, hex_line, payload_line, end_lines, ended};
 
+use crate::hexadecimal::put_hex;
 use crate::printing::put_fields;
 use itch_layouts::{Layout, head_fields, layout_of_kind};
 use std::alloc::{AllocError, Allocator};
-
-// Adds a byte in two hexadecimal digits of lower case.
-fn put_digits<A: Allocator>(text: &mut Vec<u8, A>, byte: u8) -> Result<(), AllocError>
-    ensures { OnOk result (text.new.items ≡ text.old.items ++ encode_lower (byte ∷ [])) }
-{
-    let mut digits = [0u8; 2];
-    if hex::encode_to_slice([byte], &mut digits).is_err() {
-        unreachable!();
-    }
-    text.extend_from_slice(&digits)
-}
-
-// Adds bytes in hexadecimal digits of lower case.
-fn put_hex<A: Allocator>(text: &mut Vec<u8, A>, bytes: &[u8]) -> Result<(), AllocError>
-    ensures { OnOk result (text.new.items ≡ text.old.items ++ encode_lower bytes.now) }
-{
-    for byte in bytes {
-        put_digits(text, *byte)?;
-    }
-    Ok(())
-}
 
 // Adds a line of a name, and bytes in hexadecimal digits.
 fn put_hex_line<A: Allocator>(
@@ -64,15 +43,12 @@ fn put_message<A: Allocator>(
 }
 
 // The layout of a payload's type, where it has one.
-#[tactic(auto, using(crate::proofs::Steps::no_layout))]
+#[tactic(auto, using(crate::proofs::HeldFields::no_layout))]
 fn layout_of(payload: &[u8]) -> Option<&'static Layout>
     ensures layout { option_map (λ row. as_layout row.now) result ≡ layout (slice_index payload.now 0) }
     ensures sound { IfSome result (λ row. IsTrue (is_sound (as_layout row.now))) }
 {
-    match payload.first() {
-        Some(kind) => layout_of_kind(*kind),
-        None => None,
-    }
+    layout_of_kind(*payload.first()?)
 }
 
 /// Adds the line of a payload: its message where it has the size of its type's layout, and else its bytes.

@@ -3,6 +3,7 @@ ghost use Rattle.std.specs.Prelude.{◌≡◌, ◌++◌, IfOk, OnOk};
 ghost use Rattle.itch_text.specs.Values.{stands_for_itself};
 ghost use Rattle.itch_print.specs.Quoted.{escaped, unpadded, quoted};
 
+use crate::hexadecimal::digits_of;
 use std::alloc::{AllocError, Allocator};
 
 // Whether a byte stands for itself between quotes.
@@ -20,12 +21,8 @@ fn put_escaped<A: Allocator>(text: &mut Vec<u8, A>, byte: u8) -> Result<(), Allo
         text.push(byte)?;
         return Ok(());
     }
-    let mut digits = [0u8; 2];
-    if hex::encode_to_slice([byte], &mut digits).is_err() {
-        unreachable!();
-    }
-    text.extend_from_slice(b"\\x")?;
-    text.extend_from_slice(&digits)
+    let [high, low] = digits_of(byte);
+    text.extend_from_slice(&[b'\\', b'x', high, low])
 }
 
 // The bytes without the spaces that pad them on the right.

@@ -1,5 +1,5 @@
 use Rattle.itch_layouts.specs.Rows.{as_layout}
-use Rattle.itch_print.proofs.Steps.{has_head, has_body}
+use Rattle.itch_print.proofs.HeldFields.{has_head, has_body}
 use Rattle.itch_print.proofs.lines.put_message.Goals as goal
 
 pub put_fields-requires : goal.put_fields-requires

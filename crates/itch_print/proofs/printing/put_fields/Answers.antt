@@ -1,4 +1,4 @@
-use Rattle.itch_print.proofs.Steps.{has_field}
+use Rattle.itch_print.proofs.HeldFields.{has_field}
 use Rattle.itch_print.proofs.printing.put_fields.Goals as goal
 
 pub put_field-requires : goal.put_field-requires

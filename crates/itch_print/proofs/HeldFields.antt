@@ -1,35 +1,15 @@
--- Steps of the printing of lines.
-use Rattle.std.proofs.Common.{◌≡◌, ℕ, ◌+◌, ◌<◌, ◌≤◌, ◌&&◌, true, List, [], ◌∷◌, ◌++◌, length, map, take, get_or, slice_index, None, IsTrue, refl, ap, sym, ◌∙◌, subst, arith}
+-- A payload of the size of its layout has the bytes of all the fields.
+use Rattle.std.proofs.Common.{◌≡◌, ℕ, ◌+◌, ◌<◌, ◌≤◌, ◌&&◌, true, List, [], ◌∷◌, length, map, get_or, slice_index, None, IsTrue, refl, sym, subst, arith}
 use Rattle.std.proofs.lemmas.Bool.{and_parts}
-use Rattle.std.proofs.lemmas.List.{take_more, get_or-map, length-map}
+use Rattle.std.proofs.lemmas.List.{get_or-map, length-map}
 use Rattle.std.proofs.lemmas.List.Elements.{All-from_recursion, All-get_or}
 use Rattle.std.specs.List.{list_all, All, AllByRecursion as Each}
-use Rattle.hex.specs.Hex.{encode_with, encode_lower}
 use Rattle.itch_layouts.specs.Layouts.{Layout, Field, layout, fields, head}
 use Rattle.itch_layouts.specs.Rows.{as_field, is_word, is_sound, is_sound_field}
 use Rattle.itch_layouts.specs.Spelling.{tiles}
 use Rattle.itch_layouts.specs.declared.table.Field.{Field as Row}
 use Rattle.itch_layouts.proofs.SpelledFields.{Tile, Tile_le, tile_of}
 use Rattle.itch_print.specs.Printing.{HasField}
-
--- ---- hexadecimal digits
-
-encode-append : (table xs ys : List ℕ) → encode_with table (xs ++ ys) ≡ encode_with table xs ++ encode_with table ys
-unfolding encode_with
-encode-append table [] ys = refl
-encode-append table (x ∷ xs) ys = rw (encode-append table xs ys) refl
-
-pub encode_none : encode_lower [] ≡ []
-unfolding encode_with
-encode_none = refl
-
--- one byte more
-pub encode_more : (bs : List ℕ) (k : ℕ) → k < length bs → encode_lower (take (k + 1) bs) ≡ encode_lower (take k bs) ++ encode_lower (get_or bs k 0 ∷ [])
-encode_more bs k h = ap encode_lower (take_more bs k 0 h) ∙ encode-append _ (take k bs) (get_or bs k 0 ∷ [])
-
-pub ruleset digits = (encode_none, encode_more)
-
--- ---- the layout of a payload
 
 -- a payload of no bytes has no layout
 pub no_layout : (payload : List ℕ) → length payload ≤ 0 → layout (slice_index payload 0) ≡ None
