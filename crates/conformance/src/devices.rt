@@ -13,14 +13,14 @@ const AMPLE: Limits = Limits {
 
 // Gives at most so many bytes a call, and fails at the call with that number; at none for 0.
 #[derive(Drop)]
-struct Trickle<'a> {
+pub(crate) struct Trickle<'a> {
     bytes: &'a [u8],
     most: usize,
     failing: u64,
     calls: u64,
 }
 
-fn pieces_of(bytes: &[u8], most: usize, failing: u64) -> Trickle<'_> {
+pub(crate) fn pieces_of(bytes: &[u8], most: usize, failing: u64) -> Trickle<'_> {
     Trickle {
         bytes,
         most,
@@ -45,11 +45,20 @@ impl Read for Trickle<'_> {
 
 // Takes one byte a call, and fails at the call with that number, by an error or by taking nothing; at none for 0.
 #[derive(Drop)]
-struct Narrow {
-    taken: Vec<u8>,
+pub(crate) struct Narrow {
+    pub(crate) taken: Vec<u8>,
     failing: u64,
     by_error: bool,
     calls: u64,
+}
+
+pub(crate) fn taking_single_bytes<R: AllocGlobal>(rt: &R, failing: u64, by_error: bool) -> Narrow {
+    Narrow {
+        taken: Vec::new(rt.alloc()),
+        failing,
+        by_error,
+        calls: 0,
+    }
 }
 
 impl Write for Narrow {
@@ -131,12 +140,7 @@ fn digits_that_fail(rt: HostRuntime) {
 fn writes_that_fail(rt: HostRuntime) {
     for by_error in [true, false] {
         for failing in 1..=4u64 {
-            let mut sink = Sink::new(Narrow {
-                taken: Vec::new(rt.alloc()),
-                failing,
-                by_error,
-                calls: 0,
-            });
+            let mut sink = Sink::new(taking_single_bytes(&rt, failing, by_error));
             let written = failing.wrapping_sub(1);
             assert_eq!(rt; send(&mut sink, b"abcd"), Err(WriteFault { written }));
             assert!(rt; sink.failed());
@@ -152,21 +156,16 @@ fn writes_that_fail(rt: HostRuntime) {
 fn reports_cut_short(rt: HostRuntime) {
     let report = b"messages 0 applied 0 passed 0 refused 0 marked no tail 0 event none\n";
     for failing in 1..=report.len() as u64 {
-        let mut narrow = Narrow {
-            taken: Vec::new(rt.alloc()),
-            failing,
-            by_error: true,
-            calls: 0,
-        };
+        let mut output = taking_single_bytes(&rt, failing, true);
         let empty = b"".as_slice();
         let answer = replay_run(
             rt.alloc(),
             &mut Feed::new(empty),
-            &mut Sink::new(&mut narrow),
+            &mut Sink::new(&mut output),
             1,
         );
         assert_eq!(rt; answer, Err(ProgFault::Write));
-        assert!(rt; report.starts_with(&narrow.taken));
-        assert_eq!(rt; (narrow.taken.len() as u64).wrapping_add(1), failing);
+        assert!(rt; report.starts_with(&output.taken));
+        assert_eq!(rt; (output.taken.len() as u64).wrapping_add(1), failing);
     }
 }

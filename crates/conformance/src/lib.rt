@@ -1,4 +1,4 @@
-//! Tests that cross crates: messages of every type, worked days with their reports, growths that are refused in turn,
+//! Tests that cross crates: messages of every type, worked days with their reports and their texts, growths that are refused in turn,
 //! and devices that fail.
 //!
 //! The expected values are worked out by hand from the rules in docs/FORMATS.md.
@@ -24,3 +24,9 @@ mod messages;
 mod payloads;
 #[cfg(test)]
 mod reports;
+#[cfg(test)]
+mod text_engines;
+#[cfg(test)]
+mod text_faults;
+#[cfg(test)]
+mod texts;

@@ -198,3 +198,62 @@ fn kinds_without_effect(rt: HostRuntime) {
     }
     assert_eq!(rt; heap.asked(), 0);
 }
+
+// Steps a machine through these payloads, and once more through each that is refused memory, which changes nothing.
+fn step_through<A: Allocator + Copy>(
+    rt: &impl Abort,
+    machine: &mut Plain<A>,
+    payloads: &[&[u8]],
+) -> u32 {
+    let mut refused = 0u32;
+    for payload in payloads {
+        let before = told_by(machine);
+        assert!(rt; machine.steps() < u32::MAX);
+        if machine.step(payload).is_err() {
+            refused = refused.wrapping_add(1);
+            assert!(rt; told_by(machine) == before);
+            assert!(rt; machine.steps() < u32::MAX);
+            assert_eq!(rt; machine.step(payload), Ok(Outcome::Applied));
+        }
+    }
+    refused
+}
+
+// Each growth of a short day refused alone: the day ends as if none had been.
+#[test]
+fn growths_refused_alone(rt: HostRuntime) {
+    let bid = add(1, b'B', 10, 100);
+    let ask = add_mpid(2, b'S', 10, 200);
+    let executed = execute(1, 1, 1);
+    let priced = execute_price(2, 1, 2, b'N', 5);
+    let moved = replace(1, 3, 7, 150);
+    let hidden = trade(b'B', 1, 1, 3);
+    let crossed = cross(9, 2, 4);
+    let payloads: [&[u8]; 8] = [
+        DIRECTORY_1,
+        &bid,
+        &ask,
+        &executed,
+        &priced,
+        &moved,
+        &hidden,
+        &crossed,
+    ];
+    let heap = Refusing::new(rt.alloc(), Refusal::Never);
+    let mut machine = Plain::new(&heap);
+    assert_eq!(rt; step_through(&rt, &mut machine, &payloads), 0);
+    let wanted = told_by(&machine);
+    assert_eq!(rt; wanted.top.bid_price, 150);
+    assert_eq!(rt; wanted.totals.trades, 3);
+    assert_eq!(rt; wanted.totals.unprinted, 1);
+    let growths = heap.asked();
+    assert!(rt; growths > 2);
+    let mut refused = 0u32;
+    for growth in 1..=growths {
+        let heap = Refusing::new(rt.alloc(), Refusal::Only(growth));
+        let mut machine = Plain::new(&heap);
+        refused = refused.wrapping_add(step_through(&rt, &mut machine, &payloads));
+        assert!(rt; told_by(&machine) == wanted, "growth {growth}");
+    }
+    assert!(rt; refused > 0);
+}

@@ -1,11 +1,13 @@
 //! The program `itch`: its words, the files that they name, and the lines that it prints on standard error.
 #![tactic(auto)]
 
+mod output;
 mod words;
 
 use binaryfile::{Feed, Sink};
 use clap::error::ErrorKind;
-use itch_engine::{ProgFault, hex_run, replay_run, status};
+use itch_engine::{ProgFault, asm_run, dis_run, hex_run, replay_run, status};
+use output::Created;
 use std::process::ExitCode;
 use std::rt::Runtime;
 use std::{env, fs, io};
@@ -36,6 +38,31 @@ fn replay<R: Runtime + AllocGlobal>(rt: &R, path: &str) -> Result<u32, ProgFault
     replay_run(rt.alloc(), &mut feed, &mut sink, 1)
 }
 
+/// Writes the text of a file on standard output.
+fn disassemble<R: Runtime + AllocGlobal>(rt: &R, path: &str) -> Result<u32, ProgFault> {
+    let Ok(file) = fs::open(rt, path) else {
+        return Err(ProgFault::Read);
+    };
+    let mut feed = Feed::new(file);
+    let mut sink = Sink::new(io::writer(rt));
+    dis_run(rt.alloc(), &mut feed, &mut sink)?;
+    Ok(0)
+}
+
+/// Makes the file that a text stands for. Where the text is faulty, the path of the output is not touched.
+fn assemble<R: Runtime + AllocGlobal>(rt: &R, text: &str, out: &str) -> Result<u32, ProgFault> {
+    let Ok(file) = fs::open(rt, text) else {
+        return Err(ProgFault::Read);
+    };
+    let mut feed = Feed::new(file);
+    let mut created = Created::new(rt, out);
+    asm_run(rt.alloc(), &mut feed, &mut Sink::new(&mut created))?;
+    match created.finish() {
+        Ok(()) => Ok(0),
+        Err(_) => Err(ProgFault::Write),
+    }
+}
+
 /// Replays the file whose hexadecimal digits are standard input, and writes its report on standard output.
 fn replay_digits<R: Runtime + AllocGlobal>(rt: &R) -> Result<u32, ProgFault> {
     let mut feed = Feed::new(rt.reader());
@@ -62,6 +89,8 @@ fn run<R: Runtime + AllocGlobal>(rt: &R, words: &[String]) -> ExitCode {
     };
     match words::chosen_task(&matches) {
         Task::Replay { file } => end(rt, replay(rt, file)),
+        Task::Disassemble { file } => end(rt, disassemble(rt, file)),
+        Task::Assemble { text, out } => end(rt, assemble(rt, text, out)),
         Task::ReplayDigits => end(rt, replay_digits(rt)),
     }
 }

@@ -11,24 +11,58 @@ use std::alloc::{AllocError, Global};
 pub enum Task<'a> {
     /// To replay a file.
     Replay { file: &'a str },
+    /// To write a file's text.
+    Disassemble { file: &'a str },
+    /// To make a file of a text.
+    Assemble { text: &'a str, out: &'a str },
     /// To replay the file whose hexadecimal digits are standard input.
     ReplayDigits,
 }
 
+/// A path that the words must name.
+fn path<'a>(alloc: Global, name: &'a str, help: &'a str) -> Arg<'a> {
+    Arg::new(alloc, name).help(help).required(true)
+}
+
+/// The word for the replay of a file.
+fn replay_command<'a>(alloc: Global) -> Result<Command<'a>, AllocError> {
+    Command::new(alloc, "replay")
+        .about("Replays a day and prints its report")
+        .arg(path(alloc, "FILE", DAY_HELP))
+}
+
+/// The word for the text of a file.
+fn dis_command<'a>(alloc: Global) -> Result<Command<'a>, AllocError> {
+    Command::new(alloc, "dis")
+        .about("Prints a day as text, one line a message")
+        .arg(path(alloc, "FILE", DAY_HELP))
+}
+
+/// The word for the file of a text.
+fn asm_command<'a>(alloc: Global) -> Result<Command<'a>, AllocError> {
+    Command::new(alloc, "asm")
+        .about("Makes the file that a text stands for")
+        .arg(path(alloc, "TEXT", "A text, as `itch dis` prints it"))?
+        .arg(path(
+            alloc,
+            "OUT",
+            "The file to make or replace, which is left alone where the text is faulty",
+        ))
+}
+
+/// What a file is.
+const DAY_HELP: &str = "A Nasdaq TotalView-ITCH 5.0 day in Nasdaq BinaryFILE form";
+
 /// The words that the program takes.
 fn itch_command<'a>(alloc: Global) -> Result<Command<'a>, AllocError> {
-    let file = Arg::new(alloc, "FILE")
-        .help("A Nasdaq TotalView-ITCH 5.0 day in Nasdaq BinaryFILE form")
-        .required(true);
-    let replay = Command::new(alloc, "replay")
-        .about("Replays a day and prints its report")
-        .arg(file)?;
     Command::new(alloc, "itch")
         .about(
             "Replays a Nasdaq TotalView-ITCH 5.0 day; without words, one in hexadecimal digits on standard input",
         )
         .disable_help_subcommand(true)
-        .subcommand(replay)
+        .subcommand(replay_command(alloc)?)?
+        .subcommand(dis_command(alloc)?)?
+        .subcommand(asm_command(alloc)?)
 }
 
 /// What the words say, or why they don't fit.
@@ -42,6 +76,17 @@ pub fn chosen_task<'a>(matches: &ArgMatches<'a>) -> Task<'a> {
         && let Some(file) = replay.get_str("FILE")
     {
         return Task::Replay { file };
+    }
+    if let Some(dis) = matches.subcommand_matches("dis")
+        && let Some(file) = dis.get_str("FILE")
+    {
+        return Task::Disassemble { file };
+    }
+    if let Some(asm) = matches.subcommand_matches("asm")
+        && let Some(text) = asm.get_str("TEXT")
+        && let Some(out) = asm.get_str("OUT")
+    {
+        return Task::Assemble { text, out };
     }
     Task::ReplayDigits
 }

@@ -1,9 +1,18 @@
 -- The exit status of the program, by what its engine answered. The numbers are of this project.
 use Rattle.std.specs.Prelude.{ℕ, zero, suc, Result, Ok, Err}
 use Rattle.itch_engine.specs.declared.fault.ProgFault.{ProgFault}
-use Rattle.itch_engine.specs.declared.fault.ProgFault.TheVariants.{Memory, Read, TooManyBytes, TooManyMessages, BadHex, Write}
+use Rattle.itch_engine.specs.declared.fault.ProgFault.TheVariants.{Memory, Read, TooManyBytes, TooManyMessages, BadHex, Write, Asm}
+use Rattle.itch_text.specs.declared.assembler.AsmFault.{AsmFault}
+use Rattle.itch_text.specs.declared.assembler.AsmFault.TheVariants.{Memory as AsmMemory, Mnemonic, Field, AfterEnd}
 
--- 4 for want of memory, and 3 for input or output that failed
+-- 4 for want of memory, and 5 for a faulty line
+abbrev pub asm_status : AsmFault → ℕ
+asm_status AsmMemory = 4
+asm_status (Mnemonic line) = 5
+asm_status (Field line) = 5
+asm_status (AfterEnd line) = 5
+
+-- 4 for want of memory, 5 for a faulty line of a text, and 3 for input or output that failed
 abbrev pub fault_status : ProgFault → ℕ
 fault_status Memory = 4
 fault_status Read = 3
@@ -11,6 +20,7 @@ fault_status TooManyBytes = 3
 fault_status TooManyMessages = 3
 fault_status BadHex = 3
 fault_status Write = 3
+fault_status (Asm fault) = asm_status fault
 
 -- 0 where no message was refused, and 1 where some were
 abbrev pub refused_status : ℕ → ℕ

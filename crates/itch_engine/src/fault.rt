@@ -2,9 +2,10 @@
 ghost use Rattle.std.specs.Prelude.{◌≡◌};
 ghost use Rattle.itch_engine.specs.ExitStatus.{exit_status};
 ghost use Rattle.itch_engine.specs.declared.fault.ProgFault.TheVariants.{Memory, Write as WriteFailed};
-ghost use Rattle.itch_engine.specs.DeviceFault.{fault_of_load};
+ghost use Rattle.itch_engine.specs.DeviceFault.{fault_of_load, fault_of_asm};
 
 use binaryfile::{LoadFault, WriteFault};
+use itch_text::AsmFault;
 use std::alloc::{AllocError, AllocFailed};
 use thiserror::Error;
 
@@ -29,6 +30,9 @@ pub enum ProgFault {
     /// The output couldn't be written.
     #[error("write failed")]
     Write,
+    /// A line of the text is faulty.
+    #[error(transparent)]
+    Asm(AsmFault),
 }
 
 impl From<AllocError> for ProgFault {
@@ -68,15 +72,28 @@ impl From<WriteFault> for ProgFault {
     }
 }
 
+impl From<AsmFault> for ProgFault {
+    ghost from_gives = { λ asm fault. fault ≡ fault_of_asm asm };
+
+    fn from(fault: AsmFault) -> ProgFault {
+        match fault {
+            AsmFault::Memory => ProgFault::Memory,
+            line => ProgFault::Asm(line),
+        }
+    }
+}
+
 /// The exit status for what an engine answered, of this project: 0 where no message was refused, 1 where some were,
-/// 3 where input or output failed and where the input isn't what it should be, and 4 for want of memory.
+/// 3 where input or output failed and where the input isn't what it should be, 4 for want of memory, and 5 where a line of
+/// a text is faulty.
 pub fn status(answer: &Result<u32, ProgFault>) -> u8
     ensures { result ≡ exit_status answer.now }
 {
     match answer {
         Ok(0) => 0,
         Ok(_) => 1,
-        Err(ProgFault::Memory) => 4,
+        Err(ProgFault::Memory | ProgFault::Asm(AsmFault::Memory)) => 4,
+        Err(ProgFault::Asm(_)) => 5,
         Err(
             ProgFault::Read
             | ProgFault::TooManyBytes

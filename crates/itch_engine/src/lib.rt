@@ -9,7 +9,9 @@ mod replay;
 mod run;
 mod stock;
 mod summary;
+mod text;
 
 pub use fault::{ProgFault, status};
 pub use hexadecimal::decode_digits;
 pub use run::{hex_run, replay_run};
+pub use text::{asm_run, dis_run};

@@ -12,7 +12,7 @@ use std::alloc::Allocator;
 use std::io::{Read, Write};
 
 /// What a file may hold: 2^40 bytes, and as many messages as a message number counts.
-const LIMITS: Limits = Limits {
+pub(crate) const LIMITS: Limits = Limits {
     bytes: 1 << 40,
     messages: u32::MAX,
 };

@@ -4,7 +4,8 @@ ghost use Rattle.std.specs.List.{flat_map};
 ghost use Rattle.itch_engine.specs.Report.{trading_words, stock_line, level_line, bid_line, ask_line, trades_line, book_lines, lines_of_stock};
 
 use crate::numbers::put_count;
-use crate::quoting::{put_byte, put_quoted};
+use crate::quoting::put_byte;
+use itch_print::put_quoted;
 use itch_table::{Level, Status, Totals, Trading};
 use std::alloc::{AllocError, Allocator};
 

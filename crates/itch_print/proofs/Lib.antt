@@ -6,3 +6,4 @@ pub mod PrintedValues
 pub mod PrintableRows
 pub mod PrintedLines
 pub mod PrintedFiles
+pub mod RoundTrip

@@ -1,10 +1,23 @@
 //! A whole file as text.
-ghost use Rattle.std.specs.Prelude.{◌≡◌, IfOk};
+ghost use Rattle.std.specs.Prelude.{◌≡◌, ◌++◌, IfOk, OnOk};
+ghost use Rattle.binaryfile.specs.Entries.{bytes_of};
+ghost use Rattle.itch_text.specs.Text.{Text};
 ghost use Rattle.itch_print.specs.Spelling.{text_of};
 
 use crate::lines::{put_end, put_payload};
 use binaryfile::Day;
 use std::alloc::{AllocError, Allocator};
+
+// Adds a line for each payload in order, and the lines of the file's end.
+#[tactic(auto, unfolding(crate::specs::Spelling::text_of))]
+fn put_day<A: Allocator>(text: &mut Vec<u8, A>, day: &Day<A>) -> Result<(), AllocError>
+    ensures { OnOk result (text.new.items ≡ text.old.items ++ text_of day.now) }
+{
+    for payload in day.payloads() {
+        put_payload(text, payload)?;
+    }
+    put_end(text, day.marked(), day.tail())
+}
 
 /// The text of a file: a line for each payload in order, and then its end. Its memory is that of `alloc`.
 ///
@@ -14,14 +27,13 @@ use std::alloc::{AllocError, Allocator};
 /// something. The form is of this project, the layouts are Nasdaq TotalView-ITCH 5.0's.
 ///
 /// The error is the want of memory. The day is unchanged.
-#[tactic(auto, unfolding(crate::specs::Spelling::text_of))]
 pub fn disassemble<A: Allocator + Copy>(alloc: A, day: &Day<A>) -> Result<Vec<u8, A>, AllocError>
-    ensures { IfOk result (λ text. text.items ≡ text_of day.now) }
+    ensures spelling { IfOk result (λ text. text.items ≡ text_of day.now) }
+    // The text denotes the very bytes that were loaded.
+    ensures denotes { IfOk result (λ text. Text text.items (bytes_of day.now)) }
 {
-    let mut text = Vec::new(alloc);
-    for payload in day.payloads() {
-        put_payload(&mut text, payload)?;
-    }
-    put_end(&mut text, day.marked(), day.tail())?;
+    // A text is never shorter than its file.
+    let mut text = Vec::with_capacity(alloc, day.bytes().len())?;
+    put_day(&mut text, day)?;
     Ok(text)
 }

@@ -7,7 +7,9 @@ mod laws;
 mod lines;
 mod printing;
 mod quoting;
+mod reassembling;
 
 pub use disassembling::disassemble;
 pub use laws::spelling_denotes;
 pub use quoting::{put_quoted, quote};
+pub use reassembling::reassembled;

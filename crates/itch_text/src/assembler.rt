@@ -9,20 +9,25 @@ use crate::fault::{LineError, LineFault};
 use crate::line::{put_line, split_line};
 use crate::place::Place;
 use std::alloc::Allocator;
+use thiserror::Error;
 
 /// Why a text was not assembled. All lines of the text are counted, from 1, and the first faulty one is named.
 ///
 /// In one line `Mnemonic` comes before `AfterEnd`, and that before `Field`. The rules are of this project.
-#[derive(Debug, Clone, Copy, PartialEq, Eq)]
+#[derive(Debug, Clone, Copy, PartialEq, Eq, Drop, Error)]
 pub enum AsmFault {
     /// Memory was refused. It says nothing of the text.
+    #[error("no memory")]
     Memory,
     /// The line's first word is neither a mnemonic nor `raw`, `end`, `cut` or `rest`.
+    #[error("line {0}: mnemonic")]
     Mnemonic(u64),
     /// What stands behind the line's first word is not what that word wants.
+    #[error("line {0}: field")]
     Field(u64),
     /// The line can't stand there: behind `end` only `rest` may stand, behind `rest` and `cut` nothing, and `rest` only
     /// behind `end`.
+    #[error("line {0}: after end")]
     AfterEnd(u64),
 }
 

@@ -1,7 +1,0 @@
-use Rattle.std.proofs.Common.{◌≡◌, ◌++◌, map}
-use Rattle.std.specs.List.{flat_map}
-use Rattle.itch_print.specs.Spelling.{ended, payload_line}
-use Rattle.itch_print.proofs.disassembling.disassemble.Given as goal
-
-abbrev pub invariant-loop-payload : goal.invariant-loop-payload
-invariant-loop-payload g l = l.text.items ++ flat_map ended (map payload_line l.payload-iterator) ≡ flat_map ended (map payload_line l.day.payloads)
