@@ -1,8 +1,8 @@
 -- What stands behind a front.
-use Rattle.std.proofs.Common.{◌≡◌, ◌≢◌, ◌⊎◌, inl, inr, ℕ, zero, suc, ◌+◌, ◌==◌, ◌&&◌, eqb, Bool, true, false, cond, List, [], ◌∷◌, ◌++◌, length, take, drop, Option, Some, None, option_map, MatchOption, refl, sym, ap, ◌∙◌, arith, ne_eqb, eq-eqb, true≢false, eqb-true, codes}
+use Rattle.std.proofs.Common.{◌≡◌, inl, inr, ℕ, ◌+◌, ◌==◌, eqb, Bool, true, false, cond, List, [], ◌∷◌, ◌++◌, length, take, drop, Option, Some, None, option_map, MatchOption, refl, sym, ap, ◌∙◌, ne_eqb, eq-eqb, true≢false, eqb-true, codes}
 use Rattle.std.proofs.lemmas.Bool.{and_parts, cases_eq, false≢true}
 use Rattle.std.specs.Cmp.Lexicographic.{pointwise}
-use Rattle.itch_layouts.specs.Layouts.{Field, Value}
+use Rattle.itch_layouts.specs.Layouts.{Field}
 use Rattle.itch_text.specs.Reading.{behind, field_in, value_in, value_behind}
 
 no_front : (front text : List ℕ) → pointwise eqb (take (length front) text) front ≡ false → behind front text ≡ None
@@ -50,4 +50,5 @@ unfolding field_in
 has_value f word text value h k = ap (value_behind f) (behind_append f.name (codes "=") word ∙ ap (after (codes "=")) h ∙ k)
 
 pub ruleset naming = (no_name, no_equals, has_value)
+
 pub ruleset stripped = (stripped_by)

@@ -1,5 +1,5 @@
 -- One byte of an escaped text.
-use Rattle.std.proofs.Common.{◌≡◌, ◌≢◌, ◌⊎◌, ℕ, zero, suc, ◌+◌, ◌<◌, ◌≤◌, ◌==◌, ◌&&◌, Bool, true, false, cond, List, [], ◌∷◌, length, drop, take, replicate, get_or, length-append, length-take-le, take-add, take_all, append-nil, length-drop, append_assoc, ltb, lt-ltb, inl, inr, ◌^◌, ◌-◌, ◌++◌, Option, Some, None, refl, sym, ap, ◌∙◌, arith, ne_eqb, eq-eqb, leb, le-leb, leb-false}
+use Rattle.std.proofs.Common.{◌≡◌, ◌≢◌, ℕ, ◌+◌, ◌<◌, ◌≤◌, true, false, List, [], ◌∷◌, length, drop, take, replicate, get_or, length-append, length-take-le, take-add, take_all, append-nil, length-drop, append_assoc, ◌-◌, ◌++◌, Option, Some, None, refl, sym, ap, ◌∙◌, arith, ne_eqb, leb, le-leb}
 use Rattle.hex.specs.Hex.{hex_digit_value}
 use Rattle.itch_text.specs.Values.{unescaped, with_first, byte_of, padded, stands_for_itself}
 use Rattle.itch_text.specs.Reading.{padded_within}
@@ -71,9 +71,6 @@ all_read width n bytes h k l e =
     let left : take (width - n) (drop n bytes) ≡ replicate (width - n) 32 = rw e (take-replicate (width - n) (8 - n) 32 (omega arith)) in
     let whole : n + (width - n) ≡ width = omega arith in
     ap (λ k. take n bytes ++ replicate (width - k) 32) short ∙ ap (λ xs. take n bytes ++ xs) (sym left) ∙ sym (take-add n (width - n) bytes) ∙ ap (λ k. take k bytes) whole
-
-pub none_read : (width : ℕ) (front : List ℕ) (o : Option (List ℕ)) → o ≡ None → padded_within width (ahead front o) ≡ None
-none_read width front o h = rw h refl
 
 pub rest_all : (xs : List ℕ) (n : ℕ) → take (length xs - n) (drop n xs) ≡ drop n xs
 rest_all xs n = take_all (length xs - n) (drop n xs) (omega (arith, length-drop n xs))

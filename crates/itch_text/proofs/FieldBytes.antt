@@ -1,6 +1,6 @@
 -- Reading the fields of a line, one after another.
-use Rattle.std.proofs.Common.{◌≡◌, ℕ, zero, suc, ◌+◌, ◌-◌, ◌*◌, ◌/◌, ◌%◌, ◌^◌, ◌<◌, ◌≤◌, List, [], ◌∷◌, ◌++◌, length, take, drop, map, get_or, Option, Some, None, option_map, refl, sym, ap, ap₂, subst, ◌∙◌, arith, append_assoc, add-one, drop-cons, mod-eq_of_lt, zero-add, le_refl, pow-suc}
-use Rattle.itch_text.proofs.Widths.{below_64, pow_more, sound_at, field_width, width_within}
+use Rattle.std.proofs.Common.{◌≡◌, ℕ, zero, suc, ◌+◌, ◌-◌, ◌^◌, ◌<◌, ◌≤◌, List, [], ◌∷◌, ◌++◌, length, drop, map, get_or, Option, Some, None, option_map, refl, sym, ap, ap₂, ◌∙◌, arith, append_assoc, add-one, drop-cons, mod-eq_of_lt, zero-add}
+use Rattle.itch_text.proofs.Widths.{below_64, pow_more}
 use Rattle.std.proofs.lemmas.Option.{same_Some, none-some}
 use Rattle.std.specs.Int.{w64, to_be_bytes}
 use Rattle.itch_layouts.specs.Layouts.{Field, Value}

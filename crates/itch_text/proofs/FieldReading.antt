@@ -1,13 +1,13 @@
 -- Reading a field gives a value exactly where its text is one of the value's.
-use Rattle.std.proofs.Common.{◌≡◌, ◌↔◌, ℕ, zero, suc, ◌+◌, ◌-◌, ◌*◌, ◌^◌, ◌<◌, ◌≤◌, ◌==◌, ◌&&◌, Bool, true, false, cond, List, [], ◌∷◌, ◌++◌, length, take, drop, slice_index, Option, Some, None, refl, sym, ap, ◌∙◌, subst, arith, eqb-true, ltb-true, leb-true, lt-ltb, le-leb, eq-eqb, nat_lt, nat_le, length-append, take_at, drop_at, get_or, take_all, take-suc, get_or-append-add, ap₂, codes}
+use Rattle.std.proofs.Common.{◌≡◌, ℕ, suc, ◌+◌, ◌-◌, ◌^◌, ◌<◌, ◌≤◌, ◌==◌, ◌&&◌, Bool, true, false, cond, List, [], ◌∷◌, ◌++◌, length, take, Option, Some, None, refl, sym, ap, ◌∙◌, subst, arith, eqb-true, ltb-true, leb-true, lt-ltb, le-leb, eq-eqb, nat_lt, nat_le, length-append, take_at, get_or, take_all, take-suc, get_or-append-add, ap₂, codes}
 use Rattle.std.proofs.lemmas.Grind.{common_steps}
 use Rattle.std.proofs.lemmas.Bool.{and_parts}
-use Rattle.std.proofs.lemmas.Option.{cond_some, same_Some, none-some}
+use Rattle.std.proofs.lemmas.Option.{same_Some, none-some}
 use Rattle.std.specs.List.{list_all}
 use Rattle.std.specs.Char.{is_digit}
 use Rattle.std.specs.Str.Parse.{AllDigits, digits_value}
 use Rattle.itch_layouts.specs.Layouts.{Field, Form, Integer, Alpha, Value, Number, Bytes}
-use Rattle.itch_text.specs.Values.{unescaped, padded, NumberText, AlphaText, ValueText, FieldText, FieldTexts}
+use Rattle.itch_text.specs.Values.{unescaped, padded, NumberText, ValueText, FieldText, FieldTexts}
 use Rattle.itch_text.specs.Reading.{behind, number_in, between_quotes, fitting, padded_within, alpha_in, value_in, value_behind, field_in, with_value, values_in}
 
 -- a guarded answer

@@ -1,15 +1,14 @@
 -- Appending the bytes of hexadecimal digits.
-use Rattle.std.proofs.Common.{◌≡◌, ◌≢◌, ◌==◌, ℕ, zero, suc, ◌+◌, ◌-◌, ◌*◌, ◌/◌, ◌%◌, ◌^◌, ◌<◌, ◌≤◌, Bool, true, false, cond, List, [], ◌∷◌, ◌++◌, length, take, drop, replicate, Option, Some, None, Result, Ok, Err, option_map, ltb, lt-ltb, refl, sym, ap, ap₂, ◌∙◌, subst, arith, append_assoc, append-nil, length-append}
+use Rattle.std.proofs.Common.{◌≡◌, ◌≢◌, ◌==◌, ℕ, suc, ◌+◌, ◌-◌, ◌*◌, ◌/◌, ◌%◌, ◌<◌, ◌≤◌, true, false, List, [], ◌∷◌, ◌++◌, length, take, drop, replicate, Option, Some, None, Result, Ok, Err, option_map, ltb, lt-ltb, refl, sym, ap, ap₂, ◌∙◌, arith, append_assoc, append-nil, length-append}
 use Rattle.std.specs.Prelude.{MatchResult}
 use Rattle.std.specs.Int.{w16, to_be_bytes}
 use Rattle.std.proofs.lemmas.Bool.Decides.{nat_tests}
-use Rattle.std.proofs.lemmas.List.{take_at, drop_at, take_all, drop_all, length-replicate, nil_from_length}
-use Rattle.std.proofs.lemmas.Option.{same_Some, none-some}
+use Rattle.std.proofs.lemmas.List.{take_at, drop_at, take_all, drop_all, length-replicate}
+use Rattle.std.proofs.lemmas.Option.{none-some}
 use Rattle.hex.specs.Hex.{decode_of, decode_sized, decode_pairs}
 use Rattle.hex.specs.declared.error.FromHexError.{FromHexError}
 use Rattle.hex.proofs.HexLemmas.{decode_of-odd, decode_of-ok, decode_sized-twice}
-use Rattle.binaryfile.specs.Entries.{entry}
-use Rattle.itch_text.specs.Items.{Item, Entry, item_bytes}
+use Rattle.itch_text.specs.Items.{Entry, item_bytes}
 use Rattle.itch_text.specs.Reading.{some_bytes, bytes_in, hex_in, is_short, when}
 use Rattle.itch_text.specs.Fields.{ahead, Puts}
 use Rattle.itch_text.specs.declared.fault.LineError.{LineError}

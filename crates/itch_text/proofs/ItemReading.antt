@@ -1,8 +1,8 @@
 -- Reading the words of a line gives an item exactly where they denote it.
-use Rattle.std.proofs.Common.{◌≡◌, ◌⊎◌, inl, inr, ℕ, suc, ◌<◌, ◌==◌, Bool, true, false, cond, List, [], ◌∷◌, ◌++◌, length, Option, Some, None, Result, Ok, Err, option_map, codes, refl, sym, ap, ap₂, ◌∙◌, subst, arith, eqb-true, ltb-true, lt-ltb, nat_lt, ne_eqb}
-use Rattle.std.proofs.lemmas.Bool.{and_parts, cases_eq, false≢true, true≢false}
+use Rattle.std.proofs.Common.{◌≡◌, inl, inr, ℕ, ◌<◌, ◌==◌, Bool, true, false, cond, List, [], ◌∷◌, length, Option, Some, None, Result, Ok, Err, option_map, codes, refl, sym, ap, ap₂, ◌∙◌, subst, arith, eqb-true, ltb-true, lt-ltb, ne_eqb}
+use Rattle.std.proofs.lemmas.Bool.{and_parts, cases_eq, false≢true}
 use Rattle.std.proofs.lemmas.Option.{same_Some, none-some}
-use Rattle.itch_layouts.specs.Layouts.{Layout, fields, Value}
+use Rattle.itch_layouts.specs.Layouts.{Layout, fields}
 use Rattle.itch_layouts.specs.Rows.{named}
 use Rattle.itch_layouts.specs.Spelling.{spelling}
 use Rattle.binaryfile.specs.Entries.{IsPartial}
@@ -10,7 +10,7 @@ use Rattle.hex.specs.Hex.{decode_of}
 use Rattle.hex.specs.declared.error.FromHexError.{FromHexError}
 use Rattle.itch_text.specs.Items.{Item, Nothing, Entry, End, Cut, Rest, Denotes, IsComment, is_comment, HexText, IsHexLine, IsMessage}
 use Rattle.itch_text.specs.Faults.{Name, Message, RawName, EndName, CutName, RestName, name_of, name_or, word_name, is}
-use Rattle.itch_text.specs.Reading.{some_bytes, bytes_in, hex_in, is_partial, is_short, when, item_in, named_item, item_of, values_in}
+use Rattle.itch_text.specs.Reading.{some_bytes, bytes_in, hex_in, is_partial, is_short, when, item_in, item_of, values_in}
 use Rattle.itch_text.proofs.FieldReading.{guarded, values_sound, values_complete}
 
 pub bytes_complete : (text bytes : List ℕ) → HexText text bytes → bytes_in text ≡ Some bytes
@@ -127,8 +127,8 @@ rest_read : (ws : List (List ℕ)) (bytes : List ℕ) → IsHexLine (codes "rest
 rest_read ws bytes h = rw (h.1, name_rest, bytes_complete h.0 bytes h.2) refl
 
 pub item_complete : (ws : List (List ℕ)) (item : Item) → Denotes ws item → item_of ws ≡ Some item
-item_complete ws Nothing h = elim h [ | inl e ↦ rw e refl | inr c ↦ comment_read ws c ]
-item_complete ws (Entry payload) h = elim h [ | inl m ↦ message_read ws payload m | inr r ↦ raw_read ws payload r.0 r.1.1 ]
+item_complete ws Nothing h = elim h [ inl e ↦ rw e refl | inr c ↦ comment_read ws c ]
+item_complete ws (Entry payload) h = elim h [ inl m ↦ message_read ws payload m | inr r ↦ raw_read ws payload r.0 r.1.1 ]
 item_complete ws End h = end_read ws h
 item_complete ws (Cut bytes) h = cut_read ws bytes h.0 h.1
 item_complete ws (Rest bytes) h = rest_read ws bytes h

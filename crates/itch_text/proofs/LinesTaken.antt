@@ -1,21 +1,20 @@
 -- A line taken where it stands, and the lines of a text taken one after another.
-use Rattle.std.proofs.Common.{◌≡◌, ◌≢◌, ℕ, zero, suc, ◌+◌, ◌<◌, ◌≤◌, Bool, true, false, List, [], ◌∷◌, ◌++◌, length, Option, Some, None, Result, Ok, Err, option_map, MatchOption, refl, sym, ap, ap₂, ◌∙◌, subst, arith, append_assoc, append-nil, add-one, length-append}
+use Rattle.std.proofs.Common.{◌≡◌, ◌≢◌, ℕ, suc, ◌+◌, ◌<◌, ◌≤◌, true, false, List, [], ◌∷◌, ◌++◌, length, Option, Some, None, Err, option_map, MatchOption, refl, sym, ap, ◌∙◌, subst, arith, append_assoc, append-nil, length-append}
 use Rattle.std.proofs.lemmas.Grind.{flat_map-append}
 use Rattle.std.proofs.lemmas.Option.{same_Some, none-some}
 use Rattle.std.specs.List.{flat_map}
 use Rattle.itch_text.specs.Words.{words}
-use Rattle.itch_text.specs.Items.{Item, Nothing, Entry, End, Cut, Rest, Denotes, Line, is_comment, item_bytes}
-use Rattle.itch_text.specs.Text.{Lines, Ordered, Text, lines_of}
+use Rattle.itch_text.specs.Items.{Item, Denotes, Line, is_comment, item_bytes}
+use Rattle.itch_text.specs.Text.{Lines, Ordered, lines_of}
 use Rattle.itch_text.specs.Faults.{Name, Message, RawName, EndName, CutName, RestName, name_of, may_stand, after, after_all, IsWrong, IsWrongAfter, IsFirstFault}
-use Rattle.itch_text.specs.Reading.{item_in, named_item, item_of}
+use Rattle.itch_text.specs.Reading.{item_in}
 use Rattle.itch_text.specs.Names.{place_behind}
 use Rattle.itch_text.specs.Fields.{ahead, Puts}
 use Rattle.itch_text.specs.Steps.{Stands, LineTaken, TakesLine, Taken, fault_at}
 use Rattle.itch_text.specs.Blames.{Blames, DenotesNothing}
-use Rattle.itch_text.specs.declared.assembler.AsmFault.{AsmFault}
 use Rattle.itch_text.specs.declared.assembler.AsmFault.TheVariants.{Memory as MemoryRefused}
 use Rattle.itch_text.specs.declared.place.Place.{Place}
-use Rattle.itch_text.specs.declared.place.Place.TheVariants.{Entries, Ended, Closed}
+use Rattle.itch_text.specs.declared.place.Place.TheVariants.{Entries}
 use Rattle.itch_text.specs.declared.fault.LineFault.{LineFault}
 use Rattle.itch_text.specs.declared.fault.LineFault.TheVariants.{Mnemonic, Field, AfterEnd}
 use Rattle.itch_text.specs.declared.fault.LineError.{LineError}
@@ -38,7 +37,7 @@ taken_by old new place next line w ws name (Some item) i e n m b h = record {
   denoted = subst (λ xs. Denotes xs item) (sym e) (item_sound w ws item name n i);
   stands = named_stands place name ws item i m;
   behind = b ∙ behind_is place name item (item_named name ws item i);
-  wrote = sym (same_Some _ _ h)
+  wrote = sym (same_Some _ _ h);
 }
 
 pub line_taken : (old new : List ℕ) (place next : Place) (line w : List ℕ) (ws : List (List ℕ)) (name : Name) → words line ≡ w ∷ ws → Some name ≡ name_of w → may_stand place name ≡ true → next ≡ place_behind name → ahead old (option_map item_bytes (item_in name ws)) ≡ Some new → LineTaken old new place line next
@@ -84,11 +83,8 @@ one_more_taken text bytes new place next number line left t l = record {
   denoted = lines_more t.front t.items line l.item t.denoted l.denoted;
   ordered = ordered_more Entries t.items l.item t.ordered (subst (λ p. Stands p l.item) t.reached l.stands);
   reached = l.behind ∙ ap (λ p. after p l.item) t.reached ∙ sym (reached_more Entries t.items l.item);
-  wrote = l.wrote ∙ ap (λ xs. xs ++ item_bytes l.item) t.wrote ∙ ap (λ xs. flat_map item_bytes t.items ++ xs) (sym (append-nil (item_bytes l.item))) ∙ sym (flat_map-append item_bytes t.items (l.item ∷ []))
+  wrote = l.wrote ∙ ap (λ xs. xs ++ item_bytes l.item) t.wrote ∙ ap (λ xs. flat_map item_bytes t.items ++ xs) (sym (append-nil (item_bytes l.item))) ∙ sym (flat_map-append item_bytes t.items (l.item ∷ []));
 }
-
-pub all_taken : (text bytes : List ℕ) (place : Place) (number : ℕ) → Taken text bytes place number [] → Text text bytes
-all_taken text bytes place number t = record { items = t.items; denoted = subst (λ ls. Lines ls t.items) (sym (append-nil t.front) ∙ sym t.split) t.denoted; ordered = t.ordered; whole = t.wrote }
 
 pub first_fault : (text bytes : List ℕ) (place : Place) (number : ℕ) (line : List ℕ) (left : List (List ℕ)) (fault : LineFault) → Taken text bytes place number (line ∷ left) → IsWrong place (words line) fault → IsFirstFault text (number + 1) fault
 first_fault text bytes place number line left fault t w = record {
@@ -100,7 +96,7 @@ first_fault text bytes place number line left fault t w = record {
   counted = omega (arith, t.counted);
   denoted = t.denoted;
   ordered = t.ordered;
-  wrong = subst (λ p. IsWrong p (words line) fault) t.reached w
+  wrong = subst (λ p. IsWrong p (words line) fault) t.reached w;
 }
 
 -- ---- the text that is left

@@ -1,24 +1,20 @@
 -- Appending the entry of a message: its size, its type and its fields.
-use Rattle.std.proofs.Common.{◌≡◌, ℕ, suc, ◌+◌, ◌-◌, ◌≤◌, List, [], ◌∷◌, ◌++◌, length, replicate, Option, Some, None, Result, Ok, Err, option_map, MatchOption, is_some, Bool, true, false, IsTrue, refl, sym, ap, ◌∙◌, subst, arith, append_assoc, append-nil, length-append}
+use Rattle.std.proofs.Common.{◌≡◌, ℕ, ◌+◌, ◌-◌, List, [], ◌∷◌, ◌++◌, length, replicate, Option, Some, None, Err, option_map, MatchOption, is_some, true, false, IsTrue, refl, sym, ap, ◌∙◌, subst, arith, append_assoc, append-nil, length-append}
 use Rattle.std.proofs.lemmas.Bool.{false≢true, true≢false}
 use Rattle.std.proofs.lemmas.List.{length-replicate}
-use Rattle.std.proofs.lemmas.Option.{same_Some, none-some}
+use Rattle.std.proofs.lemmas.Option.{none-some}
 use Rattle.std.specs.Int.{w16, to_be_bytes}
-use Rattle.std.specs.Borrow.{Bor}
 use Rattle.itch_layouts.specs.Layouts.{Form, Integer, Alpha, Field, Layout, Value, Number, Bytes, fields, head}
 use Rattle.itch_layouts.specs.Rows.{is_sound}
-use Rattle.itch_layouts.specs.Spelling.{spelled, spelling, tiles}
+use Rattle.itch_layouts.specs.Spelling.{spelled, spelling}
 use Rattle.itch_layouts.proofs.Digits.{length_digits}
 use Rattle.itch_layouts.proofs.SpelledFields.{Tile, tile_of}
-use Rattle.itch_text.specs.Items.{Item, Entry, item_bytes}
-use Rattle.itch_text.specs.Faults.{Message}
-use Rattle.itch_text.specs.Words.{words}
-use Rattle.itch_text.specs.Values.{padded, ValueText, FieldTexts}
-use Rattle.itch_text.specs.Reading.{values_in, item_in}
+use Rattle.itch_text.specs.Items.{Entry, item_bytes}
+use Rattle.itch_text.specs.Values.{ValueText, FieldTexts}
+use Rattle.itch_text.specs.Reading.{values_in}
 use Rattle.itch_text.specs.Fields.{ahead, fields_bytes, Puts, PutsFields}
 use Rattle.itch_text.specs.declared.fault.LineError.{LineError}
 use Rattle.itch_text.specs.declared.fault.LineError.TheVariants.{Memory, Wrong}
-use Rattle.itch_text.specs.declared.fault.LineFault.{LineFault}
 use Rattle.itch_text.proofs.FieldReading.{values_sound}
 use Rattle.itch_text.proofs.Widths.{row_tiles}
 

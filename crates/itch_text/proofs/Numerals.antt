@@ -1,6 +1,6 @@
 -- Reading the digits of a number, and its fit.
-use Rattle.std.proofs.Common.{◌≡◌, ◌≢◌, ◌⊎◌, inl, inr, ℕ, zero, suc, ◌+◌, ◌*◌, ◌^◌, ◌<◌, ◌≤◌, Bool, true, false, List, [], ◌∷◌, length, drop, get_or, ltb, lt-ltb, leb, leb-true, leb-false, Option, Some, None, option_map, refl, sym, ap, ◌∙◌, arith, add-one, drop-cons}
-use Rattle.std.specs.Str.Parse.{AllDigits, digits_value, digits_value_after}
+use Rattle.std.proofs.Common.{◌≡◌, inl, inr, ℕ, suc, ◌+◌, ◌*◌, ◌^◌, ◌<◌, ◌≤◌, Bool, true, false, List, [], ◌∷◌, length, drop, get_or, ltb, lt-ltb, leb, leb-true, leb-false, Option, Some, None, option_map, refl, sym, ap, ◌∙◌, arith, drop-cons}
+use Rattle.std.specs.Str.Parse.{digits_value_after}
 use Rattle.std.specs.Char.{digit_value}
 use Rattle.std.specs.Bool.{then_some}
 use Rattle.std.proofs.lemmas.Bool.{cases_lt}
@@ -25,7 +25,7 @@ not_lt : (m n : ℕ) → n ≤ m → ltb m n ≡ false
 not_lt m n h = grind (arith, nat_tests)
 
 le_of_not : (m n : ℕ) → (m < n → ⊥) → n ≤ m
-le_of_not m n h = elim (cases_lt m n) [ | inl l ↦ absurd (h l) | inr l ↦ l ]
+le_of_not m n h = elim (cases_lt m n) [ inl l ↦ absurd (h l) | inr l ↦ l ]
 
 number_fits : (text : List ℕ) (n width g : ℕ) → NumberText text n → g + 1 ≡ 256 ^ width → n ≤ g → fitting width (number_in text) ≡ Some (Number n)
 number_fits text n width g h e l = rw (number_complete text n h, lt-ltb n (256 ^ width) (omega (arith, e))) refl
@@ -48,4 +48,4 @@ kept_by text n width g false h e l = sym (number_exceeds text n width g h e (leb
 pub number_kept : (text : List ℕ) (n width g : ℕ) (o : Option ℕ) → NumberText text n → g + 1 ≡ 256 ^ width → o ≡ then_some (leb n g) n → option_map Number o ≡ fitting width (number_in text)
 number_kept text n width g o h e k = ap (option_map Number) k ∙ kept_by text n width g (leb n g) h e refl
 
-pub ruleset numbers = (no_number)
+pub ruleset numbers = (no_number, number_kept)

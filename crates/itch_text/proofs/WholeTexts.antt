@@ -1,20 +1,19 @@
 -- A text denotes at most one string of bytes, and none where a line of it is wrong.
-use Rattle.std.proofs.Common.{◌≡◌, ℕ, suc, ◌+◌, ◌<◌, Bool, true, false, List, [], ◌∷◌, ◌++◌, length, Option, Some, None, option_map, refl, sym, ap, ap₂, ◌∙◌, subst}
+use Rattle.std.proofs.Common.{◌≡◌, ℕ, Bool, true, false, List, [], ◌∷◌, ◌++◌, Option, Some, None, refl, sym, ap, ap₂, ◌∙◌, subst}
 use Rattle.std.proofs.lemmas.Bool.{false≢true}
 use Rattle.std.proofs.lemmas.Option.{none-some}
 use Rattle.std.specs.List.{flat_map}
 use Rattle.itch_layouts.specs.Layouts.{fields}
 use Rattle.itch_layouts.specs.Spelling.{spelling}
 use Rattle.itch_text.specs.Words.{words}
-use Rattle.itch_text.specs.Items.{Item, Nothing, Entry, End, Cut, Rest, Denotes, Line, is_comment, item_bytes}
+use Rattle.itch_text.specs.Items.{Item, Nothing, Entry, End, Cut, Rest, Denotes, item_bytes}
 use Rattle.itch_text.specs.Text.{Ordered, Lines, Text, lines_of, HasOneMeaning}
 use Rattle.itch_text.specs.Faults.{Name, Message, RawName, EndName, CutName, RestName, name_of, may_stand, after, after_all, IsWrong, IsWrongAfter, IsWrongBehindName, IsFirstFault}
-use Rattle.itch_text.specs.Reading.{hex_in, is_partial, is_short, when, item_in, named_item, item_of, values_in}
+use Rattle.itch_text.specs.Reading.{hex_in, is_partial, is_short, when, item_in, named_item, values_in}
 use Rattle.itch_text.specs.Steps.{Stands}
 use Rattle.itch_text.specs.declared.place.Place.{Place}
 use Rattle.itch_text.specs.declared.place.Place.TheVariants.{Entries, Ended, Closed}
 use Rattle.itch_text.specs.declared.fault.LineFault.{LineFault}
-use Rattle.itch_text.specs.declared.fault.LineFault.TheVariants.{Mnemonic, Field, AfterEnd}
 use Rattle.itch_text.proofs.ItemReading.{item_complete, one_item, map_some}
 
 -- lines denote at most one list of items

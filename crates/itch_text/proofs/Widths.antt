@@ -1,9 +1,9 @@
 -- The widths of fields.
-use Rattle.std.proofs.Common.{◌≡◌, ◌≢◌, ◌==◌, ◌&&◌, ◌||◌, ℕ, zero, suc, ◌+◌, ◌-◌, ◌*◌, ◌^◌, ◌<◌, ◌≤◌, Bool, true, false, List, [], ◌∷◌, ◌++◌, length, map, get_or, IsTrue, refl, sym, ap, ◌∙◌, subst, arith, zero-add, le_refl, pow-suc, lit≤}
+use Rattle.std.proofs.Common.{◌≡◌, ◌≢◌, ◌&&◌, ℕ, zero, suc, ◌+◌, ◌-◌, ◌^◌, ◌<◌, ◌≤◌, List, [], ◌∷◌, length, map, get_or, IsTrue, refl, sym, subst, arith, zero-add, le_refl, pow-suc}
 use Rattle.std.proofs.lemmas.Bool.Decides.{nat_tests}
 use Rattle.std.proofs.lemmas.Bool.{and_parts}
 use Rattle.std.specs.List.{list_all}
-use Rattle.itch_layouts.specs.Layouts.{Form, Integer, Alpha, Field, Layout, fields, head}
+use Rattle.itch_layouts.specs.Layouts.{Form, Integer, Alpha, Field, Layout, fields}
 use Rattle.itch_layouts.specs.Rows.{is_width, is_sound_field, is_sound, is_word}
 use Rattle.itch_layouts.specs.Spelling.{tiles}
 
@@ -39,29 +39,10 @@ below_64 n width h l =
     let most : 256 ^ width ≤ 256 ^ 8 = subst (λ k. 256 ^ width ≤ 256 ^ k) whole (pow_more (8 - width) width) in
     omega (arith, most)
 
--- ---- the fields of a row that is sound are
-both_sound : (fs gs : List Field) → IsTrue (list_all is_sound_field (fs ++ gs)) → IsTrue (list_all is_sound_field fs) × IsTrue (list_all is_sound_field gs)
-both_sound [] gs h = (refl, h)
-both_sound (f ∷ fs) gs h =
-    let p = and_parts (is_sound_field f) (list_all is_sound_field (fs ++ gs)) h in
-    let q = both_sound fs gs p.1 in
-    (rw (p.0, q.0) refl, q.1)
-
-pub row_fields : (row : Layout) → IsTrue (is_sound row) → IsTrue (list_all is_sound_field (fields row))
-row_fields row h =
-    let p = and_parts (is_word row.mnemonic && list_all is_sound_field (fields row)) (tiles 1 (fields row) row.size) h in
-    (and_parts (is_word row.mnemonic) (list_all is_sound_field (fields row)) p.0).1
-
 pub row_tiles : (row : Layout) → IsTrue (is_sound row) → IsTrue (tiles 1 (fields row) row.size)
 row_tiles row h = (and_parts (is_word row.mnemonic && list_all is_sound_field (fields row)) (tiles 1 (fields row) row.size) h).1
-
-pub body_sound : (row : Layout) → IsTrue (is_sound row) → IsTrue (list_all is_sound_field row.body)
-body_sound row h = (both_sound head row.body (row_fields row h)).1
 
 pub sound_at : {X : Type 0} (f : X → Field) (xs : List X) (k : ℕ) (d : X) → IsTrue (list_all is_sound_field (map f xs)) → k < length xs → IsTrue (is_sound_field (f (get_or xs k d)))
 sound_at f [] k d h l = absurd (omega arith)
 sound_at f (x ∷ xs) zero d h l = (and_parts (is_sound_field (f x)) (list_all is_sound_field (map f xs)) h).0
 sound_at f (x ∷ xs) (suc k) d h l = sound_at f xs k d (and_parts (is_sound_field (f x)) (list_all is_sound_field (map f xs)) h).1 (omega arith)
-
-pub field_width : (field : Field) → IsTrue (is_sound_field field) → IsTrue (is_width field.form field.width)
-field_width field h = (and_parts (is_word field.name) (is_width field.form field.width) h).1

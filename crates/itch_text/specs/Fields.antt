@@ -1,5 +1,5 @@
 -- The values of fields as the program has them, and what it appends for the words of fields.
-use Rattle.std.specs.Prelude.{◌≡◌, ℕ, ◌^◌, ◌<◌, ◌+◌, List, [], ◌∷◌, ◌++◌, length, take, Option, Some, None, Result, Ok, Err, option_map}
+use Rattle.std.specs.Prelude.{◌≡◌, ℕ, ◌^◌, ◌<◌, List, ◌++◌, length, take, Option, Some, None, Result, Ok, Err, option_map}
 use Rattle.std.specs.Borrow.{Bor}
 use Rattle.itch_layouts.specs.Layouts.{Field, Value, Number, Bytes}
 use Rattle.itch_layouts.specs.Spelling.{spelled, spelling}

@@ -1,5 +1,5 @@
 -- What a line gives where it stands, and what the lines before a place in a text gave.
-use Rattle.std.specs.Prelude.{◌≡◌, ℕ, List, [], ◌∷◌, ◌++◌, length, Result, Ok, Err}
+use Rattle.std.specs.Prelude.{◌≡◌, ℕ, List, ◌++◌, length, Result, Ok, Err}
 use Rattle.std.specs.List.{flat_map}
 use Rattle.itch_text.specs.Items.{Item, Nothing, Entry, End, Cut, Rest, Line, item_bytes}
 use Rattle.itch_text.specs.Text.{Lines, Ordered, lines_of}

@@ -56,7 +56,11 @@ fn read_field(field: &Field, word: &[u8]) -> Option<FieldValue>
 
 /// Appends the bytes of a value in a field so wide.
 #[tactic(auto, using(crate::proofs::FieldBytes::digits))]
-fn put_value<A: Allocator>(out: &mut Vec<u8, A>, width: u8, value: FieldValue) -> Result<(), AllocError>
+fn put_value<A: Allocator>(
+    out: &mut Vec<u8, A>,
+    width: u8,
+    value: FieldValue,
+) -> Result<(), AllocError>
     requires width { width ≤ 8 }
     requires fills { Fills width (as_value width value) }
     ensures { OnOk result (out.new.items ≡ out.old.items ++ spelled width (as_value width value)) }
@@ -74,7 +78,11 @@ fn put_value<A: Allocator>(out: &mut Vec<u8, A>, width: u8, value: FieldValue) -
 
 /// Appends the bytes of a word in a field.
 #[tactic(auto, using(crate::proofs::FieldBytes::putting))]
-fn put_field<A: Allocator>(out: &mut Vec<u8, A>, field: &Field, word: &[u8]) -> Result<(), LineError>
+fn put_field<A: Allocator>(
+    out: &mut Vec<u8, A>,
+    field: &Field,
+    word: &[u8],
+) -> Result<(), LineError>
     requires { IsTrue (is_sound_field (as_field field.now)) }
     ensures { Puts out.old.items out.new.items (field_bytes (as_field field.now) word.now) result }
 {

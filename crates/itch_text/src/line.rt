@@ -63,7 +63,11 @@ fn put_item<A: Allocator>(out: &mut Vec<u8, A>, name: Name, line: &[u8]) -> Resu
 }
 
 /// Appends what a line at this place denotes, and answers where the next line stands.
-pub(crate) fn put_line<A: Allocator>(out: &mut Vec<u8, A>, place: Place, line: &[u8]) -> Result<Place, LineError>
+pub(crate) fn put_line<A: Allocator>(
+    out: &mut Vec<u8, A>,
+    place: Place,
+    line: &[u8],
+) -> Result<Place, LineError>
     ensures { TakesLine out.old.items out.new.items place line.now result }
 {
     let Some((word, rest)) = split_word(line) else {

@@ -14,7 +14,11 @@ use itch_layouts::{Layout, head_fields};
 use std::alloc::Allocator;
 
 /// Appends the entry of a message of this layout, whose fields are the words of a line, all of them in their order.
-pub(crate) fn put_message<A: Allocator>(out: &mut Vec<u8, A>, row: &Layout, line: &[u8]) -> Result<(), LineError>
+pub(crate) fn put_message<A: Allocator>(
+    out: &mut Vec<u8, A>,
+    row: &Layout,
+    line: &[u8],
+) -> Result<(), LineError>
     requires { IsTrue (is_sound (as_layout row.now)) }
     ensures { Puts out.old.items out.new.items (option_map item_bytes (item_in (Message (as_layout row.now)) (words line.now))) result }
 {

@@ -1,4 +1,4 @@
-use Rattle.std.proofs.Common.{◌≡◌, ◌+◌, ◌-◌, false, arith, length, length-drop, drop, take, ne_eqb, get_or}
+use Rattle.std.proofs.Common.{◌≡◌, ◌+◌, false, arith, length-drop, ne_eqb, get_or}
 use Rattle.std.proofs.lemmas.List.Elements.{All-more}
 use Rattle.itch_text.specs.Text.{is_line_feed}
 use Rattle.itch_text.proofs.FirstLine.{line_found, no_line_feed, rest_all}

@@ -1,4 +1,4 @@
-use Rattle.std.proofs.Common.{sym, refl, ◌∙◌, ap, ◌++◌, ◌∷◌, [], map}
+use Rattle.std.proofs.Common.{sym, refl, ◌∙◌, map}
 use Rattle.std.proofs.lemmas.Result.{err_from_is_err_and}
 use Rattle.itch_layouts.specs.Rows.{as_field, as_layout}
 use Rattle.itch_text.specs.Words.{words}

@@ -1,7 +1,5 @@
-use Rattle.std.proofs.Common.{◌≡◌, sym, ap, ◌∙◌, arith, slice_index, drop}
-use Rattle.itch_text.specs.Values.{unescaped, with_first, byte_of}
-use Rattle.hex.specs.Hex.{hex_digit_value}
-use Rattle.std.specs.Prelude.{Some}
+use Rattle.std.proofs.Common.{sym, ap, ◌∙◌, arith, drop}
+use Rattle.itch_text.specs.Values.{unescaped, with_first}
 use Rattle.itch_text.proofs.Escapes.{plain_first, escaped_byte, rest_all}
 use Rattle.itch_text.proofs.quoted.next_byte.Goals as goal
 

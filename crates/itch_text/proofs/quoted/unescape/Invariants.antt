@@ -8,7 +8,7 @@ invariant-bytes l = record {
   read : unescaped l.inner ≡ ahead (take l.length l.bytes) (unescaped l.rest);
   within : l.length ≤ l.width;
   long : length l.bytes ≡ 8;
-  left : drop l.length l.bytes ≡ replicate (8 - l.length) 32
+  left : drop l.length l.bytes ≡ replicate (8 - l.length) 32;
 }
 
 abbrev pub decreases-bytes : goal.decreases-bytes
