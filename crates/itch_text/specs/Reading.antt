@@ -9,7 +9,7 @@ use Rattle.itch_layouts.specs.Layouts.{Field, Form, Integer, Alpha, Value, Numbe
 use Rattle.itch_layouts.specs.Spelling.{spelling}
 use Rattle.itch_text.specs.Words.{is_word}
 use Rattle.itch_text.specs.Values.{unescaped, padded}
-use Rattle.itch_text.specs.Items.{Item, Nothing, Entry, End, Cut, Rest, is_comment}
+use Rattle.itch_text.specs.Items.{Item, Nothing, Entry, End, Cut, Rest, is_comment, item_bytes}
 use Rattle.itch_text.specs.Faults.{Name, Message, RawName, EndName, CutName, RestName, name_of}
 
 -- what stands behind a front, where the text begins with it
@@ -104,6 +104,10 @@ item_in EndName [] = Some End
 item_in EndName (w ∷ ws) = None
 item_in CutName ws = option_map Cut (when is_partial (hex_in ws))
 item_in RestName ws = option_map Rest (hex_in ws)
+
+-- the bytes of what a name and the words behind it denote
+abbrev pub named_bytes : Name → List (List ℕ) → Option (List ℕ)
+named_bytes name ws = option_map item_bytes (item_in name ws)
 
 abbrev pub named_item : Option Name → List (List ℕ) → Option Item
 named_item None ws = None

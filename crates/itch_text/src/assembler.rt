@@ -22,11 +22,11 @@ pub enum AsmFault {
     /// The line's first word is neither a mnemonic nor `raw`, `end`, `cut` or `rest`.
     #[error("line {0}: mnemonic")]
     Mnemonic(u64),
-    /// What stands behind the line's first word is not what that word wants.
+    /// The line's first word is a name, and what stands behind it is not what a line of that name has.
     #[error("line {0}: field")]
     Field(u64),
-    /// The line can't stand there: behind `end` only `rest` may stand, behind `rest` and `cut` nothing, and `rest` only
-    /// behind `end`.
+    /// The line can't stand there: behind `end` only `rest` may stand, behind `rest` and `cut` nothing, and `rest`
+    /// nowhere but behind `end`.
     #[error("line {0}: after end")]
     AfterEnd(u64),
 }
@@ -46,6 +46,7 @@ fn fault_at(line: u64, error: LineError) -> AsmFault
 /// The bytes of the file that a text denotes. The text form is of this project.
 ///
 /// A fault names the first faulty line, and then the text denotes no bytes at all; `Memory` says nothing of the text.
+/// After a fault there is no value, and what was appended is given back.
 pub fn assemble<A: Allocator + Copy>(alloc: A, text: &[u8]) -> Result<Vec<u8, A>, AsmFault>
     ensures bytes { IfOk result (λ bytes. Text text.now bytes.items) }
     ensures first_fault { IfErr result (Blames text.now) }

@@ -5,7 +5,7 @@ ghost use Rattle.itch_text.specs.declared.fault.LineError.TheVariants.{Memory as
 use std::alloc::{AllocError, AllocFailed};
 
 /// What is wrong with a line.
-#[derive(Debug, Clone, Copy, PartialEq, Eq)]
+#[derive(Clone, Copy)]
 pub(crate) enum LineFault {
     /// It begins with no name of a line.
     Mnemonic,

@@ -1,9 +1,8 @@
 //! Lines of hexadecimal digits.
-ghost use Rattle.std.specs.Prelude.{◌≡◌, IsTrue, option_map};
+ghost use Rattle.std.specs.Prelude.{◌≡◌};
 ghost use Rattle.itch_text.specs.Words.{words};
-ghost use Rattle.itch_text.specs.Items.{item_bytes};
 ghost use Rattle.itch_text.specs.Faults.{CutName, RawName, RestName};
-ghost use Rattle.itch_text.specs.Reading.{bytes_in, hex_in, is_partial, item_in};
+ghost use Rattle.itch_text.specs.Reading.{bytes_in, hex_in, is_partial, named_bytes};
 ghost use Rattle.itch_text.specs.Fields.{Puts};
 
 use crate::fault::{LineError, LineFault};
@@ -50,7 +49,7 @@ fn is_partial(bytes: &[u8]) -> bool
 
 /// Appends the entry of a line of `raw`, whose words behind the name are these.
 pub(crate) fn put_raw<A: Allocator>(out: &mut Vec<u8, A>, line: &[u8]) -> Result<(), LineError>
-    ensures { Puts out.old.items out.new.items (option_map item_bytes (item_in RawName (words line.now))) result }
+    ensures { Puts out.old.items out.new.items (named_bytes RawName (words line.now)) result }
 {
     let Some(digits) = only_word(line) else {
         return Err(LineError::Wrong(LineFault::Field));
@@ -64,7 +63,7 @@ pub(crate) fn put_raw<A: Allocator>(out: &mut Vec<u8, A>, line: &[u8]) -> Result
 
 /// Appends the bytes of a line of `cut`, whose words behind the name are these.
 pub(crate) fn put_cut<A: Allocator>(out: &mut Vec<u8, A>, line: &[u8]) -> Result<(), LineError>
-    ensures { Puts out.old.items out.new.items (option_map item_bytes (item_in CutName (words line.now))) result }
+    ensures { Puts out.old.items out.new.items (named_bytes CutName (words line.now)) result }
 {
     let start = out.len();
     put_bytes(out, line)?;
@@ -77,7 +76,7 @@ pub(crate) fn put_cut<A: Allocator>(out: &mut Vec<u8, A>, line: &[u8]) -> Result
 
 /// Appends the bytes of a line of `rest`, whose words behind the name are these.
 pub(crate) fn put_rest<A: Allocator>(out: &mut Vec<u8, A>, line: &[u8]) -> Result<(), LineError>
-    ensures { Puts out.old.items out.new.items (option_map item_bytes (item_in RestName (words line.now))) result }
+    ensures { Puts out.old.items out.new.items (named_bytes RestName (words line.now)) result }
 {
     put_bytes(out, line)
 }

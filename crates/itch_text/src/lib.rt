@@ -1,4 +1,11 @@
 //! The text form of a day file, and the assembler.
+//!
+//! A text has a line for each entry of the file, in their order: a message by its mnemonic and fields, or any payload
+//! by `raw` and its bytes in hexadecimal digits. `end` is the end marker and `rest` the bytes behind it; `cut` is less
+//! than a whole entry, where a file stops inside one. Blank lines, and lines that begin with `#`, denote nothing.
+//!
+//! [`assemble`] gives the bytes of the file that a text denotes, or its first faulty line. [`one_meaning`] is the law
+//! that a text denotes at most one string of bytes.
 #![tactic(auto)]
 
 mod assembler;

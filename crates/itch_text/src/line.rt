@@ -1,10 +1,10 @@
 //! A line of a text, taken where it stands.
-ghost use Rattle.std.specs.Prelude.{◌≡◌, ◌<◌, ◌∷◌, [], length, MatchOption, option_map};
+ghost use Rattle.std.specs.Prelude.{◌≡◌, ◌<◌, ◌∷◌, [], length, MatchOption};
 ghost use Rattle.itch_text.specs.Words.{words};
-ghost use Rattle.itch_text.specs.Items.{is_comment, item_bytes};
+ghost use Rattle.itch_text.specs.Items.{is_comment};
 ghost use Rattle.itch_text.specs.Text.{lines_of};
 ghost use Rattle.itch_text.specs.Faults.{EndName};
-ghost use Rattle.itch_text.specs.Reading.{item_in};
+ghost use Rattle.itch_text.specs.Reading.{named_bytes};
 ghost use Rattle.itch_text.specs.Names.{HasSoundRow, as_name};
 ghost use Rattle.itch_text.specs.Fields.{Puts};
 ghost use Rattle.itch_text.specs.Steps.{TakesLine};
@@ -20,7 +20,9 @@ use std::alloc::Allocator;
 /// The first line of a text, and what stands behind its line feed, where it has one.
 #[tactic(auto, using(crate::proofs::FirstLine::splitting))]
 pub(crate) fn split_line(text: &[u8]) -> (&[u8], Option<&[u8]>)
-    ensures { MatchOption result.1 (lines_of text.now ≡ result.0.now ∷ []) (λ rest. (lines_of text.now ≡ result.0.now ∷ lines_of rest.now) × (length rest.now < length text.now)) }
+    ensures { MatchOption result.1
+        (lines_of text.now ≡ result.0.now ∷ [])
+        (λ rest. (lines_of text.now ≡ result.0.now ∷ lines_of rest.now) × (length rest.now < length text.now)) }
 {
     for index in 0..text.len() {
         if text[index] == b'\n' {
@@ -39,7 +41,7 @@ fn is_comment(word: &[u8]) -> bool
 
 /// Appends the end marker, where no word stands behind the name of its line.
 fn put_end<A: Allocator>(out: &mut Vec<u8, A>, line: &[u8]) -> Result<(), LineError>
-    ensures { Puts out.old.items out.new.items (option_map item_bytes (item_in EndName (words line.now))) result }
+    ensures { Puts out.old.items out.new.items (named_bytes EndName (words line.now)) result }
 {
     if split_word(line).is_some() {
         return Err(LineError::Wrong(LineFault::Field));
@@ -51,7 +53,7 @@ fn put_end<A: Allocator>(out: &mut Vec<u8, A>, line: &[u8]) -> Result<(), LineEr
 /// Appends what a line of this name denotes, whose words behind the name are these.
 fn put_item<A: Allocator>(out: &mut Vec<u8, A>, name: Name, line: &[u8]) -> Result<(), LineError>
     requires { HasSoundRow name }
-    ensures { Puts out.old.items out.new.items (option_map item_bytes (item_in (as_name name) (words line.now))) result }
+    ensures { Puts out.old.items out.new.items (named_bytes (as_name name) (words line.now)) result }
 {
     match name {
         Name::Message(row) => put_message(out, row, line),

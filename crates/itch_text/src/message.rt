@@ -1,10 +1,9 @@
 //! The line of a message.
-ghost use Rattle.std.specs.Prelude.{◌≡◌, IsTrue, option_map};
+ghost use Rattle.std.specs.Prelude.{IsTrue};
 ghost use Rattle.itch_layouts.specs.Rows.{as_layout, is_sound};
 ghost use Rattle.itch_text.specs.Words.{words};
-ghost use Rattle.itch_text.specs.Items.{item_bytes};
 ghost use Rattle.itch_text.specs.Faults.{Message};
-ghost use Rattle.itch_text.specs.Reading.{item_in};
+ghost use Rattle.itch_text.specs.Reading.{named_bytes};
 ghost use Rattle.itch_text.specs.Fields.{Puts};
 
 use crate::fault::{LineError, LineFault};
@@ -20,7 +19,7 @@ pub(crate) fn put_message<A: Allocator>(
     line: &[u8],
 ) -> Result<(), LineError>
     requires { IsTrue (is_sound (as_layout row.now)) }
-    ensures { Puts out.old.items out.new.items (option_map item_bytes (item_in (Message (as_layout row.now)) (words line.now))) result }
+    ensures { Puts out.old.items out.new.items (named_bytes (Message (as_layout row.now)) (words line.now)) result }
 {
     out.extend_from_slice(&row.size.to_be_bytes())?;
     out.push(row.kind)?;

@@ -6,7 +6,7 @@ ghost use Rattle.itch_text.specs.Names.{as_name};
 use crate::name::Name;
 
 /// Where a line stands in a text, which decides which lines may stand there.
-#[derive(Debug, Clone, Copy, PartialEq, Eq)]
+#[derive(Clone, Copy)]
 pub(crate) enum Place {
     /// Before the end marker.
     Entries,

@@ -39,7 +39,9 @@ fn stands_for_itself(byte: u8) -> bool
 #[tactic(auto, using(crate::proofs::Escapes::escapes))]
 fn next_byte(text: &[u8]) -> Option<(u8, &[u8])>
     requires { 0 < length text.now }
-    ensures byte { MatchOption result (unescaped text.now ≡ None) (λ next. unescaped text.now ≡ with_first (Some next.0) (unescaped next.1.now)) }
+    ensures byte { MatchOption result
+        (unescaped text.now ≡ None)
+        (λ next. unescaped text.now ≡ with_first (Some next.0) (unescaped next.1.now)) }
     ensures shorter { IfSome result (λ next. length next.1.now < length text.now) }
 {
     let byte = text[0];
