@@ -1,6 +1,6 @@
 //! The names that lines begin with.
 ghost use Rattle.std.specs.Prelude.{◌≡◌, option_map, IfSome};
-ghost use Rattle.itch_text.specs.Faults.{name_of};
+ghost use Rattle.itch_text.specs.Faults.{name_of, word_name};
 ghost use Rattle.itch_text.specs.Names.{HasSoundRow, as_name, place_behind};
 
 use crate::place::Place;
@@ -34,20 +34,28 @@ impl Name {
     }
 }
 
-/// The name that a word is, or `None` where it is none.
-#[tactic(auto, unfolding(crate::specs::Faults::name_of))]
-pub(crate) fn name_of(word: &[u8]) -> Option<Name>
-    ensures name { option_map as_name result ≡ name_of word.now }
+/// The name of a line of no message that a word is, or `None` where it is none.
+fn word_name(word: &[u8]) -> Option<Name>
+    ensures name { option_map as_name result ≡ word_name word.now }
     ensures sound { IfSome result HasSoundRow }
 {
-    if let Some(row) = layout_of_mnemonic(word) {
-        return Some(Name::Message(row));
-    }
     match word {
         b"raw" => Some(Name::Raw),
         b"end" => Some(Name::End),
         b"cut" => Some(Name::Cut),
         b"rest" => Some(Name::Rest),
         _ => None,
+    }
+}
+
+/// The name that a word is, or `None` where it is none.
+#[tactic(auto, unfolding(crate::specs::Faults::name_of))]
+pub(crate) fn name_of(word: &[u8]) -> Option<Name>
+    ensures name { option_map as_name result ≡ name_of word.now }
+    ensures sound { IfSome result HasSoundRow }
+{
+    match layout_of_mnemonic(word) {
+        Some(row) => Some(Name::Message(row)),
+        None => word_name(word),
     }
 }
