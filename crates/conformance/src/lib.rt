@@ -1,7 +1,7 @@
-//! Tests that cross crates: messages of every type, worked days with their reports and their texts, growths that are refused in turn,
-//! and devices that fail.
+//! Tests that cross crates: messages of every type, worked days with their reports and their texts, growths that are
+//! refused in turn, and devices that fail.
 //!
-//! The expected values are worked out by hand from the rules in docs/FORMATS.md.
+//! The expected values are worked out from the rules in docs/FORMATS.md, by hand or by a program apart from this one.
 #![tactic(auto)]
 
 #[cfg(test)]

@@ -2,7 +2,7 @@
 use crate::devices::{pieces_of, taking_single_bytes};
 use binaryfile::{Day, Feed, Limits, Sink};
 use itch_engine::{ProgFault, asm_run, dis_run, status};
-use itch_print::{disassemble, quote, reassembled};
+use itch_print::{disassemble, put_quoted, quote, reassembled};
 use itch_text::{AsmFault, assemble};
 use refusing::{Refusal, Refusing};
 use std::test::Fail;
@@ -130,7 +130,7 @@ fn writes_that_fail(rt: HostRuntime) {
 // A list that is refused more room than it needs may make do with less; where all growths are refused from one on, there
 // is no value, and what was lent is as it was.
 #[test]
-fn refused_memory(rt: HostRuntime) -> Result<(), Fail> {
+fn texts_without_memory(rt: HostRuntime) -> Result<(), Fail> {
     let heap = Refusing::new(rt.alloc(), Refusal::Never);
     let day = Day::load(&heap, &mut Feed::new(FILE), AMPLE)?;
     heap.restart(Refusal::Never);
@@ -152,29 +152,49 @@ fn refused_memory(rt: HostRuntime) -> Result<(), Fail> {
         heap.restart(Refusal::From(growth));
         assert!(rt; reassembled(&heap, &day).is_err(), "growth {growth}");
     }
-    heap.restart(Refusal::Never);
+    Ok(())
+}
+
+#[test]
+fn files_without_memory(rt: HostRuntime) -> Result<(), Fail> {
+    let heap = Refusing::new(rt.alloc(), Refusal::Never);
     assert!(rt; assemble(&heap, TEXT)?.as_slice() == FILE);
     let growths = heap.asked();
     assert!(rt; growths > 0);
     for growth in 1..=growths {
         heap.restart(Refusal::From(growth));
-        assert_eq!(rt;
-            assemble(&heap, TEXT).err(),
-            Some(AsmFault::Memory),
-            "growth {growth}"
-        );
+        let answer = assemble(&heap, TEXT);
+        assert_eq!(rt; answer.err(), Some(AsmFault::Memory), "growth {growth}");
         heap.restart(Refusal::Only(growth));
         match assemble(&heap, TEXT) {
             Ok(file) => assert!(rt; file.as_slice() == FILE, "growth {growth}"),
             Err(fault) => assert_eq!(rt; fault, AsmFault::Memory, "growth {growth}"),
         }
     }
-    heap.restart(Refusal::Never);
+    Ok(())
+}
+
+// What a field was to be added to is as it was.
+#[test]
+fn fields_without_memory(rt: HostRuntime) -> Result<(), Fail> {
+    let heap = Refusing::new(rt.alloc(), Refusal::Never);
     let field = b"A\x00B     ";
-    assert!(rt; quote(&heap, field)?.as_slice() == b"\"A\\x00B\"".as_slice());
-    for growth in 1..=heap.asked() {
+    let quoted = b"\"A\\x00B\"".as_slice();
+    assert!(rt; quote(&heap, field)?.as_slice() == quoted);
+    let growths = heap.asked();
+    assert!(rt; growths > 0);
+    for growth in 1..=growths {
         heap.restart(Refusal::From(growth));
         assert!(rt; quote(&heap, field).is_err(), "growth {growth}");
+        heap.restart(Refusal::Never);
+        let mut text = Vec::new(&heap);
+        text.extend_from_slice(b"stock ")?;
+        heap.restart(Refusal::From(growth));
+        if put_quoted(&mut text, field).is_ok() {
+            assert!(rt; text.as_slice().strip_prefix(b"stock ") == Some(quoted));
+        } else {
+            assert!(rt; text.as_slice() == b"stock ".as_slice(), "growth {growth}");
+        }
     }
     Ok(())
 }

@@ -57,7 +57,7 @@ fn assemble<R: Runtime + AllocGlobal>(rt: &R, text: &str, out: &str) -> Result<u
     let mut feed = Feed::new(file);
     let mut created = Created::new(rt, out);
     asm_run(rt.alloc(), &mut feed, &mut Sink::new(&mut created))?;
-    match created.finish() {
+    match created.make() {
         Ok(()) => Ok(0),
         Err(_) => Err(ProgFault::Write),
     }

@@ -22,7 +22,7 @@ impl<'a, R: Files> Created<'a, R> {
     }
 
     /// Makes the file, or empties it, where no write has done so.
-    pub fn finish(&mut self) -> io::Result<()> {
+    pub fn make(&mut self) -> io::Result<()> {
         if self.file.is_none() {
             self.file = Some(fs::create(self.rt, self.path)?);
         }
@@ -32,11 +32,13 @@ impl<'a, R: Files> Created<'a, R> {
 
 impl<R: Files> Write for Created<'_, R> {
     fn write(&mut self, buffer: &[u8]) -> io::Result<usize> {
-        self.finish()?;
-        match &mut self.file {
-            Some(file) => file.write(buffer),
-            None => Ok(0),
-        }
+        let mut file = match self.file.take() {
+            Some(file) => file,
+            None => fs::create(self.rt, self.path)?,
+        };
+        let written = file.write(buffer);
+        self.file = Some(file);
+        written
     }
 
     fn flush(&mut self) -> io::Result<()> {

@@ -6,6 +6,9 @@ ghost use Rattle.clap.specs.declared.error.kind.ErrorKind.TheVariants.{DisplayHe
 use clap::{Arg, ArgMatches, Command, Error};
 use std::alloc::{AllocError, Global};
 
+/// What FILE is.
+const DAY_HELP: &str = "A Nasdaq TotalView-ITCH 5.0 day in Nasdaq BinaryFILE form";
+
 /// What is to be done.
 #[derive(Drop)]
 pub enum Task<'a> {
@@ -42,16 +45,17 @@ fn dis_command<'a>(alloc: Global) -> Result<Command<'a>, AllocError> {
 fn asm_command<'a>(alloc: Global) -> Result<Command<'a>, AllocError> {
     Command::new(alloc, "asm")
         .about("Makes the file that a text stands for")
-        .arg(path(alloc, "TEXT", "A text, as `itch dis` prints it"))?
+        .arg(path(
+            alloc,
+            "TEXT",
+            "The text of a day: a line for each entry, as `itch dis` writes it or by hand",
+        ))?
         .arg(path(
             alloc,
             "OUT",
             "The file to make or replace, which is left alone where the text is faulty",
         ))
 }
-
-/// What a file is.
-const DAY_HELP: &str = "A Nasdaq TotalView-ITCH 5.0 day in Nasdaq BinaryFILE form";
 
 /// The words that the program takes.
 fn itch_command<'a>(alloc: Global) -> Result<Command<'a>, AllocError> {

@@ -84,7 +84,7 @@ impl From<AsmFault> for ProgFault {
 }
 
 /// The exit status for what an engine answered, of this project: 0 where no message was refused, 1 where some were,
-/// 3 where input or output failed and where the input isn't what it should be, 4 for want of memory, and 5 where a line of
+/// 3 where input or output failed and where a file or its digits can't be taken, 4 for want of memory, and 5 where a line of
 /// a text is faulty.
 pub fn status(answer: &Result<u32, ProgFault>) -> u8
     ensures { result ≡ exit_status answer.now }

@@ -7,3 +7,4 @@ pub mod PrintableRows
 pub mod PrintedLines
 pub mod PrintedFiles
 pub mod RoundTrip
+pub mod Fronts

@@ -1,21 +1,17 @@
 //! The quoted form of fields of text.
-ghost use Rattle.std.specs.Prelude.{◌≡◌, ◌++◌, IfOk, OnOk};
-ghost use Rattle.itch_text.specs.Values.{stands_for_itself};
+ghost use Rattle.std.specs.Prelude.{◌≡◌, ◌++◌, IfOk, OnErr, OnOk};
+ghost use Rattle.itch_print.specs.Printing.{IsFront};
 ghost use Rattle.itch_print.specs.Quoted.{escaped, unpadded, quoted};
 
 use crate::hexadecimal::digits_of;
+use itch_text::stands_for_itself;
 use std::alloc::{AllocError, Allocator};
 
-// Whether a byte stands for itself between quotes.
-fn stands_for_itself(byte: u8) -> bool
-    ensures { result ≡ stands_for_itself byte }
-{
-    (b' '..=b'~').contains(&byte) && byte != b'"' && byte != b'\\'
-}
-
 // Adds a byte as it stands between quotes.
+#[tactic(auto, using(crate::proofs::Fronts::fronts))]
 fn put_escaped<A: Allocator>(text: &mut Vec<u8, A>, byte: u8) -> Result<(), AllocError>
-    ensures { OnOk result (text.new.items ≡ text.old.items ++ escaped byte) }
+    ensures ok { OnOk result (text.new.items ≡ text.old.items ++ escaped byte) }
+    ensures err { OnErr result (IsFront text.old.items text.new.items) }
 {
     if stands_for_itself(byte) {
         text.push(byte)?;
@@ -40,13 +36,11 @@ fn unpadded(field: &[u8]) -> &[u8]
     rest
 }
 
-/// Adds a field of text between quotes, without the spaces that pad it on the right.
-///
-/// A byte from the space to the tilde that is neither the quote nor the backslash stands for itself, any other is `\x`
-/// and its two hexadecimal digits in lower case; a field of spaces alone is `""`. The form is of this project.
-/// After an error, which is the want of memory, a part of this may have been added.
-pub fn put_quoted<A: Allocator>(text: &mut Vec<u8, A>, field: &[u8]) -> Result<(), AllocError>
-    ensures { OnOk result (text.new.items ≡ text.old.items ++ quoted field.now) }
+// Adds a field of text between quotes. After an error a part of this may have been added.
+#[tactic(auto, using(crate::proofs::Fronts::fronts))]
+fn add_quoted<A: Allocator>(text: &mut Vec<u8, A>, field: &[u8]) -> Result<(), AllocError>
+    ensures ok { OnOk result (text.new.items ≡ text.old.items ++ quoted field.now) }
+    ensures err { OnErr result (IsFront text.old.items text.new.items) }
 {
     text.push(b'"')?;
     let kept = unpadded(field);
@@ -55,6 +49,23 @@ pub fn put_quoted<A: Allocator>(text: &mut Vec<u8, A>, field: &[u8]) -> Result<(
     }
     text.push(b'"')?;
     Ok(())
+}
+
+/// Adds a field of text between quotes, without the spaces that pad it on the right.
+///
+/// A byte from the space to the tilde that is neither the quote nor the backslash stands for itself, any other is `\x`
+/// and its two hexadecimal digits in lower case; a field of spaces alone is `""`. The form is of this project.
+/// The error is the want of memory, and leaves the text as it was.
+pub fn put_quoted<A: Allocator>(text: &mut Vec<u8, A>, field: &[u8]) -> Result<(), AllocError>
+    ensures ok { OnOk result (text.new.items ≡ text.old.items ++ quoted field.now) }
+    ensures err { OnErr result (text.new.items ≡ text.old.items) }
+{
+    let length = text.len();
+    let added = add_quoted(text, field);
+    if added.is_err() {
+        text.truncate(length);
+    }
+    added
 }
 
 /// A field of text between quotes, as [`put_quoted`] adds it. Its memory is that of `alloc`.

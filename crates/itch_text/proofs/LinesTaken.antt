@@ -6,7 +6,7 @@ use Rattle.std.specs.List.{flat_map}
 use Rattle.itch_text.specs.Words.{words}
 use Rattle.itch_text.specs.Items.{Item, Denotes, Line, is_comment, item_bytes}
 use Rattle.itch_text.specs.Text.{Lines, Ordered, lines_of}
-use Rattle.itch_text.specs.Faults.{Name, Message, RawName, EndName, CutName, RestName, name_of, may_stand, after, after_all, IsWrong, IsWrongAfter, IsFirstFault}
+use Rattle.itch_text.specs.Faults.{Name, Message, RawName, EndName, CutName, RestName, name_of, may_stand, after, after_all, IsWrong, IsWrongByName, IsFirstFault}
 use Rattle.itch_text.specs.Reading.{item_in}
 use Rattle.itch_text.specs.Names.{place_behind}
 use Rattle.itch_text.specs.Fields.{ahead, Puts}
@@ -51,7 +51,7 @@ pub line_refused : (old new : List ℕ) (place : Place) (line w : List ℕ) (ws 
 line_refused old new place line w ws name Memory e c n m h = tt
 line_refused old new place line w ws name (Wrong fault) e c n m h =
     let wrong : (item : Item) → Denotes (w ∷ ws) item → ⊥ = λ item d. no_item (item_in name ws) item h.1 (rw (c, sym n) at (item_complete (w ∷ ws) item d)) in
-    let after : IsWrongAfter place (name_of w) (w ∷ ws) fault = rw (sym n, m) (h.0, wrong) in
+    let after : IsWrongByName place (name_of w) (w ∷ ws) fault = rw (sym n, m) (h.0, wrong) in
     subst (λ xs. IsWrong place xs fault) (sym e) (c, after)
 
 -- ---- all lines

@@ -8,7 +8,7 @@ use Rattle.itch_layouts.specs.Spelling.{spelling}
 use Rattle.itch_text.specs.Words.{words}
 use Rattle.itch_text.specs.Items.{Item, Nothing, Entry, End, Cut, Rest, Denotes, item_bytes}
 use Rattle.itch_text.specs.Text.{Ordered, Lines, Text, lines_of, HasOneMeaning}
-use Rattle.itch_text.specs.Faults.{Name, Message, RawName, EndName, CutName, RestName, name_of, may_stand, after, after_all, IsWrong, IsWrongAfter, IsWrongBehindName, IsFirstFault}
+use Rattle.itch_text.specs.Faults.{Name, Message, RawName, EndName, CutName, RestName, name_of, may_stand, after, after_all, IsWrong, IsWrongByName, IsWrongWhereItStands, IsFirstFault}
 use Rattle.itch_text.specs.Reading.{hex_in, is_partial, is_short, when, item_in, named_item, values_in}
 use Rattle.itch_text.specs.Steps.{Stands}
 use Rattle.itch_text.specs.declared.place.Place.{Place}
@@ -89,11 +89,11 @@ stands_named place CutName ws item h s = let n = item_named CutName ws item h in
 stands_named place RestName ws item h s = let n = item_named RestName ws item h in rw (rw n.1 at s) refl
 
 -- ---- a line that is wrong where it stands denotes nothing that may stand there
-wrong_behind : (b : Bool) (place : Place) (name : Name) (w : List ℕ) (ws : List (List ℕ)) (fault : LineFault) (item : Item) → may_stand place name ≡ b → IsWrongBehindName b (w ∷ ws) fault → Denotes (w ∷ ws) item → item_in name ws ≡ Some item → Stands place item → ⊥
+wrong_behind : (b : Bool) (place : Place) (name : Name) (w : List ℕ) (ws : List (List ℕ)) (fault : LineFault) (item : Item) → may_stand place name ≡ b → IsWrongWhereItStands b (w ∷ ws) fault → Denotes (w ∷ ws) item → item_in name ws ≡ Some item → Stands place item → ⊥
 wrong_behind true place name w ws fault item e h d i s = h.1 item d
 wrong_behind false place name w ws fault item e h d i s = false≢true (sym e ∙ stands_named place name ws item i s)
 
-wrong_after : (o : Option Name) (place : Place) (w : List ℕ) (ws : List (List ℕ)) (fault : LineFault) (item : Item) → IsWrongAfter place o (w ∷ ws) fault → Denotes (w ∷ ws) item → named_item o ws ≡ Some item → Stands place item → ⊥
+wrong_after : (o : Option Name) (place : Place) (w : List ℕ) (ws : List (List ℕ)) (fault : LineFault) (item : Item) → IsWrongByName place o (w ∷ ws) fault → Denotes (w ∷ ws) item → named_item o ws ≡ Some item → Stands place item → ⊥
 wrong_after None place w ws fault item h d i s = none-some item i
 wrong_after (Some name) place w ws fault item h d i s = wrong_behind (may_stand place name) place name w ws fault item refl h d i s
 

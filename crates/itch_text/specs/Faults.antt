@@ -56,19 +56,20 @@ abbrev pub after_all : Place → List Item → Place
 after_all place [] = place
 after_all place (item ∷ items) = after_all (after place item) items
 
--- the fault of a line that may or may not stand where it does: it stands in a wrong place, or denotes nothing
-abbrev pub IsWrongBehindName : Bool → List (List ℕ) → LineFault → Type 0
-IsWrongBehindName false line fault = fault ≡ AfterEnd
-IsWrongBehindName true line fault = (fault ≡ Field) × ((item : Item) → Denotes line item → ⊥)
+-- the fault of a line by whether its name may stand where it does: it may not, or it may and the line denotes nothing
+abbrev pub IsWrongWhereItStands : Bool → List (List ℕ) → LineFault → Type 0
+IsWrongWhereItStands false line fault = fault ≡ AfterEnd
+IsWrongWhereItStands true line fault = (fault ≡ Field) × ((item : Item) → Denotes line item → ⊥)
 
-abbrev pub IsWrongAfter : Place → Option Name → List (List ℕ) → LineFault → Type 0
-IsWrongAfter place None line fault = fault ≡ Mnemonic
-IsWrongAfter place (Some name) line fault = IsWrongBehindName (may_stand place name) line fault
+-- the fault of a line by the name that it begins with, where it has one
+abbrev pub IsWrongByName : Place → Option Name → List (List ℕ) → LineFault → Type 0
+IsWrongByName place None line fault = fault ≡ Mnemonic
+IsWrongByName place (Some name) line fault = IsWrongWhereItStands (may_stand place name) line fault
 
 -- the fault of a line at a place: it has no name; else it may not stand there; else it denotes nothing
 abbrev pub IsWrong : Place → List (List ℕ) → LineFault → Type 0
 IsWrong place [] fault = ⊥
-IsWrong place (w ∷ ws) fault = (is_comment w ≡ false) × IsWrongAfter place (name_of w) (w ∷ ws) fault
+IsWrong place (w ∷ ws) fault = (is_comment w ≡ false) × IsWrongByName place (name_of w) (w ∷ ws) fault
 
 -- The first faulty line, counted from 1: the lines before it denote items in order, and it is wrong where it stands.
 pub record IsFirstFault (text : List ℕ) (number : ℕ) (fault : LineFault) : Type 0 where

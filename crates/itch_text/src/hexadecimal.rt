@@ -10,7 +10,6 @@ use crate::words::only_word;
 use std::alloc::Allocator;
 
 /// Appends the bytes of the hexadecimal digits of a word, at least one.
-
 fn put_digits<A: Allocator>(out: &mut Vec<u8, A>, digits: &[u8]) -> Result<(), LineError>
     ensures { Puts out.old.items out.new.items (bytes_in digits.now) result }
 {
@@ -27,7 +26,6 @@ fn put_digits<A: Allocator>(out: &mut Vec<u8, A>, digits: &[u8]) -> Result<(), L
 }
 
 /// Appends the bytes of the one word of a line, hexadecimal digits of at least one byte.
-
 fn put_bytes<A: Allocator>(out: &mut Vec<u8, A>, line: &[u8]) -> Result<(), LineError>
     ensures { Puts out.old.items out.new.items (hex_in (words line.now)) result }
 {

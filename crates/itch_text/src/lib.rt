@@ -23,3 +23,4 @@ mod words;
 
 pub use assembler::{AsmFault, assemble};
 pub use laws::one_meaning;
+pub use quoted::stands_for_itself;

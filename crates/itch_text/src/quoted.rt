@@ -28,8 +28,9 @@ fn hex_byte(high: u8, low: u8) -> Option<u8>
     }
 }
 
-/// Whether a byte stands for itself between quotes.
-fn stands_for_itself(byte: u8) -> bool
+/// Whether a byte stands for itself between quotes: one from the space to the tilde that is neither the quote nor the
+/// backslash. Any other is written `\x` and two hexadecimal digits. The rule is of this project.
+pub fn stands_for_itself(byte: u8) -> bool
     ensures { result ≡ stands_for_itself byte }
 {
     (b' '..=b'~').contains(&byte) && byte != b'"' && byte != b'\\'
