@@ -1,10 +1,10 @@
 pub mod Numbers
-pub mod Sizes
 pub mod Digits
-pub mod SpelledFields
+pub mod EncodedFields
 pub mod Words
-pub mod Uniqueness
 pub mod OnePayload
+pub mod Uniqueness
+pub mod OneShape
 pub mod Finding
-pub mod SoundRows
+pub mod SoundLayouts
 pub mod OneLayout

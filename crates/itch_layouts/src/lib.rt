@@ -1,24 +1,27 @@
 //! The layouts of Nasdaq TotalView-ITCH 5.0's messages, and the message that a payload means.
 #![tactic(auto)]
 
+mod at_offset;
+mod field;
 mod field_value;
-mod fields;
 mod laws;
+mod layout;
+mod layout_table;
 mod message;
 mod nanos;
 mod readers;
-mod reading;
-mod table;
-mod writers;
-mod writing;
+mod shape;
+mod writer;
 
-pub use laws::{one_layout, one_message, one_payload};
+pub use field::{Field, Form};
+pub use laws::{one_layout, one_message, one_payload, one_shape};
+pub use layout::Layout;
+pub use layout_table::{head_fields, layout_of_kind, layout_of_mnemonic};
 pub use message::{
     Add, AddMpid, Breach, Broken, Cancel, Collar, Cross, Decline, Delete, Directory, Execute,
-    ExecutePrice, Head, Imbalance, Ipo, Msg, Operational, Participant, Regsho, Replace, Retail,
-    System, Trade, Trading,
+    ExecutePrice, Head, Imbalance, Ipo, Msg, NonCrossTrade, Operational, Participant, Regsho,
+    Replace, Retail, System, TradingAction,
 };
 pub use nanos::Nanos;
-pub use reading::{Shape, read_msg, size_of_kind};
-pub use table::{Field, Form, Layout, head_fields, layout_of_kind, layout_of_mnemonic, layouts};
-pub use writing::write_msg;
+pub use shape::{Shape, read_msg, size_of_kind};
+pub use writer::write_msg;

@@ -1,18 +1,16 @@
-//! The message that a payload of each layout means.
+//! The message that a payload means, by its layout.
 ghost use Rattle.std.specs.Prelude.{◌≡◌, ◌<◌, length, map};
-ghost use Rattle.itch_layouts.specs.Layouts.{head, value_at, system, directory, trading, regsho, participant, decline, breach, ipo, collar, operational, add, add_mpid, execute, execute_price, cancel, delete, replace, trade, cross, broken, imbalance, retail};
+ghost use Rattle.itch_layouts.specs.Layouts.{head_fields, value_at};
+ghost use Rattle.itch_layouts.specs.Layouts as layouts;
 ghost use Rattle.itch_layouts.specs.Means.{head_values, IsOf, Means};
 
-use crate::fields::{array_at, byte_at, nanos_at, u16_at, u32_at, u64_at};
-use crate::message::{
-    Add, AddMpid, Breach, Broken, Cancel, Collar, Cross, Decline, Delete, Directory, Execute,
-    ExecutePrice, Head, Imbalance, Ipo, Msg, Operational, Participant, Regsho, Replace, Retail,
-    System, Trade, Trading,
-};
+use crate::at_offset::{array_at, byte_at, nanos_at, u16_at, u32_at, u64_at};
+use crate::message::*;
 
+// The head of a payload.
 fn head_of(payload: &[u8]) -> Head
     requires { 10 < length payload.now }
-    ensures { head_values result ≡ map (value_at payload.now) head }
+    ensures { head_values result ≡ map (value_at payload.now) head_fields }
 {
     Head {
         locate: u16_at(payload, 1),
@@ -21,8 +19,9 @@ fn head_of(payload: &[u8]) -> Head
     }
 }
 
+/// The message that a payload of the layout `system` means.
 pub(crate) fn system_of(payload: &[u8]) -> Msg
-    requires { IsOf system payload.now }
+    requires { IsOf layouts.system payload.now }
     ensures { Means payload.now result }
 {
     let system = System {
@@ -31,8 +30,9 @@ pub(crate) fn system_of(payload: &[u8]) -> Msg
     Msg::System(head_of(payload), system)
 }
 
+/// The message that a payload of the layout `directory` means.
 pub(crate) fn directory_of(payload: &[u8]) -> Msg
-    requires { IsOf directory payload.now }
+    requires { IsOf layouts.directory payload.now }
     ensures { Means payload.now result }
 {
     let directory = Directory {
@@ -54,11 +54,12 @@ pub(crate) fn directory_of(payload: &[u8]) -> Msg
     Msg::Directory(head_of(payload), directory)
 }
 
+/// The message that a payload of the layout `trading` means.
 pub(crate) fn trading_of(payload: &[u8]) -> Msg
-    requires { IsOf trading payload.now }
+    requires { IsOf layouts.trading payload.now }
     ensures { Means payload.now result }
 {
-    let trading = Trading {
+    let trading = TradingAction {
         stock: array_at(payload, 11),
         state: byte_at(payload, 19),
         reserved: byte_at(payload, 20),
@@ -67,8 +68,9 @@ pub(crate) fn trading_of(payload: &[u8]) -> Msg
     Msg::Trading(head_of(payload), trading)
 }
 
+/// The message that a payload of the layout `regsho` means.
 pub(crate) fn regsho_of(payload: &[u8]) -> Msg
-    requires { IsOf regsho payload.now }
+    requires { IsOf layouts.regsho payload.now }
     ensures { Means payload.now result }
 {
     let regsho = Regsho {
@@ -78,8 +80,9 @@ pub(crate) fn regsho_of(payload: &[u8]) -> Msg
     Msg::Regsho(head_of(payload), regsho)
 }
 
+/// The message that a payload of the layout `participant` means.
 pub(crate) fn participant_of(payload: &[u8]) -> Msg
-    requires { IsOf participant payload.now }
+    requires { IsOf layouts.participant payload.now }
     ensures { Means payload.now result }
 {
     let participant = Participant {
@@ -92,8 +95,9 @@ pub(crate) fn participant_of(payload: &[u8]) -> Msg
     Msg::Participant(head_of(payload), participant)
 }
 
+/// The message that a payload of the layout `decline` means.
 pub(crate) fn decline_of(payload: &[u8]) -> Msg
-    requires { IsOf decline payload.now }
+    requires { IsOf layouts.decline payload.now }
     ensures { Means payload.now result }
 {
     let decline = Decline {
@@ -104,8 +108,9 @@ pub(crate) fn decline_of(payload: &[u8]) -> Msg
     Msg::Decline(head_of(payload), decline)
 }
 
+/// The message that a payload of the layout `breach` means.
 pub(crate) fn breach_of(payload: &[u8]) -> Msg
-    requires { IsOf breach payload.now }
+    requires { IsOf layouts.breach payload.now }
     ensures { Means payload.now result }
 {
     let breach = Breach {
@@ -114,8 +119,9 @@ pub(crate) fn breach_of(payload: &[u8]) -> Msg
     Msg::Breach(head_of(payload), breach)
 }
 
+/// The message that a payload of the layout `ipo` means.
 pub(crate) fn ipo_of(payload: &[u8]) -> Msg
-    requires { IsOf ipo payload.now }
+    requires { IsOf layouts.ipo payload.now }
     ensures { Means payload.now result }
 {
     let ipo = Ipo {
@@ -127,8 +133,9 @@ pub(crate) fn ipo_of(payload: &[u8]) -> Msg
     Msg::Ipo(head_of(payload), ipo)
 }
 
+/// The message that a payload of the layout `collar` means.
 pub(crate) fn collar_of(payload: &[u8]) -> Msg
-    requires { IsOf collar payload.now }
+    requires { IsOf layouts.collar payload.now }
     ensures { Means payload.now result }
 {
     let collar = Collar {
@@ -141,8 +148,9 @@ pub(crate) fn collar_of(payload: &[u8]) -> Msg
     Msg::Collar(head_of(payload), collar)
 }
 
+/// The message that a payload of the layout `operational` means.
 pub(crate) fn operational_of(payload: &[u8]) -> Msg
-    requires { IsOf operational payload.now }
+    requires { IsOf layouts.operational payload.now }
     ensures { Means payload.now result }
 {
     let operational = Operational {
@@ -153,8 +161,9 @@ pub(crate) fn operational_of(payload: &[u8]) -> Msg
     Msg::Operational(head_of(payload), operational)
 }
 
+/// The message that a payload of the layout `add` means.
 pub(crate) fn add_of(payload: &[u8]) -> Msg
-    requires { IsOf add payload.now }
+    requires { IsOf layouts.add payload.now }
     ensures { Means payload.now result }
 {
     let add = Add {
@@ -167,8 +176,9 @@ pub(crate) fn add_of(payload: &[u8]) -> Msg
     Msg::Add(head_of(payload), add)
 }
 
+/// The message that a payload of the layout `add_mpid` means.
 pub(crate) fn add_mpid_of(payload: &[u8]) -> Msg
-    requires { IsOf add_mpid payload.now }
+    requires { IsOf layouts.add_mpid payload.now }
     ensures { Means payload.now result }
 {
     let add_mpid = AddMpid {
@@ -182,8 +192,9 @@ pub(crate) fn add_mpid_of(payload: &[u8]) -> Msg
     Msg::AddMpid(head_of(payload), add_mpid)
 }
 
+/// The message that a payload of the layout `execute` means.
 pub(crate) fn execute_of(payload: &[u8]) -> Msg
-    requires { IsOf execute payload.now }
+    requires { IsOf layouts.execute payload.now }
     ensures { Means payload.now result }
 {
     let execute = Execute {
@@ -194,8 +205,9 @@ pub(crate) fn execute_of(payload: &[u8]) -> Msg
     Msg::Execute(head_of(payload), execute)
 }
 
+/// The message that a payload of the layout `execute_price` means.
 pub(crate) fn execute_price_of(payload: &[u8]) -> Msg
-    requires { IsOf execute_price payload.now }
+    requires { IsOf layouts.execute_price payload.now }
     ensures { Means payload.now result }
 {
     let execute_price = ExecutePrice {
@@ -208,8 +220,9 @@ pub(crate) fn execute_price_of(payload: &[u8]) -> Msg
     Msg::ExecutePrice(head_of(payload), execute_price)
 }
 
+/// The message that a payload of the layout `cancel` means.
 pub(crate) fn cancel_of(payload: &[u8]) -> Msg
-    requires { IsOf cancel payload.now }
+    requires { IsOf layouts.cancel payload.now }
     ensures { Means payload.now result }
 {
     let cancel = Cancel {
@@ -219,8 +232,9 @@ pub(crate) fn cancel_of(payload: &[u8]) -> Msg
     Msg::Cancel(head_of(payload), cancel)
 }
 
+/// The message that a payload of the layout `delete` means.
 pub(crate) fn delete_of(payload: &[u8]) -> Msg
-    requires { IsOf delete payload.now }
+    requires { IsOf layouts.delete payload.now }
     ensures { Means payload.now result }
 {
     let delete = Delete {
@@ -229,8 +243,9 @@ pub(crate) fn delete_of(payload: &[u8]) -> Msg
     Msg::Delete(head_of(payload), delete)
 }
 
+/// The message that a payload of the layout `replace` means.
 pub(crate) fn replace_of(payload: &[u8]) -> Msg
-    requires { IsOf replace payload.now }
+    requires { IsOf layouts.replace payload.now }
     ensures { Means payload.now result }
 {
     let replace = Replace {
@@ -242,11 +257,12 @@ pub(crate) fn replace_of(payload: &[u8]) -> Msg
     Msg::Replace(head_of(payload), replace)
 }
 
+/// The message that a payload of the layout `trade` means.
 pub(crate) fn trade_of(payload: &[u8]) -> Msg
-    requires { IsOf trade payload.now }
+    requires { IsOf layouts.trade payload.now }
     ensures { Means payload.now result }
 {
-    let trade = Trade {
+    let trade = NonCrossTrade {
         reference: u64_at(payload, 11),
         side: byte_at(payload, 19),
         shares: u32_at(payload, 20),
@@ -257,8 +273,9 @@ pub(crate) fn trade_of(payload: &[u8]) -> Msg
     Msg::Trade(head_of(payload), trade)
 }
 
+/// The message that a payload of the layout `cross` means.
 pub(crate) fn cross_of(payload: &[u8]) -> Msg
-    requires { IsOf cross payload.now }
+    requires { IsOf layouts.cross payload.now }
     ensures { Means payload.now result }
 {
     let cross = Cross {
@@ -271,8 +288,9 @@ pub(crate) fn cross_of(payload: &[u8]) -> Msg
     Msg::Cross(head_of(payload), cross)
 }
 
+/// The message that a payload of the layout `broken` means.
 pub(crate) fn broken_of(payload: &[u8]) -> Msg
-    requires { IsOf broken payload.now }
+    requires { IsOf layouts.broken payload.now }
     ensures { Means payload.now result }
 {
     let broken = Broken {
@@ -281,8 +299,9 @@ pub(crate) fn broken_of(payload: &[u8]) -> Msg
     Msg::Broken(head_of(payload), broken)
 }
 
+/// The message that a payload of the layout `imbalance` means.
 pub(crate) fn imbalance_of(payload: &[u8]) -> Msg
-    requires { IsOf imbalance payload.now }
+    requires { IsOf layouts.imbalance payload.now }
     ensures { Means payload.now result }
 {
     let imbalance = Imbalance {
@@ -299,8 +318,9 @@ pub(crate) fn imbalance_of(payload: &[u8]) -> Msg
     Msg::Imbalance(head_of(payload), imbalance)
 }
 
+/// The message that a payload of the layout `retail` means.
 pub(crate) fn retail_of(payload: &[u8]) -> Msg
-    requires { IsOf retail payload.now }
+    requires { IsOf layouts.retail payload.now }
     ensures { Means payload.now result }
 {
     let retail = Retail {
