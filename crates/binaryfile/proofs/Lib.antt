@@ -1,4 +1,3 @@
 pub mod ByteRanges
-pub mod DeviceSteps
 pub mod Splitting
 pub mod Offsets

@@ -4,10 +4,10 @@ use Rattle.std.proofs.lemmas.List.{append_assoc, length-append, drop_at, drop_mo
 use Rattle.std.proofs.lemmas.Bool.{cases_lt}
 use Rattle.std.proofs.lemmas.List.Concat.{flat_map-append}
 use Rattle.std.proofs.lemmas.List.Elements.{All-drop}
-use Rattle.std.specs.List.{All, flat_map}
+use Rattle.std.specs.List.{flat_map}
 use Rattle.std.specs.Int.{w16, from_be_bytes}
 use Rattle.binaryfile.specs.Entries.{IsPayload, entry, marker, Contents, Splits}
-use Rattle.binaryfile.specs.Bytes.{IsByte}
+use Rattle.byte_strings.specs.Bytes.{AreBytes}
 use Rattle.binaryfile.specs.Scanned.{scanned, contents_of}
 use Rattle.binaryfile.specs.Index.{offset, payloads_of, IsIndex}
 use Rattle.binaryfile.specs.declared.TheConstants.{STRIDE}
@@ -41,7 +41,7 @@ drop_entries (suc n) (p ∷ ps) more =
     ∙ drop_entries n ps more
 
 -- what stands at an offset is the rest of the entries
-pub contents_at : (bytes : List ℕ) (n : ℕ) → All IsByte bytes
+pub contents_at : (bytes : List ℕ) (n : ℕ) → AreBytes bytes
     → contents_of (drop (offset (payloads_of bytes) n) bytes) ≡ record { payloads = drop n (payloads_of bytes); marked = (contents_of bytes).marked; tail = (contents_of bytes).tail }
 contents_at bytes n are =
     let c : Contents = contents_of bytes in
@@ -50,7 +50,7 @@ contents_at bytes n are =
     ∙ ap contents_of (drop_entries n c.payloads (marker c.marked ++ c.tail))
     ∙ contents_again (record { payloads = drop n c.payloads; marked = c.marked; tail = c.tail }) (All-drop IsPayload n c.payloads s.each) s.partial
 
-pub payloads_at : (bytes : List ℕ) (n : ℕ) → All IsByte bytes → payloads_of (drop (offset (payloads_of bytes) n) bytes) ≡ drop n (payloads_of bytes)
+pub payloads_at : (bytes : List ℕ) (n : ℕ) → AreBytes bytes → payloads_of (drop (offset (payloads_of bytes) n) bytes) ≡ drop n (payloads_of bytes)
 payloads_at bytes n are = ap (λ (x : Contents). x.payloads) (contents_at bytes n are)
 
 -- one entry on
@@ -70,7 +70,7 @@ advances ps n p rest e =
     record { within = within; is = is; next = omega arith }
 
 -- the first payload, and those of the bytes after its entry
-pub payloads_split : (bytes : List ℕ) (n : ℕ) → All IsByte bytes → 2 ≤ length bytes → n ≡ from_be_bytes w16 (take 2 bytes) → 0 < n → n ≤ length (drop 2 bytes)
+pub payloads_split : (bytes : List ℕ) (n : ℕ) → AreBytes bytes → 2 ≤ length bytes → n ≡ from_be_bytes w16 (take 2 bytes) → 0 < n → n ≤ length (drop 2 bytes)
     → payloads_of bytes ≡ take n (drop 2 bytes) ∷ payloads_of (drop n (drop 2 bytes))
 payloads_split bytes n are long says positive fits =
     let p : List ℕ = take n (drop 2 bytes) in
@@ -86,7 +86,7 @@ pub ends : (ps : List (List ℕ)) (n : ℕ) → n ≤ length ps → drop n ps �
 ends ps n h e = omega (arith, ap length e, length-drop n ps)
 
 -- the entries reach no further than the bytes
-pub offset_within : (bytes : List ℕ) (n : ℕ) → All IsByte bytes → offset (payloads_of bytes) n ≤ length bytes
+pub offset_within : (bytes : List ℕ) (n : ℕ) → AreBytes bytes → offset (payloads_of bytes) n ≤ length bytes
 offset_within bytes n are =
     let c : Contents = contents_of bytes in
     let s : Splits bytes c = contents_splits bytes are in
@@ -96,7 +96,7 @@ offset_within bytes n are =
     omega (arith, ap length s.whole, length-append (flat_map entry c.payloads) (marker c.marked ++ c.tail))
 
 -- what is read at a place
-pub read_at : (bytes : List ℕ) (at n : ℕ) → All IsByte bytes → at ≡ offset (payloads_of bytes) n
+pub read_at : (bytes : List ℕ) (at n : ℕ) → AreBytes bytes → at ≡ offset (payloads_of bytes) n
     → payloads_of (take (length bytes - at) (drop at bytes)) ≡ drop n (payloads_of bytes)
 read_at bytes at n are is = ap payloads_of (take_rest bytes at) ∙ ap (λ (k : ℕ). payloads_of (drop k bytes)) is ∙ payloads_at bytes n are
 
@@ -107,7 +107,7 @@ pub record Steps (bytes : List ℕ) (at n : ℕ) (p : List ℕ) : Type 0 where
   pub place : at + (2 + length p) ≡ offset (payloads_of bytes) (n + 1)
   pub within : at + (2 + length p) ≤ length bytes
 
-pub steps : (bytes : List ℕ) (at n : ℕ) (p : List ℕ) (rest : List (List ℕ)) → All IsByte bytes → at ≡ offset (payloads_of bytes) n
+pub steps : (bytes : List ℕ) (at n : ℕ) (p : List ℕ) (rest : List (List ℕ)) → AreBytes bytes → at ≡ offset (payloads_of bytes) n
     → payloads_of (take (length bytes - at) (drop at bytes)) ≡ p ∷ rest → Steps bytes at n p
 steps bytes at n p rest are is first =
     let a : Advances (payloads_of bytes) n p = advances (payloads_of bytes) n p rest (sym (read_at bytes at n are is) ∙ first) in
@@ -115,7 +115,7 @@ steps bytes at n p rest are is first =
     record { more = a.within; is = a.is; place = place; within = omega (arith, offset_within bytes (n + 1) are) }
 
 -- no entry stands at the end of them
-pub stops : (bytes : List ℕ) (at n : ℕ) → All IsByte bytes → at ≡ offset (payloads_of bytes) n → n ≤ length (payloads_of bytes)
+pub stops : (bytes : List ℕ) (at n : ℕ) → AreBytes bytes → at ≡ offset (payloads_of bytes) n → n ≤ length (payloads_of bytes)
     → payloads_of (take (length bytes - at) (drop at bytes)) ≡ [] → n ≡ length (payloads_of bytes)
 stops bytes at n are is within none = ends (payloads_of bytes) n within (sym (read_at bytes at n are is) ∙ none)
 
@@ -149,7 +149,7 @@ pub indexed_none : (bytes : List ℕ) → Indexed bytes [] 0
 indexed_none bytes = record { enough = omega arith; few = omega arith; found = λ k below. absurd (omega arith) }
 
 -- what follows the entries
-pub after_entries : (bytes : List ℕ) (end : ℕ) → All IsByte bytes → end ≡ offset (payloads_of bytes) (length (payloads_of bytes))
+pub after_entries : (bytes : List ℕ) (end : ℕ) → AreBytes bytes → end ≡ offset (payloads_of bytes) (length (payloads_of bytes))
     → (drop end bytes ≡ marker (contents_of bytes).marked ++ (contents_of bytes).tail)
     × (contents_of (drop end bytes) ≡ record { payloads = []; marked = (contents_of bytes).marked; tail = (contents_of bytes).tail })
 after_entries bytes end are is =
@@ -167,7 +167,7 @@ pub same_index : (bytes items starts places : List ℕ) → bytes ≡ items → 
 same_index bytes items starts places b s h = subst (λ (x : List ℕ). IsIndex x bytes) (sym s) (subst (λ (x : List ℕ). IsIndex places x) (sym b) h)
 
 -- the bytes after the marker, or after the entries where there is none
-pub tail_at : (bytes : List ℕ) (end n : ℕ) → All IsByte bytes → n ≡ length (payloads_of bytes) → end ≡ offset (payloads_of bytes) n
+pub tail_at : (bytes : List ℕ) (end n : ℕ) → AreBytes bytes → n ≡ length (payloads_of bytes) → end ≡ offset (payloads_of bytes) n
     → (end + length (marker (contents_of bytes).marked) ≤ length bytes) × (drop (end + length (marker (contents_of bytes).marked)) bytes ≡ (contents_of bytes).tail)
 tail_at bytes end n are all is =
     let c : Contents = contents_of bytes in

@@ -7,7 +7,7 @@ use Rattle.std.specs.Prelude.{nat_eq, nat_lt}
 use Rattle.std.specs.List.{All, flat_map}
 use Rattle.std.specs.Int.{w16, to_be_bytes}
 use Rattle.binaryfile.specs.Entries.{IsPayload, entry, marker, IsPartial, Contents, bytes_of, Splits, HasOneSplitting}
-use Rattle.binaryfile.specs.Bytes.{IsByte}
+use Rattle.byte_strings.specs.Bytes.{IsByte, AreBytes}
 use Rattle.binaryfile.specs.Scanned.{left_over, with_payload, scanned, contents_of}
 
 -- the two bytes of a length give it back
@@ -21,7 +21,7 @@ bytes_again high low h l =
     let second : (256 * high + low) % 256 ≡ low = omega arith in
     ap (λ (x : ℕ). x ∷ ((256 * high + low) % 256) ∷ []) first ∙ ap (λ (x : ℕ). high ∷ x ∷ []) second
 
--- a whole entry at the front
+-- a whole entry before the rest
 pub scanned_entry : (n high low : ℕ) (p rest : List ℕ) → 256 * high + low ≡ length p → 0 < length p
     → scanned (suc n) (high ∷ low ∷ (p ++ rest)) ≡ with_payload p (scanned n rest)
 scanned_entry n high low p rest is positive =
@@ -58,7 +58,7 @@ scanned_again (suc n) (p ∷ ps) marked tail h each partial =
     ∙ scanned_entry n first second p more (length_again (length p) is.1) is.0
     ∙ ap (λ (x : Contents). with_payload p x) (scanned_again n ps marked tail (omega arith) (All-tail IsPayload p ps each) partial)
 
--- one entry more in front
+-- one entry more before the others
 pub Splits-entry : (p bytes : List ℕ) (contents : Contents) → IsPayload p → Splits bytes contents → Splits (entry p ++ bytes) (with_payload p contents)
 Splits-entry p bytes contents is s = record {
   whole = ap (λ (x : List ℕ). entry p ++ x) s.whole ∙ sym (append_assoc (entry p) (flat_map entry contents.payloads) (marker contents.marked ++ contents.tail));
@@ -70,7 +70,7 @@ pub Splits-left : (bytes : List ℕ) → IsPartial bytes → Splits bytes (left_
 Splits-left bytes h = record { whole = refl; each = All-nil IsPayload; partial = λ e. h }
 
 -- the scan is a splitting
-pub scanned_splits : (n : ℕ) (bytes : List ℕ) → length bytes < n → All IsByte bytes → Splits bytes (scanned n bytes)
+pub scanned_splits : (n : ℕ) (bytes : List ℕ) → length bytes < n → AreBytes bytes → Splits bytes (scanned n bytes)
 scanned_splits zero bytes h are = absurd (omega arith)
 scanned_splits (suc n) [] h are = Splits-left [] tt
 scanned_splits (suc n) (x ∷ []) h are = Splits-left (x ∷ []) tt
@@ -78,7 +78,7 @@ scanned_splits (suc n) (high ∷ low ∷ rest) h are =
     let len : ℕ = 256 * high + low in
     let high-is : high < 256 = All-head IsByte high (low ∷ rest) are in
     let low-is : low < 256 = All-head IsByte low rest (All-tail IsByte high (low ∷ rest) are) in
-    let rest-are : All IsByte rest = All-tail IsByte low rest (All-tail IsByte high (low ∷ rest) are) in
+    let rest-are : AreBytes rest = All-tail IsByte low rest (All-tail IsByte high (low ∷ rest) are) in
     elim (cases_Bool (nat_eq len 0)) [
       | inl zero-is ↦
           let none : len ≡ 0 = eqb-true len 0 zero-is in
@@ -115,12 +115,12 @@ contents_again c each partial =
     scanned_again (suc (length (bytes_of c))) c.payloads c.marked c.tail
     (omega (arith, length_payloads c.payloads, length-append (flat_map entry c.payloads) (marker c.marked ++ c.tail))) each partial
 
-pub contents_splits : (bytes : List ℕ) → All IsByte bytes → Splits bytes (contents_of bytes)
+pub contents_splits : (bytes : List ℕ) → AreBytes bytes → Splits bytes (contents_of bytes)
 contents_splits bytes are = scanned_splits (suc (length bytes)) bytes (omega arith) are
 
 -- a splitting is the one that the scan finds
 pub splits_contents : (bytes : List ℕ) (contents : Contents) → Splits bytes contents → contents ≡ contents_of bytes
 splits_contents bytes contents s = sym (contents_again contents s.each s.partial) ∙ ap contents_of (sym s.whole)
 
-pub one_splitting : (bytes : List ℕ) → All IsByte bytes → HasOneSplitting bytes
+pub one_splitting : (bytes : List ℕ) → AreBytes bytes → HasOneSplitting bytes
 one_splitting bytes are = (contents_of bytes, contents_splits bytes are, λ other s. splits_contents bytes other s)

@@ -3,7 +3,7 @@
 use Rattle.std.specs.Prelude.{◌≡◌, ℕ, ◌+◌, ◌*◌, ◌^◌, ◌<◌, Bool, true, false, List, [], ◌∷◌, ◌++◌, length}
 use Rattle.std.specs.List.{All, flat_map}
 use Rattle.std.specs.Int.{w16, to_be_bytes}
-use Rattle.binaryfile.specs.Bytes.{IsByte}
+use Rattle.byte_strings.specs.Bytes.{AreBytes}
 
 -- A payload has 1 to 65,535 bytes.
 abbrev pub IsPayload : List ℕ → Type 0
@@ -42,8 +42,9 @@ pub record Splits (bytes : List ℕ) (contents : Contents) : Type 0 where
 
 -- There is exactly one splitting of the bytes.
 abbrev pub HasOneSplitting : List ℕ → Type 0
-HasOneSplitting bytes = (contents : Contents) × Splits bytes contents × ((other : Contents) → Splits bytes other → other ≡ contents)
+HasOneSplitting bytes =
+    (one : Contents) × Splits bytes one × ((other : Contents) → Splits bytes other → other ≡ one)
 
 -- Every string of bytes has exactly one splitting.
 abbrev pub EachHasOneSplitting : Type 0
-EachHasOneSplitting = (bytes : List ℕ) → All IsByte bytes → HasOneSplitting bytes
+EachHasOneSplitting = (bytes : List ℕ) → AreBytes bytes → HasOneSplitting bytes

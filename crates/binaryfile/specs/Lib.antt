@@ -1,4 +1,3 @@
-pub mod Bytes
 pub mod Entries
 pub mod Scanned
 pub mod Index

@@ -1,6 +1,7 @@
 -- What the loading of a file gives, and when it is refused.
 use Rattle.std.specs.Prelude.{◌≡◌, ℕ, ◌+◌, ◌≤◌, ◌<◌, ◌++◌, Bool, List, length, Option, Result, OnOk}
 use Rattle.std.specs.Io.KnownBytes.{Consumes}
+use Rattle.byte_strings.specs.Bytes.{AreBytes}
 use Rattle.binaryfile.specs.Entries.{Contents, bytes_of, Splits}
 use Rattle.binaryfile.specs.Devices.{GaveAll}
 use Rattle.binaryfile.specs.declared.day.Limits.{Limits}
@@ -13,9 +14,12 @@ pub record Loads (old new : Option (List ℕ)) (limits : Limits) (contents : Con
   pub bytes : length (bytes_of contents) ≤ limits.bytes
   pub messages : length contents.payloads ≤ limits.messages
 
--- The bytes split into more payloads than so many.
-abbrev pub HasMoreMessages : List ℕ → ℕ → Type 0
-HasMoreMessages bytes messages = (contents : Contents) → Splits bytes contents → messages < length contents.payloads
+-- The bytes, each of them a byte, split into more payloads than `messages`.
+pub record HasMoreMessages (bytes : List ℕ) (messages : ℕ) : Type 0 where
+  pub are : AreBytes bytes
+  pub contents : Contents
+  pub split : Splits bytes contents
+  pub more : messages < length contents.payloads
 
 -- All that the reader gave is within the limit of bytes, and splits into more payloads than the limit of messages.
 pub record ExceedsMessages (old new : Option (List ℕ)) (limits : Limits) : Type 0 where
@@ -25,7 +29,8 @@ pub record ExceedsMessages (old new : Option (List ℕ)) (limits : Limits) : Typ
   pub more : HasMoreMessages bytes limits.messages
 
 -- One read gave some bytes. Where all went well they were added to those that came before.
-pub record TookPiece (old new : Option (List ℕ)) (before after : List ℕ) (most : ℕ) (result : Result Bool LoadFault) : Type 0 where
+pub record TookPiece (old new : Option (List ℕ)) (before after : List ℕ) (most : ℕ)
+    (result : Result Bool LoadFault) : Type 0 where
   pub bytes : List ℕ
   pub gave : Consumes old new bytes
   pub within : length before + length bytes ≤ most

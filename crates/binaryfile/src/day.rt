@@ -1,8 +1,7 @@
 //! A whole file in memory, with the places of its entries.
-ghost use Rattle.std.specs.Prelude.{◌≡◌, ◌≢◌, ◌+◌, ◌-◌, ◌<◌, ◌≤◌, ◌^◌, ◌↔◌, length, slice_index_or, Err, IfOk, IfErr, IsOk, IsErr, IsErrOf, IsTrue};
-ghost use Rattle.std.specs.List.{All};
-ghost use Rattle.binaryfile.specs.Bytes.{IsByte};
-ghost use Rattle.binaryfile.specs.Devices.{has_failed, reader_of, is_broken, writer_of, GaveMore, GaveUpTo, Sends};
+ghost use Rattle.std.specs.Prelude.{◌≡◌, ◌≢◌, ◌+◌, ◌-◌, ◌<◌, ◌≤◌, ◌^◌, ◌↔◌, length, slice_index_or, Err, IfOk, IfErr, IsOk, IsErr, IsErrOf};
+ghost use Rattle.byte_strings.specs.Bytes.{AreBytes};
+ghost use Rattle.binaryfile.specs.Devices.{HasFailed, GaveMore, GaveUpTo, Sends};
 ghost use Rattle.binaryfile.specs.Entries.{bytes_of, Splits};
 ghost use Rattle.binaryfile.specs.Loading.{Loads, ExceedsMessages, HasMoreMessages};
 
@@ -16,9 +15,9 @@ use std::marker::Model;
 /// How much a file may hold.
 #[derive(Debug, Clone, Copy, PartialEq, Eq)]
 pub struct Limits {
-    /// At most so many bytes in all, where a caller allows no more than 2^40.
+    /// The most bytes in all; a caller allows no more than 2^40.
     pub bytes: u64,
-    /// At most so many payloads.
+    /// The most payloads.
     pub messages: u32,
 }
 
@@ -48,27 +47,40 @@ impl<A: Allocator> Model for Day<A> {
 }
 
 impl<A: Allocator + Copy> Day<A> {
-    /// Reads a file to its end, of at most `limits.bytes` bytes, which are no more than 2^40. Its memory is that of `alloc`.
+    /// Reads a file to its end, of at most `limits.bytes` bytes, which are no more than 2^40. Its memory is that of
+    /// `alloc`.
     ///
     /// No file is refused for its form. In the course of reading the first of these is answered:
     /// [`LoadFault::Read`] where the feed fails (at once, and with no memory, where it had failed before),
     /// [`LoadFault::Memory`] where memory is refused, [`LoadFault::TooManyBytes`] where the reader gave more than
     /// `limits.bytes` bytes. [`LoadFault::TooManyMessages`] is decided once the whole input was read, before any more
-    /// memory is asked for. Whatever the result, at most `limits.bytes + 1` bytes are taken from the reader; there is no
-    /// day after a fault.
+    /// memory is asked for, which tests show. Whatever the result, at most `limits.bytes + 1` bytes are taken from the
+    /// reader; there is no day after a fault.
+    ///
+    /// ```rust
+    /// let limits = Limits { bytes: 1 << 40, messages: u32::MAX };
+    /// let file = fs::open(rt, "examples/two-stocks.itch")?;
+    /// let day = Day::load(rt.alloc(), &mut Feed::new(file), limits)?;
+    /// for payload in day.payloads() {
+    ///     println!(rt; "{} bytes", payload.len())?;
+    /// }
+    /// ```
     pub fn load<R: Read>(alloc: A, feed: &mut Feed<R>, limits: Limits) -> Result<Day<A>, LoadFault>
         requires { limits.bytes ≤ 2 ^ 40 }
         // The day is the splitting of all that the feed gave to its end, within the limits.
-        ensures loaded { IfOk result (Loads (R.remaining (reader_of feed.old)) (R.remaining (reader_of feed.new)) limits) }
+        ensures loaded { IfOk result (
+            Loads (R.remaining feed.old.device) (R.remaining feed.new.device) limits) }
         // The fault is Read exactly where the feed has failed at return.
-        ensures failed { IsErrOf result LoadFault.Read ↔ IsTrue (has_failed feed.new) }
-        ensures too_many_bytes { IsErrOf result LoadFault.TooManyBytes → GaveMore (R.remaining (reader_of feed.old)) (R.remaining (reader_of feed.new)) limits.bytes }
-        ensures too_many_messages { IsErrOf result LoadFault.TooManyMessages → ExceedsMessages (R.remaining (reader_of feed.old)) (R.remaining (reader_of feed.new)) limits }
+        ensures failed { IsErrOf result LoadFault.Read ↔ HasFailed feed.new }
+        ensures too_many_bytes { IsErrOf result LoadFault.TooManyBytes →
+            GaveMore (R.remaining feed.old.device) (R.remaining feed.new.device) limits.bytes }
+        ensures too_many_messages { IsErrOf result LoadFault.TooManyMessages →
+            ExceedsMessages (R.remaining feed.old.device) (R.remaining feed.new.device) limits }
         // Whatever the result, no more is taken than the limit and one byte.
-        ensures taken { GaveUpTo (R.remaining (reader_of feed.old)) (R.remaining (reader_of feed.new)) (limits.bytes + 1) }
-        // A failure is for good, and after one the reader is not asked.
-        ensures for_good { IsTrue (has_failed feed.old) → IsTrue (has_failed feed.new) }
-        ensures not_asked { IsTrue (has_failed feed.old) → reader_of feed.new ≡ reader_of feed.old }
+        ensures taken { GaveUpTo (R.remaining feed.old.device) (R.remaining feed.new.device)
+            (limits.bytes + 1) }
+        // A failed feed stays as it is, and its reader is not asked.
+        ensures for_good { HasFailed feed.old → feed.new ≡ feed.old }
     {
         let bytes = read_to_end(alloc, feed, limits.bytes)?;
         Day::from_bytes(alloc, bytes, limits.messages)
@@ -81,7 +93,8 @@ impl<A: Allocator + Copy> Day<A> {
     pub fn from_bytes(alloc: A, bytes: Vec<u8, A>, messages: u32) -> Result<Day<A>, LoadFault>
         ensures split { IfOk result (λ day. Splits bytes.items day) }
         ensures within { IfOk result (λ day. length day.payloads ≤ messages) }
-        ensures too_many_messages { IsErrOf result LoadFault.TooManyMessages → HasMoreMessages bytes.items messages }
+        ensures too_many_messages { IsErrOf result LoadFault.TooManyMessages →
+            HasMoreMessages bytes.items messages }
         ensures not_read { result ≢ Err LoadFault.Read }
         ensures not_bytes { result ≢ Err LoadFault.TooManyBytes }
     {
@@ -110,7 +123,7 @@ impl<A: Allocator> Day<A> {
         self.count
     }
 
-    /// The payload of that number, counted from 1, borrowed and not copied.
+    /// The payload of this number, counted from 1, borrowed and not copied.
     ///
     /// For all of them in order [`Day::payloads`] is faster.
     pub fn payload(&self, number: u32) -> &[u8]
@@ -153,23 +166,22 @@ impl<A: Allocator> Day<A> {
         ensures bytes { result.now ≡ bytes_of self.now }
         ensures split { Splits result.now self.now }
         // Each is a byte, which the laws over byte strings ask for.
-        ensures range { All IsByte result.now }
+        ensures are { AreBytes result.now }
     {
         self.bytes.as_slice()
     }
 
-    /// Sends the bytes that were loaded, all of them or the first ones up to where the writer fails, as [`send`] does.
+    /// Sends the bytes that were loaded, or a prefix of them up to where the writer fails, as [`send`] does.
     pub fn write_to<W: Write>(&self, sink: &mut Sink<W>) -> Result<(), WriteFault>
-        ensures sent { Sends (W.contents (writer_of sink.old)) (W.contents (writer_of sink.new)) (bytes_of self.now) result }
-        // A fault comes only where the sink has failed, and Ok leaves it as it was.
-        ensures failed { IsErr result → IsTrue (is_broken sink.new) }
-        ensures kept { IsOk result → is_broken sink.new ≡ is_broken sink.old }
-        // A failure is for good.
-        ensures for_good { IsTrue (is_broken sink.old) → IsTrue (is_broken sink.new) }
-        // After one the writer is not asked, and takes nothing.
-        ensures not_asked { IsTrue (is_broken sink.old) → writer_of sink.new ≡ writer_of sink.old }
-        ensures refused { IsTrue (is_broken sink.old) → 0 < length (bytes_of self.now) → IsErr result }
-        ensures nothing { IsTrue (is_broken sink.old) → IfErr result (λ fault. fault.written ≡ 0) }
+        ensures sent { Sends (W.contents sink.old.device) (W.contents sink.new.device)
+            (bytes_of self.now) result }
+        // A fault comes only where the sink has failed, and Ok leaves it failed or working, as it was.
+        ensures failed { IsErr result → HasFailed sink.new }
+        ensures kept { IsOk result → sink.new.failed ≡ sink.old.failed }
+        // A failed sink stays as it is: its writer is not asked, and takes nothing.
+        ensures for_good { HasFailed sink.old → sink.new ≡ sink.old }
+        ensures refused { HasFailed sink.old → 0 < length (bytes_of self.now) → IsErr result }
+        ensures nothing { HasFailed sink.old → IfErr result (λ fault. fault.written ≡ 0) }
     {
         send(sink, self.bytes())
     }

@@ -1,7 +1,7 @@
 //! Reading the whole of an input into memory.
-ghost use Rattle.std.specs.Prelude.{◌≡◌, ◌≢◌, ◌+◌, ◌<◌, ◌≤◌, ◌^◌, ◌↔◌, IsTrue, length, vec_len, Ok, Err, IfOk, OnOk, IsErrOf, true, false};
+ghost use Rattle.std.specs.Prelude.{◌≡◌, ◌≢◌, ◌+◌, ◌<◌, ◌≤◌, ◌^◌, ◌↔◌, length, vec_len, Ok, Err, IfOk, OnOk, IsErrOf, true, false};
 ghost use Rattle.std.specs.Io.KnownBytes.{IsAtEnd};
-ghost use Rattle.binaryfile.specs.Devices.{has_failed, reader_of, GaveAll, GaveMore, GaveUpTo};
+ghost use Rattle.binaryfile.specs.Devices.{HasFailed, GaveAll, GaveMore, GaveUpTo};
 ghost use Rattle.binaryfile.specs.Loading.{TookPiece};
 ghost use Rattle.binaryfile.specs.declared.load.LoadFault.TheVariants.{Memory, Read as ReadFailed};
 
@@ -10,7 +10,7 @@ use std::alloc::{AllocError, Allocator};
 use std::io;
 use std::io::Read;
 
-/// At most so many bytes are asked of a reader at once.
+/// A reader is asked for at most this number of bytes at once.
 const PIECE: usize = 1 << 16;
 
 /// Why a file was not loaded.
@@ -22,7 +22,7 @@ pub enum LoadFault {
     Read,
     /// The reader gave more bytes than the limit.
     TooManyBytes,
-    /// The bytes have more payloads than the limit.
+    /// The bytes split into more payloads than the limit.
     TooManyMessages,
 }
 
@@ -59,11 +59,12 @@ fn read_piece<R: Read, A: Allocator>(
     requires room { 0 < length piece.old }
     requires within { length bytes.old.items ≤ limit }
     requires limit { limit ≤ 2 ^ 40 }
-    ensures took { TookPiece (R.remaining (reader_of feed.old)) (R.remaining (reader_of feed.new)) bytes.old.items bytes.new.items (limit + 1) result }
-    ensures end { result ≡ Ok false → IsAtEnd (R.remaining (reader_of feed.new)) }
+    ensures took { TookPiece (R.remaining feed.old.device) (R.remaining feed.new.device)
+        bytes.old.items bytes.new.items (limit + 1) result }
+    ensures end { result ≡ Ok false → IsAtEnd (R.remaining feed.new.device) }
     ensures more { result ≡ Ok true → length bytes.old.items < length bytes.new.items }
     ensures same { result ≡ Ok false → bytes.new.items ≡ bytes.old.items }
-    ensures failed { IsErrOf result LoadFault.Read ↔ IsTrue (has_failed feed.new) }
+    ensures failed { IsErrOf result LoadFault.Read ↔ HasFailed feed.new }
     ensures not_bytes { result ≢ Err LoadFault.TooManyBytes }
     ensures not_messages { result ≢ Err LoadFault.TooManyMessages }
 {
@@ -73,25 +74,35 @@ fn read_piece<R: Read, A: Allocator>(
     Ok(count > 0)
 }
 
-/// All that the feed gives to its end, where that is no more than `limit` bytes.
+/// All that the feed gives to its end, where that is no more than `limit` bytes, which are no more than 2^40. Its
+/// memory is that of `alloc`.
 ///
-/// In the course of reading the first of these is answered: [`LoadFault::Read`] where the feed fails (at once where it had
-/// failed before), [`LoadFault::Memory`] where memory is refused, [`LoadFault::TooManyBytes`] where the reader gave more
-/// than `limit` bytes. At most `limit + 1` bytes are taken from the reader, whatever the result.
+/// In the course of reading the first of these is answered: [`LoadFault::Read`] where the feed fails (at once where it
+/// had failed before), [`LoadFault::Memory`] where memory is refused, [`LoadFault::TooManyBytes`] where the reader gave
+/// more than `limit` bytes. At most `limit + 1` bytes are taken from the reader, whatever the result.
+///
+/// ```rust
+/// let mut feed = Feed::new(rt.reader());
+/// let bytes = read_to_end(rt.alloc(), &mut feed, 1 << 30)?;
+/// ```
 pub fn read_to_end<R: Read, A: Allocator + Copy>(
     alloc: A,
     feed: &mut Feed<R>,
     limit: u64,
 ) -> Result<Vec<u8, A>, LoadFault>
     requires { limit ≤ 2 ^ 40 }
-    ensures all { IfOk result (λ bytes. GaveAll (R.remaining (reader_of feed.old)) (R.remaining (reader_of feed.new)) bytes.items) }
+    ensures all { IfOk result (λ bytes.
+        GaveAll (R.remaining feed.old.device) (R.remaining feed.new.device) bytes.items) }
     ensures within { IfOk result (λ bytes. length bytes.items ≤ limit) }
-    ensures failed { IsErrOf result LoadFault.Read ↔ IsTrue (has_failed feed.new) }
-    ensures for_good { IsTrue (has_failed feed.old) → IsTrue (has_failed feed.new) }
-    ensures not_asked { IsTrue (has_failed feed.old) → reader_of feed.new ≡ reader_of feed.old }
-    ensures too_many_bytes { IsErrOf result LoadFault.TooManyBytes → GaveMore (R.remaining (reader_of feed.old)) (R.remaining (reader_of feed.new)) limit }
+    // The fault is Read exactly where the feed has failed at return.
+    ensures failed { IsErrOf result LoadFault.Read ↔ HasFailed feed.new }
+    // A failed feed stays as it is, and its reader is not asked.
+    ensures for_good { HasFailed feed.old → feed.new ≡ feed.old }
+    ensures too_many_bytes { IsErrOf result LoadFault.TooManyBytes →
+        GaveMore (R.remaining feed.old.device) (R.remaining feed.new.device) limit }
     ensures not_messages { result ≢ Err LoadFault.TooManyMessages }
-    ensures taken { GaveUpTo (R.remaining (reader_of feed.old)) (R.remaining (reader_of feed.new)) (limit + 1) }
+    // Whatever the result, no more is taken than the limit and one byte.
+    ensures taken { GaveUpTo (R.remaining feed.old.device) (R.remaining feed.new.device) (limit + 1) }
 {
     if feed.failed() {
         return Err(LoadFault::Read);

@@ -1,7 +1,6 @@
-// The entries of a byte string, from the front.
+// The entries of a byte string, from the first on.
 ghost use Rattle.std.specs.Prelude.{◌≡◌, ◌<◌, ◌≤◌, List, ℕ, [], ◌∷◌, length, drop, MatchOption, IfOk, slice_index_or};
-ghost use Rattle.std.specs.List.{All};
-ghost use Rattle.binaryfile.specs.Bytes.{IsByte};
+ghost use Rattle.byte_strings.specs.Bytes.{AreBytes};
 ghost use Rattle.binaryfile.specs.Entries.{marker};
 ghost use Rattle.binaryfile.specs.Index.{offset, payloads_of, IsIndex};
 ghost use Rattle.binaryfile.specs.Scanned.{contents_of};
@@ -9,16 +8,17 @@ ghost use Rattle.binaryfile.specs.Scanned.{contents_of};
 use crate::STRIDE;
 use std::alloc::{AllocError, Allocator};
 
-// How many entries there are, and the place where they end.
+/// How many entries there are, and the place where they end.
 #[derive(Clone, Copy)]
 pub(crate) struct Extent {
     pub(crate) count: usize,
     pub(crate) end: usize,
 }
 
-// The payload of the first entry and the bytes after that entry, where a whole one stands there.
+/// The payload of the first entry and the bytes after that entry, where a whole one stands there.
 pub(crate) fn split_first_payload(bytes: &[u8]) -> Option<(&[u8], &[u8])>
-    ensures { MatchOption result (payloads_of bytes.now ≡ []) (λ first. payloads_of bytes.now ≡ first.0.now ∷ payloads_of first.1.now) }
+    ensures { MatchOption result (payloads_of bytes.now ≡ [])
+        (λ first. payloads_of bytes.now ≡ first.0.now ∷ payloads_of first.1.now) }
 {
     let (head, rest) = bytes.split_first_chunk::<2>()?;
     let length = u16::from_be_bytes(*head) as usize;
@@ -30,18 +30,19 @@ pub(crate) fn split_first_payload(bytes: &[u8]) -> Option<(&[u8], &[u8])>
 
 // The payload of the first entry, where a whole one stands there.
 fn first_payload(bytes: &[u8]) -> Option<&[u8]>
-    ensures { MatchOption result (payloads_of bytes.now ≡ []) (λ payload. (rest : List (List ℕ)) × (payloads_of bytes.now ≡ payload.now ∷ rest)) }
+    ensures { MatchOption result (payloads_of bytes.now ≡ [])
+        (λ payload. (rest : List (List ℕ)) × (payloads_of bytes.now ≡ payload.now ∷ rest)) }
 {
     let (payload, _) = split_first_payload(bytes)?;
     Some(payload)
 }
 
-// How far the entries go from the front.
+/// How far the entries go.
 pub(crate) fn entries_extent(bytes: &[u8]) -> Extent
     ensures count { result.count ≡ length (payloads_of bytes.now) }
     ensures end { result.end ≡ offset (payloads_of bytes.now) result.count }
     ensures within { result.end ≤ length bytes.now }
-    ensures are { All IsByte bytes.now }
+    ensures are { AreBytes bytes.now }
 {
     let mut count = 0;
     let mut end = 0;
@@ -52,7 +53,7 @@ pub(crate) fn entries_extent(bytes: &[u8]) -> Extent
     Extent { count, end }
 }
 
-// The place of the entry of that number, counted from 0.
+// The place of the entry of this number, counted from 0.
 fn entry_place(bytes: &[u8], starts: &[u64], number: usize) -> usize
     requires index { IsIndex starts.now bytes.now }
     requires number { number < length (payloads_of bytes.now) }
@@ -69,7 +70,7 @@ fn entry_place(bytes: &[u8], starts: &[u64], number: usize) -> usize
     at
 }
 
-// The places of the entries whose number from 0 is a multiple of `STRIDE`, in one block.
+/// The places of the entries whose number from 0 is a multiple of `STRIDE`, in one block.
 pub(crate) fn index<A: Allocator>(
     alloc: A,
     bytes: &[u8],
@@ -92,7 +93,7 @@ pub(crate) fn index<A: Allocator>(
     Ok(starts)
 }
 
-// The payload of that number, counted from 0.
+/// The payload of this number, counted from 0.
 pub(crate) fn nth_payload<'a>(bytes: &'a [u8], starts: &[u64], number: usize) -> &'a [u8]
     requires index { IsIndex starts.now bytes.now }
     requires number { number < length (payloads_of bytes.now) }
@@ -105,7 +106,7 @@ pub(crate) fn nth_payload<'a>(bytes: &'a [u8], starts: &[u64], number: usize) ->
     }
 }
 
-// Whether an end marker stands at the front.
+/// Whether the bytes, which begin with no entry, begin with an end marker.
 pub(crate) fn begins_with_marker(bytes: &[u8]) -> bool
     requires { payloads_of bytes.now ≡ [] }
     ensures { result ≡ (contents_of bytes.now).marked }
@@ -113,6 +114,7 @@ pub(crate) fn begins_with_marker(bytes: &[u8]) -> bool
     bytes.starts_with(&[0, 0])
 }
 
+// How many bytes the end marker has, where there is one.
 fn marker_len(marked: bool) -> usize
     ensures { result ≡ length (marker marked) }
 {
@@ -129,7 +131,7 @@ fn tail_start(bytes: &[u8], end: usize, marked: bool) -> usize
     end + marker_len(marked)
 }
 
-// The bytes after the entries, which end at `end`, and after the marker.
+/// The bytes after the entries, which end at `end`, and after the marker.
 pub(crate) fn bytes_after(bytes: &[u8], end: usize, marked: bool) -> &[u8]
     requires end { end ≡ offset (payloads_of bytes.now) (length (payloads_of bytes.now)) }
     requires marked { marked ≡ (contents_of bytes.now).marked }

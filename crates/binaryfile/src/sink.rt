@@ -1,30 +1,39 @@
 //! A writer that remembers its failure.
-ghost use Rattle.std.specs.Prelude.{◌≡◌, ◌<◌, length, IsTrue, IsErr, IsOk, false, is_none, IfSome, IfErr};
-ghost use Rattle.binaryfile.specs.Devices.{is_broken, writer_of, Sends, TakesSome};
+ghost use Rattle.std.specs.Prelude.{◌≡◌, ◌<◌, length, IsErr, IsOk, false, is_none, IfSome, IfErr};
+ghost use Rattle.binaryfile.specs.Devices.{HasFailed, Sends, TakesSome};
 
 use std::io::Write;
+use std::marker::Model;
 
-/// A writer that fails for good at its first error, or at its first write of some bytes that takes none of them.
+/// A sink: a writer, and whether it has failed. It fails for good at the writer's first error, of whatever kind, or at
+/// its first write of some bytes that takes none of them (a rule of this project).
 ///
-/// Once its writer has failed, it is not asked again.
+/// A failed sink stays as it is: its writer is not asked again. [`send`] writes to it.
 #[derive(Drop)]
 pub struct Sink<W> {
     writer: W,
     failed: bool,
 }
 
-/// The writer failed when it had taken exactly so many of the first bytes that were to be sent.
+/// The writer failed before it had taken all the bytes that were to be sent.
 #[derive(Debug, Clone, Copy, PartialEq, Eq)]
 pub struct WriteFault {
-    /// How many bytes were taken.
+    /// How many bytes it had taken, which are the first of them.
     pub written: u64,
+}
+
+impl<W> Model for Sink<W> {
+    ghost use Rattle.binaryfile.specs.Devices.{Device};
+
+    ghost Value = { Device W };
+
+    ghost view = { λ sink. record { device = sink.writer; failed = sink.failed } };
 }
 
 impl<W: Write> Sink<W> {
     /// A sink that has not failed.
     pub fn new(writer: W) -> Sink<W>
-        ensures writer { writer_of result ≡ writer }
-        ensures failed { is_broken result ≡ false }
+        ensures { result ≡ record { device = writer; failed = false } }
     {
         Sink {
             writer,
@@ -32,9 +41,9 @@ impl<W: Write> Sink<W> {
         }
     }
 
-    /// Whether the writer has failed.
+    /// Whether the sink has failed.
     pub fn failed(&self) -> bool
-        ensures { result ≡ is_broken self.now }
+        ensures { result ≡ self.now.failed }
     {
         self.failed
     }
@@ -42,10 +51,10 @@ impl<W: Write> Sink<W> {
     // One write, which takes at least one byte where it succeeds.
     fn write_some(&mut self, bytes: &[u8]) -> Option<usize>
         requires { 0 < length bytes.now }
-        ensures taken { TakesSome (W.contents (writer_of self.old)) (W.contents (writer_of self.new)) bytes.now result }
-        ensures failed { is_broken self.new ≡ is_none result }
-        ensures working { IfSome result (λ _. is_broken self.old ≡ false) }
-        ensures not_asked { IsTrue (is_broken self.old) → writer_of self.new ≡ writer_of self.old }
+        ensures taken { TakesSome (W.contents self.old.device) (W.contents self.new.device) bytes.now result }
+        ensures failed { self.new.failed ≡ is_none result }
+        ensures working { IfSome result (λ _. self.old.failed ≡ false) }
+        ensures for_good { HasFailed self.old → self.new ≡ self.old }
     {
         if self.failed {
             return None;
@@ -60,21 +69,26 @@ impl<W: Write> Sink<W> {
     }
 }
 
-/// Sends all the bytes, or the first ones up to where the writer fails.
+/// Sends all the bytes, or a prefix of them up to where the writer fails.
 ///
-/// The fault says exactly how many were taken, and comes only where the sink has failed. To a sink that had failed before,
-/// a send of some bytes is a fault at once, and a send of none is Ok.
+/// The fault says exactly how many bytes were taken, and comes only where the sink has failed. To a sink that had
+/// failed before, sending some bytes is a fault at once, and sending none is Ok. That a sink fails only where its
+/// writer answered an error or took nothing, and that a write isn't tried again after an error, no clause can say:
+/// tests show it, for fewer than 2^31 bytes.
+///
+/// ```rust
+/// let mut taken = Vec::new(rt.alloc());
+/// send(&mut Sink::new(&mut taken), b"some bytes")?;
+/// ```
 pub fn send<W: Write>(sink: &mut Sink<W>, bytes: &[u8]) -> Result<(), WriteFault>
-    ensures sent { Sends (W.contents (writer_of sink.old)) (W.contents (writer_of sink.new)) bytes.now result }
-    // A fault comes only where the sink has failed, and Ok leaves it as it was.
-    ensures failed { IsErr result → IsTrue (is_broken sink.new) }
-    ensures kept { IsOk result → is_broken sink.new ≡ is_broken sink.old }
-    // A failure is for good.
-    ensures for_good { IsTrue (is_broken sink.old) → IsTrue (is_broken sink.new) }
-    // After one the writer is not asked, and takes nothing.
-    ensures not_asked { IsTrue (is_broken sink.old) → writer_of sink.new ≡ writer_of sink.old }
-    ensures refused { IsTrue (is_broken sink.old) → 0 < length bytes.now → IsErr result }
-    ensures nothing { IsTrue (is_broken sink.old) → IfErr result (λ fault. fault.written ≡ 0) }
+    ensures sent { Sends (W.contents sink.old.device) (W.contents sink.new.device) bytes.now result }
+    // A fault comes only where the sink has failed, and Ok leaves it failed or working, as it was.
+    ensures failed { IsErr result → HasFailed sink.new }
+    ensures kept { IsOk result → sink.new.failed ≡ sink.old.failed }
+    // A failed sink stays as it is: its writer is not asked, and takes nothing.
+    ensures for_good { HasFailed sink.old → sink.new ≡ sink.old }
+    ensures refused { HasFailed sink.old → 0 < length bytes.now → IsErr result }
+    ensures nothing { HasFailed sink.old → IfErr result (λ fault. fault.written ≡ 0) }
 {
     let mut written = 0;
     while written < bytes.len() {

@@ -1,4 +1,4 @@
--- A refusing allocator behind a reference: its type, and where the inner allocator and the numbers lie in it.
+-- A refusing allocator that a reference points to: its type, and where the inner allocator and the numbers lie in it.
 use Rattle.std.proofs.Common.{ℕ, ◌+◌, [], ◌∷◌}
 use mir.Syntax.{Args, a_type, dnil, dcons}
 use prog.Memory.{size, align, up}

@@ -12,7 +12,8 @@ IsRefused (From refused) number = refused ≤ number
 
 -- the refused growths are those with a number from first to last
 abbrev pub RefusesBetween : Refusal → ℕ → ℕ → Type 0
-RefusesBetween refusal first last = (number : ℕ) → number < 2 ^ 64 → ((first ≤ number) × (number ≤ last)) ↔ IsRefused refusal number
+RefusesBetween refusal first last = (number : ℕ) → number < 2 ^ 64
+    → ((first ≤ number) × (number ≤ last)) ↔ IsRefused refusal number
 
 -- the allocator that the growths are passed on to
 abbrev pub inner_of : {B : Type 0} → Refusing B → B

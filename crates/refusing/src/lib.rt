@@ -1,6 +1,6 @@
-//! An allocator for tests, which refuses growths that it is told to refuse.
+//! An allocator for tests, which refuses chosen growths.
 //!
-//! A test that runs its code over a [`Refusing`] meets want of memory at each growth in turn.
+//! A test that runs its code over a [`Refusing`] runs out of memory at each growth in turn.
 #![tactic(auto)]
 
 ghost use Rattle.std.specs.Prelude.{◌≡◌};
@@ -20,17 +20,24 @@ pub enum Refusal {
     From(u64),
 }
 
-/// Passes each growth on to the allocator `B`, but for those that it is told to refuse.
+/// Passes each growth on to the allocator `B`, but for those that its [`Refusal`] names.
 ///
 /// A growth is a call of `allocate`: the first block of a collection, or a larger one in place of it, since `grow` is
 /// the trait's own and takes a new block. Threads may share one by `&Refusing<B>`, and a collection over it may go to
 /// another thread, where that holds of `B`.
+///
+/// ```rust
+/// let heap = Refusing::new(rt.alloc(), Refusal::Only(1));
+/// let mut list = Vec::new(&heap);
+/// assert!(rt; list.push(7).is_err());
+/// assert!(rt; list.push(7).is_ok());
+/// ```
 pub struct Refusing<B: Allocator> {
     inner: B,
     growths: Growths,
 }
 
-// How many growths were asked, and the first and the last that are refused.
+// How many growths were asked for, and the first and the last that are refused.
 #[derive(Drop)]
 struct Growths {
     asked: AtomicU64,
@@ -67,7 +74,7 @@ impl<B: Allocator> Refusing<B> {
         }
     }
 
-    /// How many growths were asked since `new` or the last `restart`, refused ones among them.
+    /// How many growths were asked for since `new` or the last `restart`, refused ones among them.
     pub fn asked(&self) -> u64 {
         self.growths.asked.load(Ordering::SeqCst)
     }
@@ -90,7 +97,7 @@ impl<B: Allocator> Drop for Refusing<B> {
     }
 }
 
-// Counts one growth, and tells whether it is refused.
+// Counts one growth, and answers whether it is refused.
 fn is_refused(growths: &Growths) -> bool {
     let number = growths.asked.fetch_add(1, Ordering::SeqCst).wrapping_add(1);
     growths.first.load(Ordering::SeqCst) <= number && number <= growths.last.load(Ordering::SeqCst)

@@ -1,13 +1,12 @@
 use Rattle.std.proofs.Common.{◌≡◌, ◌+◌, ◌-◌, ◌<◌, ◌≤◌, length, vec_len, false}
 use Rattle.std.specs.Io.KnownBytes.{Consumes}
-use Rattle.binaryfile.specs.Devices.{has_failed, reader_of}
 use Rattle.binaryfile.proofs.load.read_to_end.Given as goal
 
 abbrev pub invariant-loop-feed : goal.invariant-loop-feed
 invariant-loop-feed g l = record {
-  gave : Consumes (g.R.Read.remaining (reader_of l.fn.feed)) (g.R.Read.remaining (reader_of l.feed)) l.bytes.items;
+  gave : Consumes (g.R.Read.remaining l.fn.feed.device) (g.R.Read.remaining l.feed.device) l.bytes.items;
   within : length l.bytes.items ≤ l.limit + 1;
-  working : has_failed l.feed ≡ false;
+  working : l.feed.failed ≡ false;
   room : 0 < vec_len l.piece;
 }
 

@@ -1,14 +1,13 @@
 use Rattle.std.proofs.Common.{◌≡◌, ℕ, ◌<◌, ◌≤◌, List, ◌∷◌, length, take, drop, arith}
-use Rattle.std.specs.List.{All}
 use Rattle.std.specs.Int.{w16, from_be_bytes}
-use Rattle.binaryfile.specs.Bytes.{IsByte}
+use Rattle.byte_strings.specs.Bytes.{AreBytes}
 use Rattle.binaryfile.specs.Index.{payloads_of}
 use Rattle.binaryfile.proofs.ByteRanges.{bytes_are}
 use Rattle.binaryfile.proofs.Offsets.{payloads_split}
 use Rattle.binaryfile.proofs.scan.split_first_payload.Goals as goal
 
 -- the two parts that follow a length
-parts : (bytes rest front back : List ℕ) (n : ℕ) → All IsByte bytes → 2 ≤ length bytes → n ≡ from_be_bytes w16 (take 2 bytes) → 0 < n → rest ≡ drop 2 bytes → n ≤ length rest → front ≡ take n rest → back ≡ drop n rest
+parts : (bytes rest front back : List ℕ) (n : ℕ) → AreBytes bytes → 2 ≤ length bytes → n ≡ from_be_bytes w16 (take 2 bytes) → 0 < n → rest ≡ drop 2 bytes → n ≤ length rest → front ≡ take n rest → back ≡ drop n rest
     → payloads_of bytes ≡ front ∷ payloads_of back
 parts bytes rest front back n are long says positive r fits f b = rw (f, b, r) (payloads_split bytes n are long says positive (rw (← r) fits))
 

@@ -1,23 +1,22 @@
 use Rattle.std.proofs.Common.{◌≡◌, ℕ, ◌-◌, ◌^◌, ◌<◌, List, [], length, take, drop, Bool, ap, subst, ◌∙◌, arith}
 use Rattle.std.proofs.lemmas.List.{take_rest}
-use Rattle.std.specs.List.{All}
-use Rattle.binaryfile.specs.Bytes.{IsByte}
+use Rattle.byte_strings.specs.Bytes.{AreBytes}
 use Rattle.binaryfile.specs.Entries.{Contents}
 use Rattle.binaryfile.specs.Scanned.{contents_of}
 use Rattle.binaryfile.specs.Index.{payloads_of, offset, IsIndex, IsDay}
-use Rattle.binaryfile.proofs.Splitting.{contents_splits, splits_contents}
+use Rattle.binaryfile.proofs.Splitting.{contents_splits}
 use Rattle.binaryfile.proofs.Offsets.{after_entries}
 use Rattle.binaryfile.proofs.day.Day.from_bytes.Goals as goal
 
 -- where the entries end, none stands
-none_after : (bytes : List ℕ) (end n : ℕ) → All IsByte bytes → end ≡ offset (payloads_of bytes) n → n ≡ length (payloads_of bytes) → payloads_of (take (length bytes - end) (drop end bytes)) ≡ []
+none_after : (bytes : List ℕ) (end n : ℕ) → AreBytes bytes → end ≡ offset (payloads_of bytes) n → n ≡ length (payloads_of bytes) → payloads_of (take (length bytes - end) (drop end bytes)) ≡ []
 none_after bytes end n are is all = ap payloads_of (take_rest bytes end) ∙ ap (λ (x : Contents). x.payloads) (after_entries bytes end are (is ∙ ap (offset (payloads_of bytes)) all)).1
 
 -- the marker that stands there is the file's
-marker_after : (bytes : List ℕ) (end n : ℕ) → All IsByte bytes → end ≡ offset (payloads_of bytes) n → n ≡ length (payloads_of bytes) → (contents_of (take (length bytes - end) (drop end bytes))).marked ≡ (contents_of bytes).marked
+marker_after : (bytes : List ℕ) (end n : ℕ) → AreBytes bytes → end ≡ offset (payloads_of bytes) n → n ≡ length (payloads_of bytes) → (contents_of (take (length bytes - end) (drop end bytes))).marked ≡ (contents_of bytes).marked
 marker_after bytes end n are is all = ap (λ (x : List ℕ). (contents_of x).marked) (take_rest bytes end) ∙ ap (λ (x : Contents). x.marked) (after_entries bytes end are (is ∙ ap (offset (payloads_of bytes)) all)).1
 
-is_day : (bytes items starts : List ℕ) (n end : ℕ) (marked : Bool) → bytes ≡ items → All IsByte bytes → n ≡ length (payloads_of bytes) → n < 2 ^ 32 → end ≡ offset (payloads_of bytes) n
+is_day : (bytes items starts : List ℕ) (n end : ℕ) (marked : Bool) → bytes ≡ items → AreBytes bytes → n ≡ length (payloads_of bytes) → n < 2 ^ 32 → end ≡ offset (payloads_of bytes) n
     → marked ≡ (contents_of (take (length bytes - end) (drop end bytes))).marked → IsIndex starts bytes → IsDay items starts n end marked
 is_day bytes items starts n end marked same are all few is mark places =
     subst (λ (x : List ℕ). IsDay x starts n end marked) same
@@ -32,8 +31,14 @@ pub returns-then-entries-messages-clause-too_many_messages : goal.returns-then-e
 returns-then-entries-messages-clause-too_many_messages g c = λ _.
     let bytes = c.args.bytes.items in
     let e = c.entries_extent-entries.ensures in
+    let are : AreBytes bytes = subst AreBytes c.as_slice-whole.ensures.value e.are in
     let seen : length (payloads_of c.as_slice-whole.result.now) ≡ length (payloads_of bytes) = ap (λ (x : List ℕ). length (payloads_of x)) c.as_slice-whole.ensures.value in
-    λ contents s. omega (arith, ap (λ (x : Contents). length x.payloads) (splits_contents bytes contents s), seen, e.count, c.if-entries-messages.true)
+    record {
+      are = are;
+      contents = contents_of bytes;
+      split = contents_splits bytes are;
+      more = omega (arith, seen, e.count, c.if-entries-messages.true);
+    }
 
 pub invariant_of-result : goal.invariant_of-result
 invariant_of-result g c =
@@ -41,7 +46,7 @@ invariant_of-result g c =
     is_day _ _ _ _ _ _ c.as_slice-whole.ensures.value e.are e.count (omega arith) e.end c.begins_with_marker-marked.ensures c.in_ok-starts.ensures
 
 pub returns-clause-split : goal.returns-clause-split
-returns-clause-split g c = contents_splits c.args.bytes.items (subst (All IsByte) c.as_slice-whole.ensures.value c.entries_extent-entries.ensures.are)
+returns-clause-split g c = contents_splits c.args.bytes.items (subst AreBytes c.as_slice-whole.ensures.value c.entries_extent-entries.ensures.are)
 
 pub returns-clause-within : goal.returns-clause-within
 returns-clause-within g c =
