@@ -1,5 +1,5 @@
 -- How many orders there are.
-use Rattle.std.proofs.Common.{◌≡◌, ℕ, ◌+◌, ◌-◌, ◌≤◌, ◌==◌, ◌++◌, ◌∷◌, [], List, Option, Some, None, Bool, true, false, cond, length, map, refl, ap, arith}
+use Rattle.std.proofs.Common.{◌≡◌, ℕ, ◌+◌, ◌-◌, ◌≤◌, ◌==◌, List, Option, Some, None, Bool, true, false, cond, length, refl, ap, arith}
 use Rattle.std.specs.Prelude.{filter}
 use Rattle.std.specs.FinMap.{entries, len, len-entries, len-insert, len-remove, len-empty}
 use Rattle.std.proofs.lemmas.List.{length-map, length_push}
@@ -7,9 +7,9 @@ use Rattle.std.proofs.lemmas.List.Sums.{length-filter, count_by-le-length}
 use Rattle.std.proofs.lemmas.Grind.{common_steps}
 use Rattle.itch_layouts.specs.Shapes.{shape_of}
 use Rattle.itch_layouts.specs.declared.message.Msg.{Msg}
-use Rattle.itch_layouts.specs.declared.message.Msg.TheVariants.{System, Directory, Trading, Regsho, Participant, Decline, Breach, Ipo, Collar, Operational, Add, AddMpid, Execute, ExecutePrice, Cancel, Delete, Replace, Trade, Cross, Broken, Imbalance, Retail}
-use Rattle.itch_layouts.specs.declared.reading.Shape.{Shape}
-use Rattle.itch_layouts.specs.declared.reading.Shape.TheVariants.{Known, Unknown, BadLength}
+use Rattle.itch_layouts.specs.declared.message.Msg.TheVariants.{System, Directory, Trading, Regsho, Add, AddMpid, Execute, ExecutePrice, Cancel, Delete, Replace, Trade, Cross, Broken}
+use Rattle.itch_layouts.specs.declared.shape.Shape.{Shape}
+use Rattle.itch_layouts.specs.declared.shape.Shape.TheVariants.{Known, Unknown, BadLength}
 use Rattle.itch_table.specs.declared.outcome.Fault.{Fault}
 use Rattle.itch_table.specs.declared.order.OrderKey.{OrderKey}
 use Rattle.itch_table.specs.declared.order.OrderRow.{OrderRow}
@@ -18,7 +18,7 @@ use Rattle.itch_table.specs.Table.{step, step_shape, checks, effect, first_fault
 use Rattle.itch_table.specs.Trades.{broken_at}
 use Rattle.itch_table.specs.declared.status.StockRow.{StockRow}
 use Rattle.itch_table.specs.declared.status.Trading.{Trading as TradingState}
-use Rattle.itch_table.specs.declared.trades.Trade.{Trade as TradeRow}
+use Rattle.itch_table.specs.declared.trades.TradeRow.{TradeRow}
 use Rattle.itch_table.proofs.Keys.{key_total}
 
 abbrev pub count : World → ℕ
@@ -82,12 +82,6 @@ effect_few (System head m) w = record { orders = omega arith; trades = omega ari
 effect_few (Directory head m) w = record { orders = omega arith; trades = omega arith }
 effect_few (Trading head m) w = trading_few (stock_row w head.locate) w head.locate _
 effect_few (Regsho head m) w = regsho_few (stock_row w head.locate) w head.locate m.action
-effect_few (Participant head m) w = same_few w
-effect_few (Decline head m) w = same_few w
-effect_few (Breach head m) w = same_few w
-effect_few (Ipo head m) w = same_few w
-effect_few (Collar head m) w = same_few w
-effect_few (Operational head m) w = same_few w
 effect_few (Add head m) w = record { orders = with_order_few w head.locate m.reference _; trades = omega arith }
 effect_few (AddMpid head m) w = record { orders = with_order_few w head.locate m.reference _; trades = omega arith }
 effect_few (Execute head m) w = executed_few w head.locate m.reference m.shares _
@@ -103,8 +97,7 @@ effect_few (Replace head m) w = record {
 effect_few (Trade head m) w = traded_few w w head.locate _ (omega arith) refl
 effect_few (Cross head m) w = traded_few w w head.locate _ (omega arith) refl
 effect_few (Broken head m) w = record { orders = omega arith; trades = omega (arith, length-map w.trades (broken_at head.locate m.match_no)) }
-effect_few (Imbalance head m) w = same_few w
-effect_few (Retail head m) w = same_few w
+effect_few m w = same_few w
 
 result_few : (f : Option Fault) (v w : World) → Few v w → Few v (result_of f v w).1
 result_few None v w few = few

@@ -10,6 +10,7 @@ use crate::status::Status;
 use std::alloc::{AllocError, Allocator};
 use std::collections::btree_map::Range;
 
+// An order row with the reference of its key.
 fn order_from(key: &OrderKey, row: &OrderRow) -> Order
     ensures { result ≡ order_of key.now row.now }
 {
@@ -28,7 +29,8 @@ fn orders_among<A: Allocator + Copy>(
     rows: Range<'_, OrderKey, OrderRow>,
     locate: u16,
 ) -> Result<Vec<Order, A>, AllocError>
-    ensures { IfOk result (λ list. list.items ≡ map (λ e. order_of e.0 e.1) (filter (λ e. is_under locate e.0) rows.entry)) }
+    ensures { IfOk result (λ list.
+        list.items ≡ map (λ e. order_of e.0 e.1) (filter (λ e. is_under locate e.0) rows.entry)) }
 {
     rows.filter(|(key, _)| key.locate == locate)
         .map(|(key, row)| order_from(key, row))

@@ -1,12 +1,12 @@
 //! The plain machine.
-ghost use Rattle.std.specs.Prelude.{◌≡◌, ◌+◌, ◌-◌, ◌<◌, ◌^◌, ℕ, List, IfOk, OnOk, OnErr};
+ghost use Rattle.std.specs.Prelude.{◌≡◌, ◌+◌, ◌-◌, ◌<◌, ◌^◌, ℕ, List, length, IfOk, OnOk, OnErr};
 ghost use Rattle.itch_table.specs.World.{empty_world, locates, order, orders_of, status, totals};
 ghost use Rattle.itch_table.specs.Levels.{levels, top};
 ghost use Rattle.itch_table.specs.Table.{step};
 ghost use Rattle.itch_table.specs.Machine.{MayGrow};
 
 use crate::effects::apply;
-use crate::faults::fault;
+use crate::faults::check;
 use crate::order::{Level, Order, Side, Top};
 use crate::outcome::{Fault, Outcome};
 use crate::rows::Rows;
@@ -32,11 +32,16 @@ impl<A: Allocator> Model for Plain<A> {
     ghost use Rattle.itch_table.specs.Machine.{Machine, IsWithin};
     ghost use Rattle.itch_table.specs.contracts.order.OrderRow as order_row;
     ghost use Rattle.itch_table.specs.contracts.status.StockRow as stock_row;
-    ghost use Rattle.itch_table.specs.contracts.trades.Trade as trade_row;
+    ghost use Rattle.itch_table.specs.contracts.trades.TradeRow as trade_row;
 
     ghost Value = { Machine };
 
-    ghost coded = { Prim.hlevel (codes, maps.code {R = key_cmp} coded_key order_row.the_row.coded, maps.code {R = nat_cmp} coded_ℕ stock_row.the_row.coded, trade_row.the_row.coded) };
+    ghost coded = { Prim.hlevel (
+      codes,
+      maps.code {R = key_cmp} coded_key order_row.the_row.coded,
+      maps.code {R = nat_cmp} coded_ℕ stock_row.the_row.coded,
+      trade_row.the_row.coded,
+    ) };
 
     ghost view = { λ p. record { world = p.rows; steps = p.steps } };
 
@@ -91,7 +96,8 @@ impl<A: Allocator + Copy> Plain<A> {
         self.rows.totals(locate)
     }
 
-    /// The best bid and the best ask of a stock, with the shares there; zeros where a side is empty.
+    /// The best bid and the best ask of a stock, with the shares there; zeros where a side is empty. Prices are in
+    /// 1/10,000 of a currency unit.
     pub fn top(&self, locate: u16) -> Top
         ensures { result ≡ top (orders_of self.now.world locate) }
     {
@@ -107,7 +113,9 @@ impl<A: Allocator + Copy> Plain<A> {
 
     /// A stock's live orders, by rising reference. An error says that memory was refused.
     pub fn orders(&self, alloc: A, locate: u16) -> Result<Vec<Order, A>, AllocError>
-        ensures { IfOk result (λ list. list.items ≡ orders_of self.now.world locate) }
+        ensures list { IfOk result (λ list. list.items ≡ orders_of self.now.world locate) }
+        // They are fewer than messages can be, as `levels_of` asks.
+        ensures few { length (orders_of self.now.world locate) < 2 ^ 32 }
     {
         self.rows.orders(alloc, locate)
     }
@@ -119,13 +127,22 @@ impl<A: Allocator + Copy> Plain<A> {
         self.rows.locates(alloc)
     }
 
-    /// Takes the next message of the day, a payload of any bytes, and tells what became of it.
+    /// Takes the next message of the day, a payload of any bytes, and answers what became of it.
     ///
     /// A message that is refused or passed over changes nothing but the number of steps. An error says that memory was
     /// refused: it comes only where the message would be applied and is one that may need a new row, and it leaves the
     /// machine as it was.
     ///
     /// At most 2^32 - 1 messages are taken: the caller hands the next one while `steps()` is below that.
+    ///
+    /// ```rust
+    /// let mut machine = Plain::new(rt.alloc());
+    /// for payload in day.payloads() {
+    ///     if let Outcome::Refused(fault) = machine.step(payload)? {
+    ///         println!(rt; "message {} refused F{}", machine.steps(), fault.number())?;
+    ///     }
+    /// }
+    /// ```
     pub fn step(&mut self, payload: &[u8]) -> Result<Outcome, AllocError>
         requires { self.old.steps < 2 ^ 32 - 1 }
         ensures ok { IfOk result (λ outcome. (outcome, self.new.world) ≡ step self.old.world payload.now) }
@@ -150,9 +167,10 @@ fn step_rows<A: Allocator + Copy>(rows: &mut Rows<A>, payload: &[u8]) -> Result<
         Shape::BadLength => return Ok(Outcome::Refused(Fault::WrongLength)),
         Shape::Known(msg) => msg,
     };
-    if let Some(fault) = fault(rows, &msg) {
-        return Ok(Outcome::Refused(fault));
-    }
-    apply(rows, &msg)?;
+    let named = match check(rows, &msg) {
+        Ok(named) => named,
+        Err(fault) => return Ok(Outcome::Refused(fault)),
+    };
+    apply(rows, &msg, named)?;
     Ok(Outcome::Applied)
 }

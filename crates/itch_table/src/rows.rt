@@ -1,5 +1,5 @@
 //! The rows of all stocks.
-ghost use Rattle.std.specs.Prelude.{◌≡◌, ◌<◌, ◌^◌, ℕ, Some, None, length, map, filter, IfOk, OnOk, OnErr};
+ghost use Rattle.std.specs.Prelude.{◌≡◌, ◌<◌, ◌^◌, ℕ, Some, IsSome, length, map, filter, IfOk, OnOk, OnErr};
 ghost use Rattle.std.specs.List.{list_any};
 ghost use Rattle.std.specs.BTreeMap.{IsOrdered, keys};
 ghost use Rattle.std.specs.Ordering.{nat_cmp};
@@ -10,7 +10,7 @@ ghost use Rattle.itch_table.specs.Trades.{broken_at, is_unbroken};
 
 use crate::order::{OrderKey, OrderRow};
 use crate::status::{StockRow, Totals};
-use crate::trades::{Trade, TradeRow, break_trades, has_unbroken, totals_under};
+use crate::trades::{TradeRow, break_trades, has_unbroken, totals_under};
 use itch_layouts::Directory;
 use std::alloc::{AllocError, Allocator};
 use std::collections::BTreeMap;
@@ -21,7 +21,7 @@ use std::marker::Model;
 #[derive(Drop)]
 pub(crate) struct Rows<A: Allocator> {
     orders: BTreeMap<OrderKey, OrderRow, A>,
-    trades: Vec<TradeRow, A>,
+    trades: Vec<(u16, TradeRow), A>,
     stocks: BTreeMap<u16, StockRow, A>,
     event: Option<u8>,
 }
@@ -33,11 +33,16 @@ impl<A: Allocator> Model for Rows<A> {
     ghost use Rattle.itch_table.specs.World.{World, coded_key, key_cmp};
     ghost use Rattle.itch_table.specs.contracts.order.OrderRow as order_row;
     ghost use Rattle.itch_table.specs.contracts.status.StockRow as stock_row;
-    ghost use Rattle.itch_table.specs.contracts.trades.Trade as trade_row;
+    ghost use Rattle.itch_table.specs.contracts.trades.TradeRow as trade_row;
 
     ghost Value = { World };
 
-    ghost coded = { Prim.hlevel (codes, maps.code {R = key_cmp} coded_key order_row.the_row.coded, maps.code {R = nat_cmp} coded_ℕ stock_row.the_row.coded, trade_row.the_row.coded) };
+    ghost coded = { Prim.hlevel (
+      codes,
+      maps.code {R = key_cmp} coded_key order_row.the_row.coded,
+      maps.code {R = nat_cmp} coded_ℕ stock_row.the_row.coded,
+      trade_row.the_row.coded,
+    ) };
 
     ghost view = { λ r. record {
       orders = maps.from_entries r.orders.entries;
@@ -48,6 +53,7 @@ impl<A: Allocator> Model for Rows<A> {
 }
 
 impl<A: Allocator + Copy> Rows<A> {
+    /// No rows.
     pub fn new(alloc: A) -> Rows<A>
         ensures { result ≡ empty_world }
     {
@@ -59,40 +65,45 @@ impl<A: Allocator + Copy> Rows<A> {
         }
     }
 
+    /// The last event.
     pub fn event(&self) -> Option<u8>
         ensures { result ≡ self.now.event }
     {
         self.event
     }
 
+    /// What is known of a stock that has a directory row.
     pub fn stock(&self, locate: u16) -> Option<StockRow>
         ensures { result ≡ stock_row self.now locate }
     {
         self.stocks.get(&locate).copied()
     }
 
+    /// A stock's directory row.
     pub fn directory(&self, locate: u16) -> Option<Directory>
         ensures { result ≡ directory self.now locate }
     {
         self.stock(locate).map(|row| row.directory)
     }
 
+    /// The order that lives under a locate code and a reference.
     pub fn order(&self, locate: u16, reference: u64) -> Option<OrderRow>
         ensures { result ≡ live self.now locate reference }
     {
         self.orders.get(&OrderKey { locate, reference }).copied()
     }
 
+    /// Sets the last event.
     pub fn set_event(&mut self, event: u8)
         ensures { self.new ≡ record self.old { event = Some event } }
     {
         self.event = Some(event);
     }
 
+    /// Sets what is known of a stock, which may need a new row.
     pub fn set_stock(&mut self, locate: u16, row: StockRow) -> Result<(), AllocError>
         ensures ok { OnOk result (self.new ≡ with_stock self.old locate row) }
         ensures err { OnErr result (self.new ≡ self.old) }
-        ensures room { OnErr result (stock_row self.old locate ≡ None) }
     {
         match self.stocks.insert(locate, row) {
             Ok(_) => Ok(()),
@@ -100,6 +111,17 @@ impl<A: Allocator + Copy> Rows<A> {
         }
     }
 
+    /// Sets what is known of a stock that has a directory row, which takes no memory.
+    pub fn update_stock(&mut self, locate: u16, row: StockRow)
+        requires { IsSome (stock_row self.old locate) }
+        ensures { self.new ≡ with_stock self.old locate row }
+    {
+        if let Some(known) = self.stocks.get_mut(&locate) {
+            *known = row;
+        }
+    }
+
+    /// Sets an order, which may need a new row.
     pub fn set_order(
         &mut self,
         locate: u16,
@@ -108,7 +130,6 @@ impl<A: Allocator + Copy> Rows<A> {
     ) -> Result<(), AllocError>
         ensures ok { OnOk result (self.new ≡ with_order self.old locate reference row) }
         ensures err { OnErr result (self.new ≡ self.old) }
-        ensures room { OnErr result (live self.old locate reference ≡ None) }
     {
         match self.orders.insert(OrderKey { locate, reference }, row) {
             Ok(_) => Ok(()),
@@ -116,13 +137,25 @@ impl<A: Allocator + Copy> Rows<A> {
         }
     }
 
+    /// Sets an order that lives already, which takes no memory.
+    pub fn update_order(&mut self, locate: u16, reference: u64, row: OrderRow)
+        requires { IsSome (live self.old locate reference) }
+        ensures { self.new ≡ with_order self.old locate reference row }
+    {
+        if let Some(known) = self.orders.get_mut(&OrderKey { locate, reference }) {
+            *known = row;
+        }
+    }
+
+    /// Removes an order.
     pub fn remove_order(&mut self, locate: u16, reference: u64)
         ensures { self.new ≡ without_order self.old locate reference }
     {
         self.orders.remove(&OrderKey { locate, reference });
     }
 
-    pub fn add_trade(&mut self, locate: u16, trade: Trade) -> Result<(), AllocError>
+    /// Adds a trade after the others.
+    pub fn add_trade(&mut self, locate: u16, trade: TradeRow) -> Result<(), AllocError>
         ensures ok { OnOk result (self.new ≡ with_trade self.old locate trade) }
         ensures err { OnErr result (self.new ≡ self.old) }
     {
@@ -130,18 +163,21 @@ impl<A: Allocator + Copy> Rows<A> {
         Ok(())
     }
 
+    /// Whether a stock has an unbroken trade with this match number.
     pub fn has_unbroken(&self, locate: u16, match_no: u64) -> bool
         ensures { result ≡ list_any (is_unbroken locate match_no) self.now.trades }
     {
         has_unbroken(&self.trades, locate, match_no)
     }
 
+    /// Breaks all trades of a stock with this match number.
     pub fn break_trades(&mut self, locate: u16, match_no: u64)
         ensures { self.new ≡ record self.old { trades = map (broken_at locate match_no) self.old.trades } }
     {
         break_trades(&mut self.trades, locate, match_no);
     }
 
+    /// A stock's totals over its trades.
     pub fn totals(&self, locate: u16) -> Totals
         requires { length self.now.trades < 2 ^ 32 }
         ensures { result ≡ totals self.now locate }
@@ -149,9 +185,10 @@ impl<A: Allocator + Copy> Rows<A> {
         totals_under(&self.trades, locate)
     }
 
-    // A part of the order rows that has all of a stock's, in order.
+    /// A part of the order rows that has all of a stock's, in order.
     pub fn rows_near(&self, locate: u16) -> Range<'_, OrderKey, OrderRow>
-        ensures { filter (λ e. is_under locate e.0) result ≡ filter (λ e. is_under locate e.0) (maps.entries self.now.orders) }
+        ensures { filter (λ e. is_under locate e.0) result ≡
+            filter (λ e. is_under locate e.0) (maps.entries self.now.orders) }
     {
         let first = OrderKey {
             locate,
@@ -163,7 +200,7 @@ impl<A: Allocator + Copy> Rows<A> {
         }
     }
 
-    // The locate codes that have a directory row, rising.
+    /// The locate codes that have a directory row, rising.
     pub fn locates(&self, alloc: A) -> Result<Vec<u16, A>, AllocError>
         ensures { IfOk result (λ list. list.items ≡ locates self.now) }
     {
@@ -171,6 +208,7 @@ impl<A: Allocator + Copy> Rows<A> {
     }
 }
 
+// The keys of the map, rising.
 fn keys_of<A: Allocator + Copy>(
     alloc: A,
     stocks: &BTreeMap<u16, StockRow, A>,

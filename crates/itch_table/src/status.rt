@@ -14,7 +14,7 @@ pub struct Trading {
     pub reason: [u8; 4],
 }
 
-/// What is known of a stock: its directory row, its trading state and its short sale action, where each was told.
+/// What is known of a stock: its directory row, its trading state and its short sale action, where each was reported.
 ///
 /// Nasdaq TotalView-ITCH 5.0, "Stock Related Messages".
 #[derive(Debug, Clone, Copy, PartialEq, Eq)]
@@ -35,7 +35,8 @@ pub(crate) struct StockRow {
     pub regsho: Option<u8>,
 }
 
-/// Sums over a stock's trades that no later message broke, of this project.
+/// Sums over a stock's trades that no later message broke, in shares and in 1/10,000 of a currency unit, of this
+/// project.
 ///
 /// They don't wrap: a day has fewer than 2^32 trades, each of at most 2^64 - 1 shares at a price below 2^32.
 #[derive(Debug, Clone, Copy, PartialEq, Eq)]

@@ -6,38 +6,35 @@ ghost use Rattle.itch_table.specs.Trades.{broken_at, is_unbroken, totals_of, tra
 
 use crate::status::Totals;
 
-/// An execution, a trade of non-displayed orders or a cross.
+/// An execution, a trade of non-displayed orders or a cross. In a list it stands with the locate code of its stock.
 #[derive(Debug, Clone, Copy, PartialEq, Eq)]
-pub(crate) struct Trade {
+pub(crate) struct TradeRow {
     pub match_no: u64,
     pub shares: u64,
     /// The price, in 1/10,000 of a currency unit.
     pub price: u32,
-    /// Whether it counts in the volume that is told.
+    /// Whether it counts in the volume that is reported.
     pub printed: bool,
     /// Whether a later message broke it.
     pub broken: bool,
 }
 
-/// A trade behind the locate code of its stock.
-pub(crate) type TradeRow = (u16, Trade);
-
-// Whether a trade is the stock's, has that match number and isn't broken.
-fn is_unbroken(row: &TradeRow, locate: u16, match_no: u64) -> bool
+// Whether a trade is the stock's, has this match number and isn't broken.
+fn is_unbroken(row: &(u16, TradeRow), locate: u16, match_no: u64) -> bool
     ensures { result ≡ is_unbroken locate match_no row.now }
 {
     row.0 == locate && row.1.match_no == match_no && !row.1.broken
 }
 
-/// Whether a stock has an unbroken trade with that match number.
-pub(crate) fn has_unbroken(rows: &[TradeRow], locate: u16, match_no: u64) -> bool
+/// Whether a stock has an unbroken trade with this match number.
+pub(crate) fn has_unbroken(rows: &[(u16, TradeRow)], locate: u16, match_no: u64) -> bool
     ensures { result ≡ list_any (is_unbroken locate match_no) rows.now }
 {
     rows.iter().any(|row| is_unbroken(row, locate, match_no))
 }
 
-// The trade, broken where it is the stock's and has that match number.
-fn broken_row(row: TradeRow, locate: u16, match_no: u64) -> TradeRow
+// The trade, broken where it is the stock's and has this match number.
+fn broken_row(row: (u16, TradeRow), locate: u16, match_no: u64) -> (u16, TradeRow)
     ensures { result ≡ broken_at locate match_no row }
 {
     if !is_unbroken(&row, locate, match_no) {
@@ -46,15 +43,15 @@ fn broken_row(row: TradeRow, locate: u16, match_no: u64) -> TradeRow
     let (locate, trade) = row;
     (
         locate,
-        Trade {
+        TradeRow {
             broken: true,
             ..trade
         },
     )
 }
 
-/// Breaks all trades of a stock with that match number.
-pub(crate) fn break_trades(rows: &mut [TradeRow], locate: u16, match_no: u64)
+/// Breaks all trades of a stock with this match number.
+pub(crate) fn break_trades(rows: &mut [(u16, TradeRow)], locate: u16, match_no: u64)
     ensures { rows.new ≡ map (broken_at locate match_no) rows.old }
 {
     for row in rows.iter_mut() {
@@ -62,6 +59,7 @@ pub(crate) fn break_trades(rows: &mut [TradeRow], locate: u16, match_no: u64)
     }
 }
 
+// The totals of no trades.
 const NO_TOTALS: Totals = Totals {
     trades: 0,
     shares: 0,
@@ -70,7 +68,7 @@ const NO_TOTALS: Totals = Totals {
 };
 
 // The totals with one trade more.
-fn with_trade(totals: Totals, trade: &Trade) -> Totals
+fn with_trade(totals: Totals, trade: &TradeRow) -> Totals
     requires { HasRoom totals }
     ensures plus { result ≡ plus_trade totals trade.now }
     ensures within { (count : ℕ) → Within totals count → Within result (count + 1) }
@@ -94,7 +92,7 @@ fn with_trade(totals: Totals, trade: &Trade) -> Totals
 }
 
 /// The totals of a stock's trades.
-pub(crate) fn totals_under(rows: &[TradeRow], locate: u16) -> Totals
+pub(crate) fn totals_under(rows: &[(u16, TradeRow)], locate: u16) -> Totals
     requires { length rows.now < 2 ^ 32 }
     ensures { result ≡ totals_of (trades_under locate rows.now) }
 {

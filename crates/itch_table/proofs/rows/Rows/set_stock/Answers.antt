@@ -1,9 +1,8 @@
-use Rattle.std.proofs.Common.{ap, sym, ◌∙◌}
+use Rattle.std.proofs.Common.{ap}
 use Rattle.std.specs.Cmp.{nat_cmp_total}
 use Rattle.std.specs.FinMap as maps
 use Rattle.std.specs.FinMap.{nat_cmp-IsAntisymmetric}
-use Rattle.itch_table.specs.World.{World, stock_row}
-use Rattle.itch_table.proofs.MapViews.{view_insert, get_view}
+use Rattle.itch_table.proofs.MapViews.{view_insert}
 use Rattle.itch_table.proofs.rows.Rows.set_stock.Goals as goal
 use Rattle.itch_table.proofs.rows.Rows.set_stock.Goals.{in-Ok, in-Err}
 
@@ -16,13 +15,4 @@ returns-clause-ok g c =
           (view_insert nat_cmp_total nat_cmp-IsAntisymmetric inside.stocks.entries c.insert.new.self.entries _ _ ((w.in-Ok.ensures {u = tt}).updates.0))
           )
       | in-Err w ↦ rw w.result-is tt
-    ]
-
-pub returns-clause-room : goal.returns-clause-room
-returns-clause-room g c =
-    elim c.match-insert.branch [
-      | in-Ok w ↦ rw w.result-is tt
-      | in-Err w ↦ rw w.result-is (
-          ap (λ (v : World). stock_row v c.args.locate) (sym c.self.view_is) ∙ get_view nat_cmp_total c.self.inside.stocks.entries c.args.locate ∙ (w.in-Err.ensures {u = tt}).absent
-          )
     ]
