@@ -3,8 +3,8 @@ pub mod HexDigits
 pub mod HeldFields
 pub mod OneWord
 pub mod PrintedValues
-pub mod PrintableRows
+pub mod PrintableLayouts
 pub mod PrintedLines
 pub mod PrintedFiles
 pub mod RoundTrip
-pub mod Fronts
+pub mod Prefixes

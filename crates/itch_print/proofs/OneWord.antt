@@ -5,8 +5,8 @@ use Rattle.std.specs.List.{flat_map, filter, AllByRecursion as Each}
 use Rattle.std.specs.Str.Parse.{AllDigits}
 use Rattle.std.proofs.lemmas.Str.Parse.{digit_from_value}
 use Rattle.hex.specs.Hex.{encode_with, encode_lower, lower_digits}
-use Rattle.itch_layouts.specs.Spelling.{IsBytes}
-use Rattle.itch_text.specs.Values.{stands_for_itself}
+use Rattle.byte_strings.specs.Bytes.{IsByte}
+use Rattle.itch_text.specs.Values.{denotes_itself}
 use Rattle.itch_text.specs.Words.{pieces, words, is_word}
 use Rattle.itch_print.specs.Quoted.{escaped}
 
@@ -59,6 +59,10 @@ pub words_joined : (w : List ℕ) (ws : List (List ℕ)) → IsOne w → Each Is
 unfolding words
 words_joined w ws h k = ap (filter is_word) (pieces_joined w ws h.0 k) ∙ all_words (w ∷ ws) (h, k)
 
+-- ---- strings of bytes, by recursion
+abbrev pub EachByte : List ℕ → Type 0
+EachByte bs = Each IsByte bs
+
 -- ---- bytes above the space, the quote and the other marks before the digits
 abbrev pub IsHigh : ℕ → Type 0
 IsHigh b = 48 ≤ b
@@ -88,7 +92,7 @@ below_at test (suc n) k h l =
 lower_high : (d : ℕ) → d < 16 → 48 ≤ get_or lower_digits d 0
 lower_high d h = leb-true 48 (get_or lower_digits d 0) (below_at (λ k. leb 48 (get_or lower_digits k 0)) 16 d refl h)
 
-pub high_hex : (bs : List ℕ) → IsBytes bs → Each IsHigh (encode_lower bs)
+pub high_hex : (bs : List ℕ) → EachByte bs → Each IsHigh (encode_lower bs)
 unfolding encode_with
 high_hex [] h = tt
 high_hex (b ∷ bs) h = (lower_high (b / 16) (omega (arith, h.0)), (lower_high (b % 16) (omega arith), high_hex bs h.1))
@@ -117,7 +121,7 @@ each_weaker P Q f (x ∷ xs) h = (f x h.0, each_weaker P Q f xs h.1)
 high_inner : (b : ℕ) → 48 ≤ b → IsInner b
 high_inner b h = (omega arith, λ e. omega arith)
 
-plain_inner : (b : ℕ) → stands_for_itself b ≡ true → IsInner b
+plain_inner : (b : ℕ) → denotes_itself b ≡ true → IsInner b
 plain_inner b h =
     let p = and_parts (leb 32 b && leb b 126 && not (b == 34)) (not (b == 92)) h in
     let q = and_parts (leb 32 b && leb b 126) (not (b == 34)) p.0 in
@@ -128,12 +132,12 @@ plain_inner b h =
     not_true true e n = false≢true n
     not_true false e n = false≢true e
 
-inner_byte_by : (b : ℕ) (plain : Bool) → stands_for_itself b ≡ plain → b < 256 → Each IsInner (cond plain (b ∷ []) (92 ∷ 120 ∷ encode_lower (b ∷ [])))
+inner_byte_by : (b : ℕ) (plain : Bool) → denotes_itself b ≡ plain → b < 256 → Each IsInner (cond plain (b ∷ []) (92 ∷ 120 ∷ encode_lower (b ∷ [])))
 inner_byte_by b true e h = (plain_inner b e, tt)
 inner_byte_by b false e h =
     (high_inner 92 (lit≤ tt), (high_inner 120 (lit≤ tt), each_weaker IsHigh IsInner high_inner (encode_lower (b ∷ [])) (high_hex (b ∷ []) (h, tt))))
 
-pub inner_bytes : (bs : List ℕ) → IsBytes bs → Each IsInner (flat_map escaped bs)
+pub inner_bytes : (bs : List ℕ) → EachByte bs → Each IsInner (flat_map escaped bs)
 inner_bytes [] h = tt
 inner_bytes (b ∷ bs) h =
-    each_append IsInner (escaped b) (flat_map escaped bs) (inner_byte_by b (stands_for_itself b) refl h.0) (inner_bytes bs h.1)
+    each_append IsInner (escaped b) (flat_map escaped bs) (inner_byte_by b (denotes_itself b) refl h.0) (inner_bytes bs h.1)

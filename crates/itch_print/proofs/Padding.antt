@@ -13,19 +13,19 @@ and-false : (a : Bool) → (a && false) ≡ false
 and-false true = refl
 and-false false = refl
 
-all-space : (front : List ℕ) → list_all is_space (front ++ 32 ∷ []) ≡ list_all is_space front
-all-space front = list_all-append is_space front (32 ∷ []) ∙ and-true (list_all is_space front)
+all-space : (prefix : List ℕ) → list_all is_space (prefix ++ 32 ∷ []) ≡ list_all is_space prefix
+all-space prefix = list_all-append is_space prefix (32 ∷ []) ∙ and-true (list_all is_space prefix)
 
-all-last : (front : List ℕ) (byte : ℕ) → is_space byte ≡ false → list_all is_space (front ++ byte ∷ []) ≡ false
-all-last front byte h = list_all-append is_space front (byte ∷ []) ∙ rw h (and-false (list_all is_space front))
+all-last : (prefix : List ℕ) (byte : ℕ) → is_space byte ≡ false → list_all is_space (prefix ++ byte ∷ []) ≡ false
+all-last prefix byte h = list_all-append is_space prefix (byte ∷ []) ∙ rw h (and-false (list_all is_space prefix))
 
 -- a space at the end is dropped
-pub unpadded-space : (front : List ℕ) → unpadded (front ++ 32 ∷ []) ≡ unpadded front
+pub unpadded-space : (prefix : List ℕ) → unpadded (prefix ++ 32 ∷ []) ≡ unpadded prefix
 unpadded-space [] = refl
 unpadded-space (byte ∷ rest) = rw (all-space rest, unpadded-space rest) refl
 
 -- another byte at the end ends the field
-pub unpadded-last : (front : List ℕ) (byte : ℕ) → is_space byte ≡ false → unpadded (front ++ byte ∷ []) ≡ front ++ byte ∷ []
+pub unpadded-last : (prefix : List ℕ) (byte : ℕ) → is_space byte ≡ false → unpadded (prefix ++ byte ∷ []) ≡ prefix ++ byte ∷ []
 unpadded-last [] byte h = rw h refl
 unpadded-last (first ∷ rest) byte h = rw (all-last rest byte h, and-false (is_space first), unpadded-last rest byte h) refl
 

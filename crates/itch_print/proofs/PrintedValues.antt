@@ -1,25 +1,21 @@
 -- What is written for a value is a text of the value, one word, and without control bytes.
 use Rattle.std.proofs.Common.{◌≡◌, ℕ, suc, ◌+◌, ◌-◌, ◌*◌, ◌/◌, ◌%◌, ◌^◌, ◌<◌, ◌≤◌, Bool, true, false, cond, List, [], ◌∷◌, ◌++◌, length, replicate, decimal, Some, refl, sym, ap, ap₂, ◌∙◌, arith, leb, leb-true, lit<, lit≤, eqb-true}
 use Rattle.std.proofs.lemmas.Bool.{and_parts}
+use Rattle.std.proofs.lemmas.List.Elements.{recursion_from_All}
+use Rattle.byte_strings.specs.Bytes.{IsByte}
 use Rattle.std.proofs.lemmas.Fmt.{decimal_is_IsNumeral, length-decimal-le}
 use Rattle.std.specs.List.{flat_map, list_all, AllByRecursion as Each}
 use Rattle.hex.specs.Hex.{encode_with, encode_lower}
 use Rattle.hex.proofs.HexLemmas.{IsDigits-lower_digits}
 use Rattle.itch_layouts.specs.Layouts.{Form, Integer, Alpha, Value, Number, Bytes}
-use Rattle.itch_layouts.specs.Spelling.{FitsField, IsBytes}
-use Rattle.itch_text.specs.Values.{unescaped, with_first, padded, stands_for_itself, ValueText}
+use Rattle.itch_layouts.specs.Encoding.{FitsField}
+use Rattle.itch_text.specs.Values.{unescaped, with_first, padded, denotes_itself, ValueText}
+use Rattle.itch_text.proofs.Escapes.{itself_first}
 use Rattle.itch_print.specs.Quoted.{is_space, escaped, unpadded}
-use Rattle.itch_print.specs.Spelling.{value_text}
-use Rattle.itch_print.proofs.OneWord.{below_at, IsHigh, IsInk, IsInner, closed, closed_high, closed_inner, high_digits, inner_bytes, each_append, each_weaker}
+use Rattle.itch_print.specs.Disassembly.{value_text}
+use Rattle.itch_print.proofs.OneWord.{EachByte, below_at, IsHigh, IsInk, IsInner, closed, closed_high, closed_inner, high_digits, inner_bytes, each_append, each_weaker}
 
 -- ---- bytes between quotes
-
-unescaped_plain : (b : ℕ) (rest : List ℕ) → stands_for_itself b ≡ true → unescaped (b ∷ rest) ≡ with_first (Some b) (unescaped rest)
-unfolding unescaped
-unescaped_plain b [] h = rw h refl
-unescaped_plain b (c ∷ []) h = rw h refl
-unescaped_plain b (c ∷ d ∷ []) h = rw h refl
-unescaped_plain b (c ∷ d ∷ e ∷ rest) h = rw h refl
 
 unescaped_hex : (b : ℕ) (rest : List ℕ) → b < 256 → unescaped ((92 ∷ 120 ∷ encode_lower (b ∷ [])) ++ rest) ≡ with_first (Some b) (unescaped rest)
 unfolding unescaped encode_with
@@ -27,15 +23,15 @@ unescaped_hex b rest h =
     let whole : b / 16 * 16 + b % 16 ≡ b = omega arith in
     rw (IsDigits-lower_digits (b / 16) (omega arith), IsDigits-lower_digits (b % 16) (omega arith)) (ap (λ x. with_first (Some x) (unescaped rest)) whole)
 
-unescaped_by : (b : ℕ) (rest : List ℕ) (plain : Bool) → stands_for_itself b ≡ plain → b < 256 → unescaped (cond plain (b ∷ []) (92 ∷ 120 ∷ encode_lower (b ∷ [])) ++ rest) ≡ with_first (Some b) (unescaped rest)
-unescaped_by b rest true e h = unescaped_plain b rest e
+unescaped_by : (b : ℕ) (rest : List ℕ) (plain : Bool) → denotes_itself b ≡ plain → b < 256 → unescaped (cond plain (b ∷ []) (92 ∷ 120 ∷ encode_lower (b ∷ [])) ++ rest) ≡ with_first (Some b) (unescaped rest)
+unescaped_by b rest true e h = itself_first b rest e
 unescaped_by b rest false e h = unescaped_hex b rest h
 
-unescaped_text : (bs : List ℕ) → IsBytes bs → unescaped (flat_map escaped bs) ≡ Some bs
+unescaped_text : (bs : List ℕ) → EachByte bs → unescaped (flat_map escaped bs) ≡ Some bs
 unfolding unescaped
 unescaped_text [] h = refl
 unescaped_text (b ∷ bs) h =
-    unescaped_by b (flat_map escaped bs) (stands_for_itself b) refl h.0 ∙ ap (with_first (Some b)) (unescaped_text bs h.1)
+    unescaped_by b (flat_map escaped bs) (denotes_itself b) refl h.0 ∙ ap (with_first (Some b)) (unescaped_text bs h.1)
 
 -- ---- padding
 
@@ -55,7 +51,7 @@ padded_by b bs false e h =
     let n : suc (length bs) - suc (length (unpadded bs)) ≡ length bs - length (unpadded bs) = omega arith in
     ap (λ k. b ∷ (unpadded bs ++ replicate k 32)) n ∙ ap (λ xs. b ∷ xs) h
 
-bytes_by : (b : ℕ) (bs : List ℕ) (s : Bool) → b < 256 → IsBytes (unpadded bs) → IsBytes (cond s [] (b ∷ unpadded bs))
+bytes_by : (b : ℕ) (bs : List ℕ) (s : Bool) → b < 256 → EachByte (unpadded bs) → EachByte (cond s [] (b ∷ unpadded bs))
 bytes_by b bs true h k = tt
 bytes_by b bs false h k = (h, k)
 
@@ -68,7 +64,7 @@ padded_again : (bs : List ℕ) → padded (length bs) (unpadded bs) ≡ bs
 padded_again [] = refl
 padded_again (b ∷ bs) = padded_by b bs (list_all is_space (b ∷ bs)) refl (padded_again bs)
 
-unpadded_bytes : (bs : List ℕ) → IsBytes bs → IsBytes (unpadded bs)
+unpadded_bytes : (bs : List ℕ) → EachByte bs → EachByte (unpadded bs)
 unpadded_bytes [] h = tt
 unpadded_bytes (b ∷ bs) h = bytes_by b bs (list_all is_space (b ∷ bs)) h.0 (unpadded_bytes bs h.1)
 
@@ -92,7 +88,7 @@ value_text_is Alpha width (Bytes bs) w h =
       inner = flat_map escaped (unpadded bs);
       short = unpadded bs;
       between = refl;
-      denoted = unescaped_text (unpadded bs) (unpadded_bytes bs h.1);
+      denoted = unescaped_text (unpadded bs) (unpadded_bytes bs (recursion_from_All IsByte bs h.1));
       within = rw (sym h.0) (unpadded_shorter bs);
       filled = rw (sym h.0) (sym (padded_again bs));
     }
@@ -101,13 +97,13 @@ value_text_is Alpha width (Number n) w h = absurd h
 
 pub value_closed : (form : Form) (width : ℕ) (value : Value) → IsWidth form width → FitsField form width value → closed false (value_text value) ≡ true
 value_closed Integer width (Number n) w h = closed_high (decimal n) (high_digits (decimal n) (decimal_is_IsNumeral n (below_64 n width w h)).0.1)
-value_closed Alpha width (Bytes bs) w h = closed_inner (flat_map escaped (unpadded bs)) (inner_bytes (unpadded bs) (unpadded_bytes bs h.1))
+value_closed Alpha width (Bytes bs) w h = closed_inner (flat_map escaped (unpadded bs)) (inner_bytes (unpadded bs) (unpadded_bytes bs (recursion_from_All IsByte bs h.1)))
 value_closed Integer width (Bytes bs) w h = absurd h
 value_closed Alpha width (Number n) w h = absurd h
 
 pub value_ink : (form : Form) (width : ℕ) (value : Value) → IsWidth form width → FitsField form width value → Each IsInk (value_text value)
 value_ink Integer width (Number n) w h = each_weaker IsHigh IsInk (λ x i. omega arith) (decimal n) (high_digits (decimal n) (decimal_is_IsNumeral n (below_64 n width w h)).0.1)
 value_ink Alpha width (Bytes bs) w h =
-    (lit≤ tt, each_append IsInk (flat_map escaped (unpadded bs)) (34 ∷ []) (each_weaker IsInner IsInk (λ x i. i.0) (flat_map escaped (unpadded bs)) (inner_bytes (unpadded bs) (unpadded_bytes bs h.1))) (lit≤ tt, tt))
+    (lit≤ tt, each_append IsInk (flat_map escaped (unpadded bs)) (34 ∷ []) (each_weaker IsInner IsInk (λ x i. i.0) (flat_map escaped (unpadded bs)) (inner_bytes (unpadded bs) (unpadded_bytes bs (recursion_from_All IsByte bs h.1)))) (lit≤ tt, tt))
 value_ink Integer width (Bytes bs) w h = absurd h
 value_ink Alpha width (Number n) w h = absurd h

@@ -1,18 +1,19 @@
 -- The text that is written for a file denotes the file's bytes, and nothing else.
-use Rattle.std.proofs.Common.{◌≡◌, ◌≢◌, ℕ, List, refl, sym, subst}
-use Rattle.std.specs.List.{All}
-use Rattle.binaryfile.specs.Bytes.{IsByte}
+use Rattle.std.proofs.Common.{◌≡◌, ◌≢◌, ℕ, List, [], ◌++◌, refl, sym, ap, ◌∙◌, subst}
+use Rattle.byte_strings.specs.Bytes.{AreBytes}
 use Rattle.binaryfile.specs.Entries.{Contents, Splits, bytes_of}
 use Rattle.itch_text.specs.Text.{Text}
 use Rattle.itch_text.specs.Blames.{DenotesNothing}
 use Rattle.itch_text.specs.declared.assembler.AsmFault.{AsmFault}
 use Rattle.itch_text.specs.declared.assembler.AsmFault.TheVariants.{Memory, Mnemonic, Field, AfterEnd}
 use Rattle.itch_text.proofs.WholeTexts.{one_meaning}
-use Rattle.itch_print.specs.Spelling.{text_of}
-use Rattle.itch_print.proofs.PrintedFiles.{spelling_denotes}
+use Rattle.itch_print.specs.Disassembly.{text_of}
+use Rattle.itch_print.proofs.PrintedFiles.{disassembly_denotes}
 
-pub text_denotes : (bytes text : List ℕ) (contents : Contents) → All IsByte bytes → Splits bytes contents → text ≡ text_of contents → Text text (bytes_of contents)
-text_denotes bytes text contents range split is = subst (Text text) split.whole (subst (λ t. Text t bytes) (sym is) (spelling_denotes bytes contents range split))
+pub text_denotes : (bytes empty text : List ℕ) (contents : Contents) → AreBytes bytes → Splits bytes contents → empty ≡ [] → text ≡ empty ++ text_of contents → Text text (bytes_of contents)
+text_denotes bytes empty text contents range split none more =
+    let is : text ≡ text_of contents = more ∙ ap (λ (xs : List ℕ). xs ++ text_of contents) none in
+    subst (Text text) split.whole (subst (λ t. Text t bytes) (sym is) (disassembly_denotes bytes contents range split))
 
 pub only_bytes : (bytes text found : List ℕ) → Text text bytes → Text text found → found ≡ bytes
 only_bytes bytes text found denotes other = one_meaning text found bytes other denotes

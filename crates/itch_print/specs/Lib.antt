@@ -1,3 +1,3 @@
 pub mod Quoted
-pub mod Spelling
+pub mod Disassembly
 pub mod Printing

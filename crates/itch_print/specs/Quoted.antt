@@ -2,14 +2,15 @@
 use Rattle.std.specs.Prelude.{ℕ, ◌==◌, Bool, if◌then◌else◌, List, [], ◌∷◌, ◌++◌, codes}
 use Rattle.std.specs.List.{flat_map, list_all}
 use Rattle.hex.specs.Hex.{encode_lower}
-use Rattle.itch_text.specs.Values.{stands_for_itself}
+use Rattle.itch_text.specs.Characters.{space}
+use Rattle.itch_text.specs.Values.{denotes_itself}
 
 abbrev pub is_space : ℕ → Bool
-is_space byte = byte == 32
+is_space byte = byte == space
 
 -- a byte between quotes: itself, or `\x` and its two hexadecimal digits in lower case
 abbrev pub escaped : ℕ → List ℕ
-escaped byte = if stands_for_itself byte then byte ∷ [] else codes "\\x" ++ encode_lower (byte ∷ [])
+escaped byte = if denotes_itself byte then byte ∷ [] else codes "\\x" ++ encode_lower (byte ∷ [])
 
 -- the bytes without the spaces that pad them on the right
 abbrev pub unpadded : List ℕ → List ℕ

@@ -1,17 +1,18 @@
 //! A whole file as text.
-ghost use Rattle.std.specs.Prelude.{◌≡◌, ◌++◌, IfOk, OnOk};
+ghost use Rattle.std.specs.Prelude.{◌≡◌, IfOk};
+ghost use Rattle.byte_strings.specs.Extending.{Extends};
 ghost use Rattle.binaryfile.specs.Entries.{bytes_of};
 ghost use Rattle.itch_text.specs.Text.{Text};
-ghost use Rattle.itch_print.specs.Spelling.{text_of};
+ghost use Rattle.itch_print.specs.Disassembly.{text_of};
 
 use crate::lines::{put_end, put_payload};
 use binaryfile::Day;
 use std::alloc::{AllocError, Allocator};
 
 // Adds a line for each payload in order, and the lines of the file's end.
-#[tactic(auto, unfolding(crate::specs::Spelling::text_of))]
+#[tactic(auto, unfolding(crate::specs::Disassembly::text_of))]
 fn put_day<A: Allocator>(text: &mut Vec<u8, A>, day: &Day<A>) -> Result<(), AllocError>
-    ensures { OnOk result (text.new.items ≡ text.old.items ++ text_of day.now) }
+    ensures { Extends text.old text.new (text_of day.now) result }
 {
     for payload in day.payloads() {
         put_payload(text, payload)?;
@@ -23,12 +24,19 @@ fn put_day<A: Allocator>(text: &mut Vec<u8, A>, day: &Day<A>) -> Result<(), Allo
 ///
 /// A payload whose type has a layout, and which has its size, is written as a message, by the mnemonic and `name=value`
 /// for each field; any other as `raw` and hexadecimal digits. Where the file is marked, `end` follows, and `rest` with
-/// the bytes behind the marker where there are any; else `cut` with what is less than a whole entry, where there is
+/// the bytes after the marker where there are any; else `cut` with what is less than a whole entry, where there is
 /// something. The form is of this project, the layouts are Nasdaq TotalView-ITCH 5.0's.
 ///
-/// The error is the want of memory. The day is unchanged.
+/// The only error is that memory was refused. The day is unchanged.
+///
+/// ```text
+/// // The bytes are b"\0\x0cS\0\0\0\0\0\0\0\0\0\0O\0\0".
+/// let day = Day::from_bytes(Global, bytes, 1)?;
+/// let text = disassemble(Global, &day)?;
+/// assert_eq!(text, b"system locate=0 tracking=0 time=0 event=\"O\"\nend\n");
+/// ```
 pub fn disassemble<A: Allocator + Copy>(alloc: A, day: &Day<A>) -> Result<Vec<u8, A>, AllocError>
-    ensures spelling { IfOk result (λ text. text.items ≡ text_of day.now) }
+    ensures text { IfOk result (λ text. text.items ≡ text_of day.now) }
     // The text denotes the very bytes that were loaded.
     ensures denotes { IfOk result (λ text. Text text.items (bytes_of day.now)) }
 {

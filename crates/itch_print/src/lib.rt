@@ -1,11 +1,12 @@
 //! The disassembler: the one text of a day file, and the quoted form of its fields of text.
 //!
-//! A payload that is a message is a line of its fields by name, any other payload a line of its bytes, and the file's end
-//! follows. That text denotes the file's bytes ([`spelling_denotes`]): what is disassembled can be assembled again.
+//! A payload that is a message is a line of its fields by name, any other payload a line of its bytes, and the file's
+//! end follows. That text denotes the file's bytes ([`disassembly_denotes`]): what is disassembled can be assembled
+//! again.
 #![tactic(auto)]
 
 mod disassembling;
-mod hexadecimal;
+mod hex_digits;
 mod laws;
 mod lines;
 mod printing;
@@ -13,6 +14,6 @@ mod quoting;
 mod reassembling;
 
 pub use disassembling::disassemble;
-pub use laws::spelling_denotes;
+pub use laws::disassembly_denotes;
 pub use quoting::{put_quoted, quote};
 pub use reassembling::reassembled;

@@ -1,10 +1,11 @@
 //! The fields of a message, as text.
-ghost use Rattle.std.specs.Prelude.{◌≡◌, ◌++◌, OnOk, codes, decimal, map};
-ghost use Rattle.std.specs.List.{All, flat_map};
+ghost use Rattle.std.specs.Prelude.{◌++◌, codes, decimal, map};
+ghost use Rattle.byte_strings.specs.Extending.{Extends};
+ghost use Rattle.std.specs.List.{All};
 ghost use Rattle.itch_layouts.specs.Layouts.{value_at};
-ghost use Rattle.itch_layouts.specs.Rows.{as_field};
+ghost use Rattle.itch_layouts.specs.StaticFields.{as_field};
 ghost use Rattle.itch_print.specs.Printing.{HasField};
-ghost use Rattle.itch_print.specs.Spelling.{value_text, field_text};
+ghost use Rattle.itch_print.specs.Disassembly.{value_text, field_text, field_texts};
 
 use crate::quoting::put_quoted;
 use itch_layouts::{Field, Form};
@@ -12,7 +13,7 @@ use std::alloc::{AllocError, Allocator};
 
 // Adds a number in decimal digits.
 fn put_number<A: Allocator>(text: &mut Vec<u8, A>, number: u64) -> Result<(), AllocError>
-    ensures { OnOk result (text.new.items ≡ text.old.items ++ decimal number) }
+    ensures { Extends text.old text.new (decimal number) result }
 {
     let mut buffer = itoa::Buffer::new();
     text.extend_from_slice(buffer.format(number).as_bytes())
@@ -25,7 +26,7 @@ fn put_value<A: Allocator>(
     field: &Field,
 ) -> Result<(), AllocError>
     requires { HasField payload.now (as_field field.now) }
-    ensures { OnOk result (text.new.items ≡ text.old.items ++ value_text (value_at payload.now (as_field field.now))) }
+    ensures { Extends text.old text.new (value_text (value_at payload.now (as_field field.now))) result }
 {
     match field.form {
         Form::Integer => put_number(text, field.number_in(payload)),
@@ -40,7 +41,7 @@ fn put_field<A: Allocator>(
     field: &Field,
 ) -> Result<(), AllocError>
     requires { HasField payload.now (as_field field.now) }
-    ensures { OnOk result (text.new.items ≡ text.old.items ++ (codes " " ++ field_text payload.now (as_field field.now))) }
+    ensures { Extends text.old text.new (codes " " ++ field_text payload.now (as_field field.now)) result }
 {
     text.push(b' ')?;
     text.extend_from_slice(field.name)?;
@@ -55,7 +56,7 @@ pub(crate) fn put_fields<A: Allocator>(
     fields: &[Field],
 ) -> Result<(), AllocError>
     requires { All (HasField payload.now) (map as_field fields.now) }
-    ensures { OnOk result (text.new.items ≡ text.old.items ++ flat_map (λ field. codes " " ++ field_text payload.now field) (map as_field fields.now)) }
+    ensures { Extends text.old text.new (field_texts payload.now (map as_field fields.now)) result }
 {
     for field in fields {
         put_field(text, payload, field)?;

@@ -1,19 +1,20 @@
 //! The quoted form of fields of text.
-ghost use Rattle.std.specs.Prelude.{◌≡◌, ◌++◌, IfOk, OnErr, OnOk};
-ghost use Rattle.itch_print.specs.Printing.{IsFront};
+ghost use Rattle.std.specs.Prelude.{◌≡◌, IfOk, OnErr};
+ghost use Rattle.byte_strings.specs.Extending.{Extends};
+ghost use Rattle.itch_print.specs.Printing.{IsPrefix};
 ghost use Rattle.itch_print.specs.Quoted.{escaped, unpadded, quoted};
 
-use crate::hexadecimal::digits_of;
-use itch_text::stands_for_itself;
+use crate::hex_digits::digits_of;
+use itch_text::denotes_itself;
 use std::alloc::{AllocError, Allocator};
 
 // Adds a byte as it stands between quotes.
-#[tactic(auto, using(crate::proofs::Fronts::fronts))]
+#[tactic(auto, using(crate::proofs::Prefixes::prefixes))]
 fn put_escaped<A: Allocator>(text: &mut Vec<u8, A>, byte: u8) -> Result<(), AllocError>
-    ensures ok { OnOk result (text.new.items ≡ text.old.items ++ escaped byte) }
-    ensures err { OnErr result (IsFront text.old.items text.new.items) }
+    ensures ok { Extends text.old text.new (escaped byte) result }
+    ensures err { OnErr result (IsPrefix text.old.items text.new.items) }
 {
-    if stands_for_itself(byte) {
+    if denotes_itself(byte) {
         text.push(byte)?;
         return Ok(());
     }
@@ -27,20 +28,20 @@ fn unpadded(field: &[u8]) -> &[u8]
     ensures { result.now ≡ unpadded field.now }
 {
     let mut rest = field;
-    while let Some((last, front)) = rest.split_last() {
+    while let Some((last, prefix)) = rest.split_last() {
         if *last != b' ' {
             break;
         }
-        rest = front;
+        rest = prefix;
     }
     rest
 }
 
 // Adds a field of text between quotes. After an error a part of this may have been added.
-#[tactic(auto, using(crate::proofs::Fronts::fronts))]
+#[tactic(auto, using(crate::proofs::Prefixes::prefixes))]
 fn add_quoted<A: Allocator>(text: &mut Vec<u8, A>, field: &[u8]) -> Result<(), AllocError>
-    ensures ok { OnOk result (text.new.items ≡ text.old.items ++ quoted field.now) }
-    ensures err { OnErr result (IsFront text.old.items text.new.items) }
+    ensures ok { Extends text.old text.new (quoted field.now) result }
+    ensures err { OnErr result (IsPrefix text.old.items text.new.items) }
 {
     text.push(b'"')?;
     let kept = unpadded(field);
@@ -53,11 +54,11 @@ fn add_quoted<A: Allocator>(text: &mut Vec<u8, A>, field: &[u8]) -> Result<(), A
 
 /// Adds a field of text between quotes, without the spaces that pad it on the right.
 ///
-/// A byte from the space to the tilde that is neither the quote nor the backslash stands for itself, any other is `\x`
-/// and its two hexadecimal digits in lower case; a field of spaces alone is `""`. The form is of this project.
-/// The error is the want of memory, and leaves the text as it was.
+/// A byte from the space to the tilde that is neither the quote nor the backslash denotes itself, any other is written
+/// `\x` and its two hexadecimal digits in lower case; a field of spaces alone is `""`. The form is of this project.
+/// The only error is that memory was refused, and it leaves the text as it was.
 pub fn put_quoted<A: Allocator>(text: &mut Vec<u8, A>, field: &[u8]) -> Result<(), AllocError>
-    ensures ok { OnOk result (text.new.items ≡ text.old.items ++ quoted field.now) }
+    ensures ok { Extends text.old text.new (quoted field.now) result }
     ensures err { OnErr result (text.new.items ≡ text.old.items) }
 {
     let length = text.len();
@@ -70,7 +71,12 @@ pub fn put_quoted<A: Allocator>(text: &mut Vec<u8, A>, field: &[u8]) -> Result<(
 
 /// A field of text between quotes, as [`put_quoted`] adds it. Its memory is that of `alloc`.
 ///
-/// The error is the want of memory.
+/// The only error is that memory was refused.
+///
+/// ```text
+/// assert_eq!(quote(Global, b"AAPL    ")?, b"\"AAPL\"");
+/// assert_eq!(quote(Global, b"A\\B \n   ")?, b"\"A\\x5cB \\x0a\"");
+/// ```
 pub fn quote<A: Allocator + Copy>(alloc: A, field: &[u8]) -> Result<Vec<u8, A>, AllocError>
     ensures { IfOk result (λ text. text.items ≡ quoted field.now) }
 {

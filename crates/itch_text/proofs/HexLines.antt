@@ -1,7 +1,8 @@
 -- Appending the bytes of hexadecimal digits.
-use Rattle.std.proofs.Common.{◌≡◌, ◌≢◌, ◌==◌, ℕ, suc, ◌+◌, ◌-◌, ◌*◌, ◌/◌, ◌%◌, ◌<◌, ◌≤◌, true, false, List, [], ◌∷◌, ◌++◌, length, take, drop, replicate, Option, Some, None, Result, Ok, Err, option_map, ltb, lt-ltb, refl, sym, ap, ap₂, ◌∙◌, arith, append_assoc, append-nil, length-append}
-use Rattle.std.specs.Prelude.{MatchResult}
+use Rattle.std.proofs.Common.{◌≡◌, ◌≢◌, ◌==◌, ℕ, suc, ◌+◌, ◌-◌, ◌*◌, ◌/◌, ◌%◌, ◌<◌, ◌≤◌, true, false, List, [], ◌∷◌, ◌++◌, length, take, drop, replicate, Option, Some, None, Result, Ok, Err, option_map, lt-ltb, refl, sym, ap, ap₂, ◌∙◌, arith, append_assoc, append-nil, length-append}
+use Rattle.std.specs.Prelude.{MatchResult, is_ok}
 use Rattle.std.specs.Int.{w16, to_be_bytes}
+use Rattle.std.proofs.lemmas.Bool.{true≢false}
 use Rattle.std.proofs.lemmas.Bool.Decides.{nat_tests}
 use Rattle.std.proofs.lemmas.List.{take_at, drop_at, take_all, drop_all, length-replicate}
 use Rattle.std.proofs.lemmas.Option.{none-some}
@@ -9,25 +10,30 @@ use Rattle.hex.specs.Hex.{decode_of, decode_sized, decode_pairs}
 use Rattle.hex.specs.declared.error.FromHexError.{FromHexError}
 use Rattle.hex.proofs.HexLemmas.{decode_of-odd, decode_of-ok, decode_sized-twice}
 use Rattle.itch_text.specs.Items.{Entry, item_bytes}
-use Rattle.itch_text.specs.Reading.{some_bytes, bytes_in, hex_in, is_short, when}
-use Rattle.itch_text.specs.Fields.{ahead, Puts}
+use Rattle.itch_text.specs.Parsing.{some_bytes, bytes_in, hex_in, is_short, when}
+use Rattle.itch_text.specs.Fields.{extended, Puts}
 use Rattle.itch_text.specs.declared.fault.LineError.{LineError}
 use Rattle.itch_text.specs.declared.fault.LineError.TheVariants.{Memory, Wrong}
-use Rattle.itch_text.proofs.ItemReading.{bytes_complete, bytes_sound}
+use Rattle.itch_text.proofs.ItemParsing.{bytes_complete, bytes_sound}
+use Rattle.itch_text.proofs.Widths.{not_lt}
 
 -- what the decoder answers and writes
 pub written : (r : Result (List ℕ) FromHexError) (res : Result (Unit {0}) FromHexError) (x : Unit {0}) (new : List ℕ) → MatchResult r (λ bytes. (res ≡ Ok tt) × (new ≡ bytes)) (λ e. res ≡ Err e) → res ≡ Ok x → r ≡ Ok new
 written (Ok bytes) res x new h k = ap Ok (sym h.1)
 written (Err e) res x new h k = cc
 
-pub unwritten : (r : Result (List ℕ) FromHexError) (res : Result (Unit {0}) FromHexError) (e : FromHexError) (new : List ℕ) → MatchResult r (λ bytes. (res ≡ Ok tt) × (new ≡ bytes)) (λ e. res ≡ Err e) → res ≡ Err e → some_bytes r ≡ None
-unwritten (Ok bytes) res e new h k = absurd (two h.0 k)
+pub failed : (r : Result (List ℕ) FromHexError) (res : Result (Unit {0}) FromHexError) (e : FromHexError) (new : List ℕ) → MatchResult r (λ bytes. (res ≡ Ok tt) × (new ≡ bytes)) (λ e. res ≡ Err e) → res ≡ Err e → is_ok r ≡ false
+failed (Ok bytes) res e new h k = absurd (two h.0 k)
   where
     two : {res : Result (Unit {0}) FromHexError} {e : FromHexError} → res ≡ Ok tt → res ≡ Err e → ⊥
     two h k = cc
-unwritten (Err d) res e new h k = refl
+failed (Err d) res e new h k = refl
 
--- ---- the room behind what was there
+no_bytes : (r : Result (List ℕ) FromHexError) → is_ok r ≡ false → some_bytes r ≡ None
+no_bytes (Ok bytes) h = absurd (true≢false h)
+no_bytes (Err e) h = refl
+
+-- ---- the room after what was there
 pub grown : (old after : List ℕ) (start n len : ℕ) → length old ≡ start → len ≡ length old → after ≡ take (start + n) old ++ replicate (start + n - len) 0 → after ≡ old ++ replicate n 0
 grown old after start n len s l a =
     let more : start + n - len ≡ n = omega arith in
@@ -62,7 +68,7 @@ filled digits old after new start len s a l =
 
 pub digits_put : (digits old after bs new : List ℕ) (start len : ℕ) → (length digits == 0) ≡ false → length digits % 2 ≡ 0 → length old ≡ start → after ≡ old ++ replicate (length digits / 2) 0 → bs ≡ after → len ≡ start + length digits / 2
     → decode_sized digits (length (take (length bs - start) (drop start bs))) ≡ Ok new
-    → ahead old (bytes_in digits) ≡ Some (take len ((take start bs ++ (new ++ drop (length bs - start) (drop start bs))) ++ drop (length (take start bs ++ (new ++ drop (length bs - start) (drop start bs)))) after))
+    → extended old (bytes_in digits) ≡ Some (take len ((take start bs ++ (new ++ drop (length bs - start) (drop start bs))) ++ drop (length (take start bs ++ (new ++ drop (length bs - start) (drop start bs)))) after))
 digits_put digits old after bs new start len some e s a b l d =
     let d' : decode_of digits ≡ Ok new = sym (same_room digits old after start e s a) ∙ rw b at d in
     let ok = decode_of-ok digits new d' in
@@ -79,7 +85,7 @@ pub digits_refused : (digits old after bs new : List ℕ) (start : ℕ) (res : R
     → bytes_in digits ≡ None
 unfolding bytes_in
 digits_refused digits old after bs new start res e even s a b m r =
-    ap some_bytes (sym (same_room digits old after start even s a) ∙ ap (λ (xs : List ℕ). decode_sized digits (length (take (length xs - start) (drop start xs)))) (sym b)) ∙ unwritten _ res e new m r
+    ap some_bytes (sym (same_room digits old after start even s a) ∙ ap (λ (xs : List ℕ). decode_sized digits (length (take (length xs - start) (drop start xs)))) (sym b)) ∙ no_bytes _ (failed _ res e new m r)
 
 pub no_digits : (digits : List ℕ) → (length digits == 0) ≡ true → bytes_in digits ≡ None
 unfolding bytes_in decode_pairs
@@ -102,9 +108,6 @@ half digits bytes h =
     let long : length digits ≡ 2 * length bytes = ok.2 in
     omega arith
 
-not_lt : (m n : ℕ) → n ≤ m → ltb m n ≡ false
-not_lt m n h = grind (arith, nat_tests)
-
 abbrev pub raw_bytes : Option (List ℕ) → Option (List ℕ)
 raw_bytes o = option_map item_bytes (option_map Entry (when is_short o))
 
@@ -117,7 +120,7 @@ long_by digits (Some bytes) e h =
 pub raw_too_long : (ws : List (List ℕ)) (digits : List ℕ) → ws ≡ digits ∷ [] → (length digits / 2 < 65536 → ⊥) → raw_bytes (hex_in ws) ≡ None
 raw_too_long ws digits w h = rw w (long_by digits (bytes_in digits) refl (omega arith))
 
-raw_by : (old mid new digits : List ℕ) (size : ℕ) (o : Option (List ℕ)) → bytes_in digits ≡ o → size ≡ length digits / 2 → size < 65536 → mid ≡ old ++ to_be_bytes w16 size → ahead mid o ≡ Some new → ahead old (raw_bytes o) ≡ Some new
+raw_by : (old mid new digits : List ℕ) (size : ℕ) (o : Option (List ℕ)) → bytes_in digits ≡ o → size ≡ length digits / 2 → size < 65536 → mid ≡ old ++ to_be_bytes w16 size → extended mid o ≡ Some new → extended old (raw_bytes o) ≡ Some new
 raw_by old mid new digits size None e s l m h = absurd (none-some new h)
 raw_by old mid new digits size (Some bytes) e s l m h =
     let n : length bytes ≡ size = half digits bytes e ∙ sym s in

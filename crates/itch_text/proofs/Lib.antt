@@ -1,12 +1,12 @@
-pub mod FieldReading
-pub mod ItemReading
+pub mod FieldParsing
+pub mod ItemParsing
 pub mod WholeTexts
 pub mod FirstWord
 pub mod FirstLine
 pub mod Widths
 pub mod Numerals
 pub mod Escapes
-pub mod Behind
+pub mod Prefixes
 pub mod FieldBytes
 pub mod MessageBytes
 pub mod HexLines

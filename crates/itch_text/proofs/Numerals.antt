@@ -1,17 +1,16 @@
--- Reading the digits of a number, and its fit.
-use Rattle.std.proofs.Common.{◌≡◌, inl, inr, ℕ, suc, ◌+◌, ◌*◌, ◌^◌, ◌<◌, ◌≤◌, Bool, true, false, List, [], ◌∷◌, length, drop, get_or, ltb, lt-ltb, leb, leb-true, leb-false, Option, Some, None, option_map, refl, sym, ap, ◌∙◌, arith, drop-cons}
+-- Parsing the digits of a number, and its fit.
+use Rattle.std.proofs.Common.{◌≡◌, inl, inr, ℕ, suc, ◌+◌, ◌*◌, ◌^◌, ◌<◌, ◌≤◌, Bool, true, false, List, [], ◌∷◌, length, drop, get_or, lt-ltb, leb, leb-true, leb-false, Option, Some, None, option_map, refl, sym, ap, ◌∙◌, arith, drop-cons}
 use Rattle.std.specs.Str.Parse.{digits_value_after}
 use Rattle.std.specs.Char.{digit_value}
 use Rattle.std.specs.Bool.{then_some}
 use Rattle.std.proofs.lemmas.Bool.{cases_lt}
-use Rattle.std.proofs.lemmas.Bool.Decides.{nat_tests}
 use Rattle.itch_layouts.specs.Layouts.{Number, Integer}
-use Rattle.itch_layouts.specs.Rows.{is_width}
+use Rattle.itch_layouts.specs.Soundness.{is_width}
 use Rattle.std.specs.Prelude.{IsTrue}
 use Rattle.itch_text.specs.Values.{NumberText}
-use Rattle.itch_text.specs.Reading.{fitting, number_in}
-use Rattle.itch_text.proofs.FieldReading.{number_sound, number_complete}
-use Rattle.itch_text.proofs.Widths.{below_64, width_within}
+use Rattle.itch_text.specs.Parsing.{fitting, number_in}
+use Rattle.itch_text.proofs.FieldParsing.{number_sound, number_complete}
+use Rattle.itch_text.proofs.Widths.{below_64, not_lt, width_within}
 
 -- a numeral is at least what stands before it
 grows : (n : ℕ) (ds : List ℕ) → n ≤ digits_value_after 10 n ds
@@ -20,9 +19,6 @@ grows n (c ∷ cs) = omega (arith, grows (n * 10 + digit_value c) cs)
 
 pub grows_at : (n i : ℕ) (ds : List ℕ) → i < length ds → n * 10 + digit_value (get_or ds i 0) ≤ digits_value_after 10 n (drop i ds)
 grows_at n i ds h = rw (drop-cons ds i 0) (grows (n * 10 + digit_value (get_or ds i 0)) (drop (suc i) ds))
-
-not_lt : (m n : ℕ) → n ≤ m → ltb m n ≡ false
-not_lt m n h = grind (arith, nat_tests)
 
 le_of_not : (m n : ℕ) → (m < n → ⊥) → n ≤ m
 le_of_not m n h = elim (cases_lt m n) [ inl l ↦ absurd (h l) | inr l ↦ l ]

@@ -1,11 +1,10 @@
 -- The widths of fields.
-use Rattle.std.proofs.Common.{◌≡◌, ◌≢◌, ◌&&◌, ℕ, zero, suc, ◌+◌, ◌-◌, ◌^◌, ◌<◌, ◌≤◌, List, [], ◌∷◌, length, map, get_or, IsTrue, refl, sym, subst, arith, zero-add, le_refl, pow-suc}
+use Rattle.std.proofs.Common.{◌≡◌, ◌≢◌, ◌&&◌, ℕ, zero, suc, ◌+◌, ◌-◌, ◌^◌, ◌<◌, ◌≤◌, List, [], ◌∷◌, length, map, get_or, IsTrue, ltb, false, refl, sym, subst, arith, zero-add, le_refl, pow-suc}
 use Rattle.std.proofs.lemmas.Bool.Decides.{nat_tests}
 use Rattle.std.proofs.lemmas.Bool.{and_parts}
 use Rattle.std.specs.List.{list_all}
 use Rattle.itch_layouts.specs.Layouts.{Form, Integer, Alpha, Field, Layout, fields}
-use Rattle.itch_layouts.specs.Rows.{is_width, is_sound_field, is_sound, is_word}
-use Rattle.itch_layouts.specs.Spelling.{tiles}
+use Rattle.itch_layouts.specs.Soundness.{is_width, is_sound_field, is_sound, is_word, tiles}
 
 integer_width : (width : ℕ) → IsTrue (is_width Integer width) → width ≤ 8
 integer_width width h = grind (arith, nat_tests)
@@ -39,8 +38,11 @@ below_64 n width h l =
     let most : 256 ^ width ≤ 256 ^ 8 = subst (λ k. 256 ^ width ≤ 256 ^ k) whole (pow_more (8 - width) width) in
     omega (arith, most)
 
-pub row_tiles : (row : Layout) → IsTrue (is_sound row) → IsTrue (tiles 1 (fields row) row.size)
-row_tiles row h = (and_parts (is_word row.mnemonic && list_all is_sound_field (fields row)) (tiles 1 (fields row) row.size) h).1
+pub not_lt : (m n : ℕ) → n ≤ m → ltb m n ≡ false
+not_lt m n h = grind (arith, nat_tests)
+
+pub layout_tiles : (layout : Layout) → IsTrue (is_sound layout) → IsTrue (tiles 1 (fields layout) layout.size)
+layout_tiles layout h = (and_parts (is_word layout.mnemonic && list_all is_sound_field (fields layout)) (tiles 1 (fields layout) layout.size) h).1
 
 pub sound_at : {X : Type 0} (f : X → Field) (xs : List X) (k : ℕ) (d : X) → IsTrue (list_all is_sound_field (map f xs)) → k < length xs → IsTrue (is_sound_field (f (get_or xs k d)))
 sound_at f [] k d h l = absurd (omega arith)

@@ -6,13 +6,13 @@ use Rattle.itch_text.specs.declared.fault.LineFault.TheVariants.{Mnemonic as Wro
 use Rattle.itch_text.specs.declared.assembler.AsmFault.{AsmFault}
 use Rattle.itch_text.specs.declared.assembler.AsmFault.TheVariants.{Memory, Mnemonic, Field, AfterEnd}
 
--- a fault names the first faulty line of the text; want of memory says nothing of the text
+-- a fault names the first faulty line of the text; a refusal of memory says nothing of the text
 abbrev pub Blames : List ℕ → AsmFault → Type 0
 Blames text Memory = Unit {0}
 Blames text (Mnemonic line) = IsFirstFault text line WrongMnemonic
 Blames text (Field line) = IsFirstFault text line WrongField
 Blames text (AfterEnd line) = IsFirstFault text line WrongPlace
 
--- no bytes are those of the text
+-- the text denotes no bytes
 abbrev pub DenotesNothing : List ℕ → Type 0
 DenotesNothing text = (bytes : List ℕ) → Text text bytes → ⊥

@@ -1,13 +1,13 @@
 -- The first faulty line of a text. The faults are of this project.
-use Rattle.std.specs.Prelude.{◌≡◌, ℕ, suc, Bool, true, false, eqb, if◌then◌else◌, List, [], ◌∷◌, ◌++◌, length, codes, Option, Some, None}
+use Rattle.std.specs.Prelude.{◌≡◌, ℕ, suc, Bool, false, eqb, if◌then◌else◌, List, [], ◌∷◌, ◌++◌, length, codes, Option, Some, None}
 use Rattle.std.specs.Cmp.Lexicographic.{pointwise}
-use Rattle.itch_layouts.specs.Layouts.{Layout}
-use Rattle.itch_layouts.specs.Rows.{named}
+use Rattle.itch_layouts.specs.Layouts.{Layout, layout_of_mnemonic}
 use Rattle.itch_text.specs.Words.{words}
-use Rattle.itch_text.specs.Items.{Item, Nothing, Entry, End, Cut, Rest, Denotes, is_comment}
-use Rattle.itch_text.specs.Text.{Lines, Ordered, lines_of}
+use Rattle.itch_text.specs.Items.{Item, Denotes, is_comment}
+use Rattle.itch_text.specs.Order.{ItemKind, EntryKind, EndKind, CutKind, RestKind, next_place, place_after_all}
+use Rattle.itch_text.specs.Text.{Lines, lines_of}
 use Rattle.itch_text.specs.declared.place.Place.{Place}
-use Rattle.itch_text.specs.declared.place.Place.TheVariants.{Entries, Ended, Closed}
+use Rattle.itch_text.specs.declared.place.Place.TheVariants.{Entries}
 use Rattle.itch_text.specs.declared.fault.LineFault.{LineFault}
 use Rattle.itch_text.specs.declared.fault.LineFault.TheVariants.{Mnemonic, Field, AfterEnd}
 
@@ -19,9 +19,11 @@ pub data Name : Type 0 where
   CutName : Name
   RestName : Name
 
+-- the word is this name
 abbrev pub is : List ℕ → List ℕ → Bool
 is name word = pointwise eqb name word
 
+-- the name of a line of no message that a word is
 abbrev pub word_name : List ℕ → Option Name
 word_name word =
     if is (codes "raw") word then Some RawName else
@@ -30,55 +32,52 @@ word_name word =
     if is (codes "rest") word then Some RestName else None
 
 abbrev pub name_or : Option Layout → Option Name → Option Name
-name_or (Some row) other = Some (Message row)
+name_or (Some layout) other = Some (Message layout)
 name_or None other = other
 
+-- the name that a word is
 unfoldable pub name_of : List ℕ → Option Name
-name_of word = name_or (named word) (word_name word)
+name_of word = name_or (layout_of_mnemonic word) (word_name word)
 
--- before the end marker any line may stand but `rest`, behind it `rest` alone, and behind `rest` or `cut` none
-abbrev pub may_stand : Place → Name → Bool
-may_stand Entries RestName = false
-may_stand Entries _ = true
-may_stand Ended RestName = true
-may_stand Ended _ = false
-may_stand Closed _ = false
+-- the kind of the item that a line of this name denotes
+abbrev pub kind_of_name : Name → ItemKind
+kind_of_name (Message layout) = EntryKind
+kind_of_name RawName = EntryKind
+kind_of_name EndName = EndKind
+kind_of_name CutName = CutKind
+kind_of_name RestName = RestKind
 
--- where the line behind an item stands
-abbrev pub after : Place → Item → Place
-after place Nothing = place
-after place (Entry payload) = Entries
-after place End = Ended
-after place (Cut bytes) = Closed
-after place (Rest bytes) = Closed
+-- the fault of a line by where the next line stands, if this one may stand where it does: it may not, or it may and
+-- denotes nothing
+abbrev pub IsWrongWhereItStands : Option Place → List (List ℕ) → LineFault → Type 0
+IsWrongWhereItStands None line fault = fault ≡ AfterEnd
+IsWrongWhereItStands (Some next) line fault = (fault ≡ Field) × ((item : Item) → Denotes line item → ⊥)
 
-abbrev pub after_all : Place → List Item → Place
-after_all place [] = place
-after_all place (item ∷ items) = after_all (after place item) items
-
--- the fault of a line by whether its name may stand where it does: it may not, or it may and the line denotes nothing
-abbrev pub IsWrongWhereItStands : Bool → List (List ℕ) → LineFault → Type 0
-IsWrongWhereItStands false line fault = fault ≡ AfterEnd
-IsWrongWhereItStands true line fault = (fault ≡ Field) × ((item : Item) → Denotes line item → ⊥)
-
--- the fault of a line by the name that it begins with, where it has one
+-- the fault of a line by the name that it begins with, if it has one
 abbrev pub IsWrongByName : Place → Option Name → List (List ℕ) → LineFault → Type 0
 IsWrongByName place None line fault = fault ≡ Mnemonic
-IsWrongByName place (Some name) line fault = IsWrongWhereItStands (may_stand place name) line fault
+IsWrongByName place (Some name) line fault = IsWrongWhereItStands (next_place place (kind_of_name name)) line fault
 
 -- the fault of a line at a place: it has no name; else it may not stand there; else it denotes nothing
 abbrev pub IsWrong : Place → List (List ℕ) → LineFault → Type 0
 IsWrong place [] fault = ⊥
 IsWrong place (w ∷ ws) fault = (is_comment w ≡ false) × IsWrongByName place (name_of w) (w ∷ ws) fault
 
--- The first faulty line, counted from 1: the lines before it denote items in order, and it is wrong where it stands.
+-- The first faulty line, counted from 1: the lines before it denote items in order, and it is wrong at the place after
+-- them.
 pub record IsFirstFault (text : List ℕ) (number : ℕ) (fault : LineFault) : Type 0 where
-  pub front : List (List ℕ)
+  pub before : List (List ℕ)
   pub line : List ℕ
   pub rest : List (List ℕ)
   pub items : List Item
-  pub split : lines_of text ≡ front ++ line ∷ rest
-  pub counted : number ≡ suc (length front)
-  pub denoted : Lines front items
-  pub ordered : Ordered Entries items
-  pub wrong : IsWrong (after_all Entries items) (words line) fault
+  pub place : Place
+  pub split : lines_of text ≡ before ++ line ∷ rest
+  pub counted : number ≡ suc (length before)
+  pub denoted : Lines before items
+  pub ordered : place_after_all Entries items ≡ Some place
+  pub wrong : IsWrong place (words line) fault
+
+-- a text has at most one first faulty line, and that line has one fault
+abbrev pub HasOneFirstFault : Type 0
+HasOneFirstFault =
+    (text : List ℕ) (m n : ℕ) (f g : LineFault) → IsFirstFault text m f → IsFirstFault text n g → (m ≡ n) × (f ≡ g)

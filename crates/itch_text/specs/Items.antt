@@ -2,13 +2,13 @@
 use Rattle.std.specs.Prelude.{◌≡◌, ℕ, ◌<◌, ◌==◌, ◌⊎◌, Bool, true, false, List, [], ◌∷◌, length, codes, Ok, Some}
 use Rattle.hex.specs.Hex.{decode_of}
 use Rattle.binaryfile.specs.Entries.{entry, marker, IsPayload, IsPartial}
-use Rattle.itch_layouts.specs.Layouts.{Layout, fields, Value}
-use Rattle.itch_layouts.specs.Rows.{named}
-use Rattle.itch_layouts.specs.Spelling.{spelling}
+use Rattle.itch_layouts.specs.Layouts.{Layout, fields, Value, layout_of_mnemonic}
+use Rattle.itch_layouts.specs.Encoding.{encoding}
+use Rattle.itch_text.specs.Characters.{number_sign}
 use Rattle.itch_text.specs.Words.{words}
 use Rattle.itch_text.specs.Values.{FieldTexts}
 
--- nothing, an entry with a payload, the end marker, less than a whole entry, or bytes behind the marker
+-- nothing, an entry with a payload, the end marker, less than a whole entry, or bytes after the marker
 pub data Item : Type 0 where
   Nothing : Item
   Entry : List ℕ → Item
@@ -16,11 +16,12 @@ pub data Item : Type 0 where
   Cut : List ℕ → Item
   Rest : List ℕ → Item
 
+-- the word begins with `#`
 abbrev pub is_comment : List ℕ → Bool
 is_comment [] = false
-is_comment (b ∷ bs) = b == 35
+is_comment (b ∷ bs) = b == number_sign
 
--- a comment's first word begins with `#`
+-- the words of a comment
 abbrev pub IsComment : List (List ℕ) → Type 0
 IsComment [] = ⊥
 IsComment (w ∷ ws) = is_comment w ≡ true
@@ -29,20 +30,20 @@ IsComment (w ∷ ws) = is_comment w ≡ true
 abbrev pub HexText : List ℕ → List ℕ → Type 0
 HexText text bytes = (decode_of text ≡ Ok bytes) × (0 < length bytes)
 
--- a name and hexadecimal digits behind it
+-- a name, followed by the hexadecimal digits of the bytes
 abbrev pub IsHexLine : List ℕ → List (List ℕ) → List ℕ → Type 0
 IsHexLine name line bytes = (text : List ℕ) × (line ≡ name ∷ text ∷ []) × HexText text bytes
 
--- a mnemonic and all the fields of its layout denote the payload with these values
+-- a mnemonic, and a word for each field of its layout, denote the payload that has the values of the words
 pub record IsMessage (line : List (List ℕ)) (payload : List ℕ) : Type 0 where
   pub word : List ℕ
-  pub row : Layout
+  pub layout : Layout
   pub texts : List (List ℕ)
   pub values : List Value
-  pub layout : named word ≡ Some row
+  pub known : layout_of_mnemonic word ≡ Some layout
   pub parts : line ≡ word ∷ texts
-  pub spelled : FieldTexts (fields row) texts values
-  pub whole : payload ≡ row.kind ∷ spelling (fields row) values
+  pub denoted : FieldTexts (fields layout) texts values
+  pub whole : payload ≡ layout.kind ∷ encoding (fields layout) values
 
 -- what the words of a line denote
 abbrev pub Denotes : List (List ℕ) → Item → Type 0
@@ -56,7 +57,7 @@ Denotes line (Rest bytes) = IsHexLine (codes "rest") line bytes
 abbrev pub Line : List ℕ → Item → Type 0
 Line line item = Denotes (words line) item
 
--- the bytes of a file that an item stands for
+-- the bytes that an item adds to a file
 abbrev pub item_bytes : Item → List ℕ
 item_bytes Nothing = []
 item_bytes (Entry payload) = entry payload

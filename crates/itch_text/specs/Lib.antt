@@ -1,10 +1,12 @@
+pub mod Characters
 pub mod Words
 pub mod Values
 pub mod Items
+pub mod Order
 pub mod Text
 pub mod Faults
-pub mod Reading
+pub mod Blames
+pub mod Parsing
 pub mod Fields
 pub mod Names
 pub mod Steps
-pub mod Blames

@@ -13,7 +13,9 @@ use thiserror::Error;
 
 /// Why a text was not assembled. All lines of the text are counted, from 1, and the first faulty one is named.
 ///
-/// In one line `Mnemonic` comes before `AfterEnd`, and that before `Field`. The rules are of this project.
+/// A line has one fault, the first of these: `Mnemonic`, where it begins with no name of a line; `AfterEnd`, where a line
+/// of its name may not stand there; and `Field`. After a line `end`, for example, `end 1` is `AfterEnd`, and `ends` is
+/// `Mnemonic`. The rules are of this project.
 #[derive(Debug, Clone, Copy, PartialEq, Eq, Drop, Error)]
 pub enum AsmFault {
     /// Memory was refused. It says nothing of the text.
@@ -22,16 +24,16 @@ pub enum AsmFault {
     /// The line's first word is neither a mnemonic nor `raw`, `end`, `cut` or `rest`.
     #[error("line {0}: mnemonic")]
     Mnemonic(u64),
-    /// The line's first word is a name, and what stands behind it is not what a line of that name has.
+    /// The line's first word is a name, and what follows is not what a line of that name has.
     #[error("line {0}: field")]
     Field(u64),
-    /// The line can't stand there: behind `end` only `rest` may stand, behind `rest` and `cut` nothing, and `rest`
-    /// nowhere but behind `end`.
+    /// The line may not stand there: after `end` only `rest` may stand, after `rest` and `cut` nothing, and `rest`
+    /// nowhere but after `end`.
     #[error("line {0}: after end")]
     AfterEnd(u64),
 }
 
-/// The fault of a text whose line of this number was not taken.
+// The fault of a text whose line of this number was not taken.
 fn fault_at(line: u64, error: LineError) -> AsmFault
     ensures { result ≡ fault_at line error }
 {
@@ -46,7 +48,14 @@ fn fault_at(line: u64, error: LineError) -> AsmFault
 /// The bytes of the file that a text denotes. The text form is of this project.
 ///
 /// A fault names the first faulty line, and then the text denotes no bytes at all; `Memory` says nothing of the text.
-/// After a fault there is no value, and what was appended is given back.
+/// After a fault there is no value, and the memory that was taken is given back.
+///
+/// ```text
+/// let text = b"system locate=0 tracking=0 time=0 event=\"O\"\nend\n";
+/// let bytes = assemble(Global, text)?;
+/// assert_eq!(bytes, b"\0\x0cS\0\0\0\0\0\0\0\0\0\0O\0\0");
+/// assert_eq!(assemble(Global, b"end\nend\n").err(), Some(AsmFault::AfterEnd(2)));
+/// ```
 pub fn assemble<A: Allocator + Copy>(alloc: A, text: &[u8]) -> Result<Vec<u8, A>, AsmFault>
     ensures bytes { IfOk result (λ bytes. Text text.now bytes.items) }
     ensures first_fault { IfErr result (Blames text.now) }
@@ -57,13 +66,13 @@ pub fn assemble<A: Allocator + Copy>(alloc: A, text: &[u8]) -> Result<Vec<u8, A>
     let mut number = 0u64;
     let mut rest = Some(text);
     'lines: while let Some(lines) = rest {
-        let (line, behind) = split_line(lines);
+        let (line, following) = split_line(lines);
         number += 1;
         match put_line(&mut bytes, place, line) {
             Ok(next) => place = next,
             Err(error) => return Err(fault_at(number, error)),
         }
-        rest = behind;
+        rest = following;
     }
     Ok(bytes)
 }

@@ -11,7 +11,7 @@ pub(crate) enum LineFault {
     Mnemonic,
     /// It is no line of its name.
     Field,
-    /// A line of its name can't stand there.
+    /// A line of its name may not stand there.
     AfterEnd,
 }
 

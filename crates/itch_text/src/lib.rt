@@ -1,17 +1,17 @@
 //! The text form of a day file, and the assembler.
 //!
 //! A text has a line for each entry of the file, in their order: a message by its mnemonic and fields, or any payload
-//! by `raw` and its bytes in hexadecimal digits. `end` is the end marker and `rest` the bytes behind it; `cut` is less
+//! by `raw` and its bytes in hexadecimal digits. `end` is the end marker and `rest` the bytes after it; `cut` is less
 //! than a whole entry, where a file stops inside one. Blank lines, and lines that begin with `#`, denote nothing.
 //!
 //! [`assemble`] gives the bytes of the file that a text denotes, or its first faulty line. [`one_meaning`] is the law
-//! that a text denotes at most one string of bytes.
+//! that a text denotes at most one string of bytes, [`one_first_fault`] that it has at most one first faulty line.
 #![tactic(auto)]
 
 mod assembler;
 mod fault;
 mod fields;
-mod hexadecimal;
+mod hex_lines;
 mod laws;
 mod line;
 mod message;
@@ -22,5 +22,5 @@ mod quoted;
 mod words;
 
 pub use assembler::{AsmFault, assemble};
-pub use laws::one_meaning;
-pub use quoted::stands_for_itself;
+pub use laws::{one_first_fault, one_meaning};
+pub use quoted::denotes_itself;

@@ -1,45 +1,53 @@
 //! A line of a text, taken where it stands.
 ghost use Rattle.std.specs.Prelude.{◌≡◌, ◌<◌, ◌∷◌, [], length, MatchOption};
+ghost use Rattle.std.specs.List.{position};
 ghost use Rattle.itch_text.specs.Words.{words};
 ghost use Rattle.itch_text.specs.Items.{is_comment};
-ghost use Rattle.itch_text.specs.Text.{lines_of};
+ghost use Rattle.itch_text.specs.Text.{is_line_feed, lines_of};
 ghost use Rattle.itch_text.specs.Faults.{EndName};
-ghost use Rattle.itch_text.specs.Reading.{named_bytes};
-ghost use Rattle.itch_text.specs.Names.{HasSoundRow, as_name};
+ghost use Rattle.itch_text.specs.Parsing.{named_bytes};
+ghost use Rattle.itch_text.specs.Names.{as_name};
 ghost use Rattle.itch_text.specs.Fields.{Puts};
 ghost use Rattle.itch_text.specs.Steps.{TakesLine};
 
 use crate::fault::{LineError, LineFault};
-use crate::hexadecimal::{put_cut, put_raw, put_rest};
+use crate::hex_lines::{put_cut, put_raw, put_rest};
 use crate::message::put_message;
 use crate::name::{Name, name_of};
 use crate::place::Place;
 use crate::words::split_word;
+use itch_layouts::Layout;
 use std::alloc::Allocator;
 
-/// The first line of a text, and what stands behind its line feed, where it has one.
+// The index of the first line feed of a text, where it has one.
+fn line_end(text: &[u8]) -> Option<usize>
+    ensures { result ≡ position is_line_feed text.now }
+{
+    text.iter().position(|byte| *byte == b'\n')
+}
+
+/// The first line of a text, and what follows its line feed, where it has one.
 #[tactic(auto, using(crate::proofs::FirstLine::splitting))]
 pub(crate) fn split_line(text: &[u8]) -> (&[u8], Option<&[u8]>)
     ensures { MatchOption result.1
         (lines_of text.now ≡ result.0.now ∷ [])
-        (λ rest. (lines_of text.now ≡ result.0.now ∷ lines_of rest.now) × (length rest.now < length text.now)) }
+        (λ rest. (lines_of text.now ≡ result.0.now ∷ lines_of rest.now)
+        × (length rest.now < length text.now)) }
 {
-    for index in 0..text.len() {
-        if text[index] == b'\n' {
-            return (&text[..index], Some(&text[index + 1..]));
-        }
+    match line_end(text) {
+        Some(end) => (&text[..end], Some(&text[end + 1..])),
+        None => (text, None),
     }
-    (text, None)
 }
 
-/// Whether a word begins a comment.
+// Whether a word begins a comment.
 fn is_comment(word: &[u8]) -> bool
     ensures { result ≡ is_comment word.now }
 {
     matches!(word, [b'#', ..])
 }
 
-/// Appends the end marker, where no word stands behind the name of its line.
+// Appends the end marker, where no word follows the name of its line.
 fn put_end<A: Allocator>(out: &mut Vec<u8, A>, line: &[u8]) -> Result<(), LineError>
     ensures { Puts out.old.items out.new.items (named_bytes EndName (words line.now)) result }
 {
@@ -50,13 +58,16 @@ fn put_end<A: Allocator>(out: &mut Vec<u8, A>, line: &[u8]) -> Result<(), LineEr
     Ok(())
 }
 
-/// Appends what a line of this name denotes, whose words behind the name are these.
-fn put_item<A: Allocator>(out: &mut Vec<u8, A>, name: Name, line: &[u8]) -> Result<(), LineError>
-    requires { HasSoundRow name }
+// Appends what a line of this name denotes, whose words after the name are these.
+fn put_item<A: Allocator>(
+    out: &mut Vec<u8, A>,
+    name: Name<Layout>,
+    line: &[u8],
+) -> Result<(), LineError>
     ensures { Puts out.old.items out.new.items (named_bytes (as_name name) (words line.now)) result }
 {
     match name {
-        Name::Message(row) => put_message(out, row, line),
+        Name::Message(layout) => put_message(out, &layout, line),
         Name::Raw => put_raw(out, line),
         Name::End => put_end(out, line),
         Name::Cut => put_cut(out, line),
@@ -81,9 +92,9 @@ pub(crate) fn put_line<A: Allocator>(
     let Some(name) = name_of(word) else {
         return Err(LineError::Wrong(LineFault::Mnemonic));
     };
-    if !place.allows(name) {
+    let Some(next) = place.after(name) else {
         return Err(LineError::Wrong(LineFault::AfterEnd));
-    }
+    };
     put_item(out, name, rest)?;
-    Ok(name.place_behind())
+    Ok(next)
 }

@@ -1,43 +1,28 @@
 //! The names that lines begin with.
-ghost use Rattle.std.specs.Prelude.{◌≡◌, option_map, IfSome};
+ghost use Rattle.std.specs.Prelude.{◌≡◌, option_map};
 ghost use Rattle.itch_text.specs.Faults.{name_of, word_name};
-ghost use Rattle.itch_text.specs.Names.{HasSoundRow, as_name, place_behind};
+ghost use Rattle.itch_text.specs.Names.{as_name};
 
-use crate::place::Place;
 use itch_layouts::{Layout, layout_of_mnemonic};
 
-/// The name that a line begins with.
+/// The name that a line begins with. The borrow checker asks for the type `L` of a layout as a parameter.
 #[derive(Clone, Copy)]
-pub(crate) enum Name {
+pub(crate) enum Name<L> {
     /// The mnemonic of a layout: a message.
-    Message(&'static Layout),
+    Message(L),
     /// `raw`: any payload.
     Raw,
     /// `end`: the end marker.
     End,
     /// `cut`: less than a whole entry.
     Cut,
-    /// `rest`: bytes behind the marker.
+    /// `rest`: the bytes after the end marker.
     Rest,
 }
 
-impl Name {
-    /// Where the line behind a line of this name stands.
-    pub(crate) fn place_behind(self) -> Place
-        ensures { result ≡ place_behind (as_name self) }
-    {
-        match self {
-            Name::Message(_) | Name::Raw => Place::Entries,
-            Name::End => Place::Ended,
-            Name::Cut | Name::Rest => Place::Closed,
-        }
-    }
-}
-
-/// The name of a line of no message that a word is, or `None` where it is none.
-fn word_name(word: &[u8]) -> Option<Name>
-    ensures name { option_map as_name result ≡ word_name word.now }
-    ensures sound { IfSome result HasSoundRow }
+// The name of a line of no message that a word is, or `None` where it is none.
+fn word_name(word: &[u8]) -> Option<Name<Layout>>
+    ensures { option_map as_name result ≡ word_name word.now }
 {
     match word {
         b"raw" => Some(Name::Raw),
@@ -50,12 +35,11 @@ fn word_name(word: &[u8]) -> Option<Name>
 
 /// The name that a word is, or `None` where it is none.
 #[tactic(auto, unfolding(crate::specs::Faults::name_of))]
-pub(crate) fn name_of(word: &[u8]) -> Option<Name>
-    ensures name { option_map as_name result ≡ name_of word.now }
-    ensures sound { IfSome result HasSoundRow }
+pub(crate) fn name_of(word: &[u8]) -> Option<Name<Layout>>
+    ensures { option_map as_name result ≡ name_of word.now }
 {
     match layout_of_mnemonic(word) {
-        Some(row) => Some(Name::Message(row)),
+        Some(layout) => Some(Name::Message(layout)),
         None => word_name(word),
     }
 }

@@ -2,11 +2,11 @@
 ghost use Rattle.std.specs.Prelude.{◌≡◌, ℕ, ◌+◌, ◌≤◌, ◌<◌, ◌^◌, IfSome, IfNone, IsTrue, option_map};
 ghost use Rattle.std.specs.Str.Parse.{AllDigits, digits_value};
 ghost use Rattle.itch_layouts.specs.Layouts.{Integer, Number};
-ghost use Rattle.itch_layouts.specs.Rows.{is_width};
+ghost use Rattle.itch_layouts.specs.Soundness.{is_width};
 ghost use Rattle.itch_text.specs.Values.{NumberText};
-ghost use Rattle.itch_text.specs.Reading.{value_in};
+ghost use Rattle.itch_text.specs.Parsing.{value_in};
 
-/// The value of decimal digits, or `None` where a byte is no digit or the value needs more than 64 bits.
+// The value of decimal digits, or `None` where a byte is no digit or the value needs more than 64 bits.
 #[tactic(auto, using(crate::proofs::Numerals::grows_at))]
 fn value_of_digits(text: &[u8]) -> Option<u64>
     ensures some { IfSome result (λ n. AllDigits 10 text.now × (digits_value 10 text.now ≡ n)) }
@@ -18,15 +18,18 @@ fn value_of_digits(text: &[u8]) -> Option<u64>
             return None;
         }
         let digit = u64::from(*byte - b'0');
-        if value > (u64::MAX - digit) / 10 {
+        let Some(tens) = value.checked_mul(10) else {
             return None;
-        }
-        value = value * 10 + digit;
+        };
+        let Some(sum) = tens.checked_add(digit) else {
+            return None;
+        };
+        value = sum;
     }
     Some(value)
 }
 
-/// The number of a text of one to twenty decimal digits, or `None` where it isn't that or needs more than 64 bits.
+// The number of a text of one to twenty decimal digits, or `None` where it isn't that or needs more than 64 bits.
 fn number_of_text(text: &[u8]) -> Option<u64>
     ensures some { IfSome result (λ n. NumberText text.now n) }
     ensures none { IfNone result ((n : ℕ) → NumberText text.now n → n < 2 ^ 64 → ⊥) }
@@ -37,7 +40,7 @@ fn number_of_text(text: &[u8]) -> Option<u64>
     value_of_digits(text)
 }
 
-/// The greatest number of a field so wide.
+// The greatest number of a field of this width.
 #[tactic(auto, using(crate::proofs::Widths::greatest))]
 fn greatest(width: u8) -> u64
     requires { IsTrue (is_width Integer width) }
@@ -51,7 +54,7 @@ fn greatest(width: u8) -> u64
     }
 }
 
-/// The number of a text, or `None` where the text is no number or a field so wide doesn't hold it.
+/// The number of a text, or `None` where the text is no number or one that a field of this width doesn't hold.
 #[tactic(auto, using(crate::proofs::Numerals::numbers))]
 pub(crate) fn number(text: &[u8], width: u8) -> Option<u64>
     requires { IsTrue (is_width Integer width) }

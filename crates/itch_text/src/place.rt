@@ -1,30 +1,33 @@
 //! Where a line stands in a text.
 ghost use Rattle.std.specs.Prelude.{◌≡◌};
-ghost use Rattle.itch_text.specs.Faults.{may_stand};
+ghost use Rattle.itch_text.specs.Faults.{kind_of_name};
 ghost use Rattle.itch_text.specs.Names.{as_name};
+ghost use Rattle.itch_text.specs.Order.{next_place};
 
 use crate::name::Name;
+use itch_layouts::Layout;
 
 /// Where a line stands in a text, which decides which lines may stand there.
 #[derive(Clone, Copy)]
 pub(crate) enum Place {
     /// Before the end marker.
     Entries,
-    /// Behind the end marker.
+    /// After the end marker.
     Ended,
-    /// Behind all that a file can hold.
+    /// After all that a file can hold.
     Closed,
 }
 
 impl Place {
-    /// Whether a line of this name may stand here.
-    pub(crate) fn allows(self, name: Name) -> bool
-        ensures { result ≡ may_stand self (as_name name) }
+    /// Where the line after one of this name stands, or `None` where no line of this name may stand here.
+    pub(crate) fn after(self, name: Name<Layout>) -> Option<Place>
+        ensures { result ≡ next_place self (kind_of_name (as_name name)) }
     {
-        match self {
-            Place::Entries => !matches!(name, Name::Rest),
-            Place::Ended => matches!(name, Name::Rest),
-            Place::Closed => false,
+        match (self, name) {
+            (Place::Entries, Name::Message(_) | Name::Raw) => Some(Place::Entries),
+            (Place::Entries, Name::End) => Some(Place::Ended),
+            (Place::Entries, Name::Cut) | (Place::Ended, Name::Rest) => Some(Place::Closed),
+            _ => None,
         }
     }
 }

@@ -1,6 +1,6 @@
 use Rattle.std.proofs.Common.{◌≡◌, ◌++◌, map}
 use Rattle.std.specs.List.{flat_map}
-use Rattle.itch_print.specs.Spelling.{ended, payload_line}
+use Rattle.itch_print.specs.Disassembly.{ended, payload_line}
 use Rattle.itch_print.proofs.disassembling.put_day.Given as goal
 
 abbrev pub invariant-loop-payload : goal.invariant-loop-payload

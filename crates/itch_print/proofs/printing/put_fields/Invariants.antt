@@ -1,7 +1,7 @@
 use Rattle.std.proofs.Common.{◌≡◌, ◌++◌, codes, map, take}
 use Rattle.std.specs.List.{flat_map}
-use Rattle.itch_layouts.specs.Rows.{as_field}
-use Rattle.itch_print.specs.Spelling.{field_text}
+use Rattle.itch_layouts.specs.StaticFields.{as_field}
+use Rattle.itch_print.specs.Disassembly.{field_text}
 use Rattle.itch_print.proofs.printing.put_fields.Given as goal
 
 abbrev pub invariant-loop-field : goal.invariant-loop-field

@@ -1,6 +1,6 @@
 use Rattle.std.proofs.Common.{sym, subst, arith, option_map, List, ℕ}
 use Rattle.itch_text.specs.Text.{lines_of}
-use Rattle.itch_text.specs.Steps.{Taken}
+use Rattle.itch_text.proofs.LinesTaken.{Taken}
 use Rattle.itch_text.specs.declared.place.Place.TheVariants.{Entries}
 use Rattle.itch_text.proofs.LinesTaken.{none_taken, one_more_taken, fault_denotes_nothing, lines_left, split_lines, left_shorter}
 use Rattle.itch_text.proofs.assembler.assemble.Goals as goal

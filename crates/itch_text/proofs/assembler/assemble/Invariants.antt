@@ -1,5 +1,5 @@
 use Rattle.std.proofs.Common.{◌+◌, ◌≤◌, length, option_map}
-use Rattle.itch_text.specs.Steps.{Taken}
+use Rattle.itch_text.proofs.LinesTaken.{Taken}
 use Rattle.itch_text.proofs.LinesTaken.{lines_left, left_len}
 use Rattle.itch_text.proofs.assembler.assemble.Given as goal
 
