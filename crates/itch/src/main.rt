@@ -1,9 +1,10 @@
-//! The program `itch`: its words, the files that they name, and the lines that it prints on standard error.
+//! The program `itch`: its arguments, the files that they name, and the lines that it prints on standard error.
 #![tactic(auto)]
 
+mod arguments;
 mod output;
-mod words;
 
+use arguments::Task;
 use binaryfile::{Feed, Sink};
 use clap::error::ErrorKind;
 use itch_engine::{ProgFault, asm_run, dis_run, hex_run, replay_run, status};
@@ -11,16 +12,15 @@ use output::Created;
 use std::process::ExitCode;
 use std::rt::Runtime;
 use std::{env, fs, io};
-use words::Task;
 
-/// The status for words that don't fit.
+/// The status for invalid arguments.
 const MISUSE: u8 = 2;
 
-/// The status where what is to be read or written can't be.
+/// The status where something can't be read or written.
 const DEVICE: u8 = 3;
 
-/// Ends with the status for what an engine answered, and says why on standard error where it stopped before its work
-/// was done. A line that can't be printed changes no status.
+// Ends with the status for what an engine answered, and says why on standard error where it stopped before its work
+// was done. A line that can't be printed changes no status.
 fn end(rt: &impl Eprint, answer: Result<u32, ProgFault>) -> ExitCode {
     if let Err(fault) = &answer {
         let _ = eprintln!(rt; "itch: {fault}");
@@ -28,7 +28,7 @@ fn end(rt: &impl Eprint, answer: Result<u32, ProgFault>) -> ExitCode {
     ExitCode::from(status(&answer))
 }
 
-/// Replays a file, and writes its report on standard output.
+// Replays a file, and writes its report on standard output.
 fn replay<R: Runtime + AllocGlobal>(rt: &R, path: &str) -> Result<u32, ProgFault> {
     let Ok(file) = fs::open(rt, path) else {
         return Err(ProgFault::Read);
@@ -38,7 +38,7 @@ fn replay<R: Runtime + AllocGlobal>(rt: &R, path: &str) -> Result<u32, ProgFault
     replay_run(rt.alloc(), &mut feed, &mut sink, 1)
 }
 
-/// Writes the text of a file on standard output.
+// Writes the text of a file on standard output.
 fn disassemble<R: Runtime + AllocGlobal>(rt: &R, path: &str) -> Result<u32, ProgFault> {
     let Ok(file) = fs::open(rt, path) else {
         return Err(ProgFault::Read);
@@ -49,7 +49,7 @@ fn disassemble<R: Runtime + AllocGlobal>(rt: &R, path: &str) -> Result<u32, Prog
     Ok(0)
 }
 
-/// Makes the file that a text stands for. Where the text is faulty, the path of the output is not touched.
+// Makes the file that a text denotes. Where the text is faulty, the path of the output is not touched.
 fn assemble<R: Runtime + AllocGlobal>(rt: &R, text: &str, out: &str) -> Result<u32, ProgFault> {
     let Ok(file) = fs::open(rt, text) else {
         return Err(ProgFault::Read);
@@ -63,31 +63,31 @@ fn assemble<R: Runtime + AllocGlobal>(rt: &R, text: &str, out: &str) -> Result<u
     }
 }
 
-/// Replays the file whose hexadecimal digits are standard input, and writes its report on standard output.
+// Replays the file whose hexadecimal digits are standard input, and writes its report on standard output.
 fn replay_digits<R: Runtime + AllocGlobal>(rt: &R) -> Result<u32, ProgFault> {
     let mut feed = Feed::new(rt.reader());
     let mut sink = Sink::new(io::writer(rt));
     hex_run(rt.alloc(), &mut feed, &mut sink)
 }
 
-/// Prints help, or how the words are used where they don't fit, and ends with the status for that.
+// Prints help, or usage where the arguments are invalid, and ends with the status for that.
 fn explain<R: Runtime>(rt: &R, error: &clap::Error) -> ExitCode {
     if let ErrorKind::OutOfMemory = error.kind() {
         return end(rt, Err(ProgFault::Memory));
     }
     match error.print(rt) {
-        Ok(()) => ExitCode::from(words::usage_status(error)),
+        Ok(()) => ExitCode::from(arguments::usage_status(error)),
         Err(_) => ExitCode::from(DEVICE),
     }
 }
 
-/// Does what the words ask for.
-fn run<R: Runtime + AllocGlobal>(rt: &R, words: &[String]) -> ExitCode {
-    let matches = match words::parse(rt.alloc(), words) {
+// Does what the arguments ask for.
+fn run<R: Runtime + AllocGlobal>(rt: &R, arguments: &[String]) -> ExitCode {
+    let matches = match arguments::parse(rt.alloc(), arguments) {
         Ok(matches) => matches,
         Err(error) => return explain(rt, &error),
     };
-    match words::chosen_task(&matches) {
+    match arguments::chosen_task(&matches) {
         Task::Replay { file } => end(rt, replay(rt, file)),
         Task::Disassemble { file } => end(rt, disassemble(rt, file)),
         Task::Assemble { text, out } => end(rt, assemble(rt, text, out)),
@@ -95,8 +95,8 @@ fn run<R: Runtime + AllocGlobal>(rt: &R, words: &[String]) -> ExitCode {
     }
 }
 
-/// Ends where the words can't be taken: one of them isn't UTF-8, or memory was refused.
-fn refuse_words(rt: &impl Eprint, error: io::Error) -> ExitCode {
+// Ends where the arguments can't be taken: one of them isn't UTF-8, or memory was refused.
+fn refuse_arguments(rt: &impl Eprint, error: io::Error) -> ExitCode {
     if error.kind() == io::ErrorKind::OutOfMemory {
         return end(rt, Err(ProgFault::Memory));
     }
@@ -109,10 +109,10 @@ fn refuse_words(rt: &impl Eprint, error: io::Error) -> ExitCode {
 fn main(rt: HostRuntime) -> ExitCode {
     let arguments = match env::args(&rt) {
         Ok(arguments) => arguments,
-        Err(error) => return refuse_words(&rt, error),
+        Err(error) => return refuse_arguments(&rt, error),
     };
     match arguments.collect::<Vec<String>>(rt.alloc()) {
-        Ok(words) => run(&rt, &words),
+        Ok(arguments) => run(&rt, &arguments),
         Err(_) => end(&rt, Err(ProgFault::Memory)),
     }
 }

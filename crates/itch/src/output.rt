@@ -3,7 +3,7 @@ use std::fs;
 use std::io::{self, Write};
 use std::rt::Files;
 
-/// A writer to the file at a path, which is made, or emptied where it is there already, by the first write and not before.
+/// A writer to the file at a path. The first write, and nothing before it, makes the file, or empties one that is there.
 #[derive(Drop)]
 pub struct Created<'a, R: Files> {
     rt: &'a R,

@@ -1,45 +1,20 @@
 -- The fault of the program for a faulty line of a text.
-use Rattle.std.proofs.Common.{◌≡◌, ◌≢◌, ℕ, List, Option, Result, Ok, Err, sym, ap, ◌∙◌, subst}
-use Rattle.std.specs.Result.{IsErrAnd}
-use Rattle.binaryfile.specs.Devices.{GaveAll}
+use Rattle.std.proofs.Common.{◌≢◌, ℕ, List, refl}
 use Rattle.itch_text.specs.Blames.{Blames, DenotesNothing}
 use Rattle.itch_text.specs.declared.assembler.AsmFault.{AsmFault}
 use Rattle.itch_text.specs.declared.assembler.AsmFault.TheVariants.{Memory as AsmMemory, Mnemonic, Field, AfterEnd}
-use Rattle.itch_engine.specs.DeviceFault.{fault_of_asm}
-use Rattle.itch_engine.specs.TextRuns.{FindsFault}
-use Rattle.itch_engine.specs.declared.fault.ProgFault.{ProgFault}
-use Rattle.itch_engine.specs.declared.fault.ProgFault.TheVariants.{Memory, Read, TooManyBytes, TooManyMessages, BadHex, Write, Asm}
+use Rattle.itch_engine.specs.FaultOrigins.{fault_of_asm}
+use Rattle.itch_engine.specs.Runs.{Fails}
+use Rattle.itch_engine.specs.TextEngines.{HasFaultyLine, assembler}
+use Rattle.itch_engine.specs.declared.fault.ProgFault.TheVariants.{Asm}
 
-line_or : AsmFault → ProgFault → AsmFault
-line_or other (Asm fault) = fault
-line_or other Memory = other
-line_or other Read = other
-line_or other TooManyBytes = other
-line_or other TooManyMessages = other
-line_or other BadHex = other
-line_or other Write = other
+-- a fault of a line is the program's fault for the text
+at_line : (text : List ℕ) (found : AsmFault) → found ≢ AsmMemory → Blames text found → DenotesNothing text → HasFaultyLine text (Asm found)
+at_line text found is_line blamed nothing = record { line = found; is = refl; line_is = is_line; blamed = blamed; nothing = nothing }
 
-same_line : (found fault : AsmFault) → Asm found ≡ Asm fault → found ≡ fault
-unfolding line_or
-same_line found fault same = ap (line_or found) same
-
-found_line : (old new : Option (List ℕ)) (text : List ℕ) (found fault : AsmFault) → GaveAll old new text → Blames text found → DenotesNothing text → Asm found ≡ Asm fault → FindsFault old new fault
-found_line old new text found fault gave blamed nothing same = subst (FindsFault old new) (same_line found fault same) (record { text = text; gave = gave; blamed = blamed; nothing = nothing })
-
-pub finds_fault : (old new : Option (List ℕ)) (text : List ℕ) (found fault : AsmFault) → GaveAll old new text → Blames text found → (found ≢ AsmMemory → DenotesNothing text) → fault_of_asm found ≡ Asm fault → FindsFault old new fault
-finds_fault old new text AsmMemory fault gave blamed nothing same = absurd cc
-finds_fault old new text (Mnemonic line) fault gave blamed nothing same = found_line old new text (Mnemonic line) fault gave blamed (nothing (λ is. cc)) same
-finds_fault old new text (Field line) fault gave blamed nothing same = found_line old new text (Field line) fault gave blamed (nothing (λ is. cc)) same
-finds_fault old new text (AfterEnd line) fault gave blamed nothing same = found_line old new text (AfterEnd line) fault gave blamed (nothing (λ is. cc)) same
-
-error_or : {X : Type 0} → ProgFault → Result X ProgFault → ProgFault
-error_or other (Ok x) = other
-error_or other (Err error) = error
-
-same_error : {X : Type 0} (x y : ProgFault) → ◌≡◌ {A = Result X ProgFault} (Err x) (Err y) → x ≡ y
-unfolding error_or
-same_error x y same = ap (error_or x) same
-
-pub told_as : {X : Type 0} (result : Result X ProgFault) (error : ProgFault) (fault : AsmFault) → IsErrAnd result (λ e. e ≡ error) → result ≡ Err (Asm fault) → error ≡ Asm fault
-told_as (Ok x) error fault is same = absurd is
-told_as (Err e) error fault is same = sym is ∙ same_error e (Asm fault) same
+-- what the assembler answers of a text is why the engine fails
+pub fails_at_line : (text : List ℕ) (found : AsmFault) → Blames text found → (found ≢ AsmMemory → DenotesNothing text) → Fails assembler text (fault_of_asm found)
+fails_at_line text AsmMemory blamed nothing = tt
+fails_at_line text (Mnemonic line) blamed nothing = at_line text (Mnemonic line) (λ is. cc) blamed (nothing (λ is. cc))
+fails_at_line text (Field line) blamed nothing = at_line text (Field line) (λ is. cc) blamed (nothing (λ is. cc))
+fails_at_line text (AfterEnd line) blamed nothing = at_line text (AfterEnd line) (λ is. cc) blamed (nothing (λ is. cc))

@@ -1,7 +1,7 @@
 pub mod Report
 pub mod ExitStatus
-pub mod Hexadecimal
-pub mod HexFault
-pub mod DeviceFault
-pub mod Replay
-pub mod TextRuns
+pub mod HexInput
+pub mod FaultOrigins
+pub mod Runs
+pub mod ReplayEngines
+pub mod TextEngines

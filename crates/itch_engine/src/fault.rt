@@ -1,10 +1,10 @@
-//! Why an engine stops, and the exit status of the program.
+//! Why an engine stops.
 ghost use Rattle.std.specs.Prelude.{◌≡◌};
-ghost use Rattle.itch_engine.specs.ExitStatus.{exit_status};
 ghost use Rattle.itch_engine.specs.declared.fault.ProgFault.TheVariants.{Memory, Write as WriteFailed};
-ghost use Rattle.itch_engine.specs.DeviceFault.{fault_of_load, fault_of_asm};
+ghost use Rattle.itch_engine.specs.FaultOrigins.{fault_of_asm, fault_of_hex, fault_of_load};
 
 use binaryfile::{LoadFault, WriteFault};
+use hex::FromHexError;
 use itch_text::AsmFault;
 use std::alloc::{AllocError, AllocFailed};
 use thiserror::Error;
@@ -24,7 +24,7 @@ pub enum ProgFault {
     /// The file has more messages than a message number counts.
     #[error("too many messages")]
     TooManyMessages,
-    /// The input isn't an even number of hexadecimal digits.
+    /// The input has an odd number of hexadecimal digits, or a byte that is no digit, no space and no line feed.
     #[error("bad hex")]
     BadHex,
     /// The output couldn't be written.
@@ -83,23 +83,15 @@ impl From<AsmFault> for ProgFault {
     }
 }
 
-/// The exit status for what an engine answered, of this project: 0 where no message was refused, 1 where some were,
-/// 3 where input or output failed and where a file or its digits can't be taken, 4 for want of memory, and 5 where a line of
-/// a text is faulty.
-pub fn status(answer: &Result<u32, ProgFault>) -> u8
-    ensures { result ≡ exit_status answer.now }
-{
-    match answer {
-        Ok(0) => 0,
-        Ok(_) => 1,
-        Err(ProgFault::Memory | ProgFault::Asm(AsmFault::Memory)) => 4,
-        Err(ProgFault::Asm(_)) => 5,
-        Err(
-            ProgFault::Read
-            | ProgFault::TooManyBytes
-            | ProgFault::TooManyMessages
-            | ProgFault::BadHex
-            | ProgFault::Write,
-        ) => 3,
+impl From<FromHexError> for ProgFault {
+    ghost from_gives = { λ error fault. fault ≡ fault_of_hex error };
+
+    fn from(error: FromHexError) -> ProgFault {
+        match error {
+            FromHexError::OutOfMemory => ProgFault::Memory,
+            FromHexError::OddLength
+            | FromHexError::InvalidStringLength
+            | FromHexError::InvalidHexCharacter { c: _, index: _ } => ProgFault::BadHex,
+        }
     }
 }

@@ -1,17 +1,28 @@
-//! The engines of the program: a whole input, a whole output in memory, and then the writing of it.
+//! The engines of the program, over any reader and writer.
+//!
+//! An engine reads its whole input into memory, makes its whole output there, and then writes it:
+//!
+//! | engine | input | output |
+//! |---|---|---|
+//! | [`replay_run`] | a day file | its report |
+//! | [`hex_run`] | a day file in hexadecimal digits | its report |
+//! | [`dis_run`] | a day file | its text |
+//! | [`asm_run`] | a text | the file that the text denotes |
+//!
+//! All meet one contract, `Runs`, which says what was read, written and answered for each result. [`limits`] has the
+//! greatest inputs that they take, and [`status`] the exit status for what an engine answered.
 #![tactic(auto)]
 
+mod engines;
+mod exit_status;
 mod fault;
-mod hexadecimal;
-mod numbers;
-mod quoting;
-mod replay;
-mod run;
-mod stock;
-mod summary;
-mod text;
+mod hex_input;
+pub mod limits;
+mod report;
 
-pub use fault::{ProgFault, status};
-pub use hexadecimal::decode_digits;
-pub use run::{hex_run, replay_run};
-pub use text::{asm_run, dis_run};
+pub use engines::asm::asm_run;
+pub use engines::digits::hex_run;
+pub use engines::dis::dis_run;
+pub use engines::replay::replay_run;
+pub use exit_status::status;
+pub use fault::ProgFault;

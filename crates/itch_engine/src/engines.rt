@@ -1,0 +1,5 @@
+//! The engines, a file each: a whole input, a whole output in memory, and then the writing of it.
+pub(crate) mod asm;
+pub(crate) mod digits;
+pub(crate) mod dis;
+pub(crate) mod replay;

@@ -1,0 +1,53 @@
+//! The engine that replays a day file.
+ghost use Rattle.std.specs.Prelude.{◌≡◌, ◌≤◌, IfOk, IfErr};
+ghost use Rattle.itch_engine.specs.Runs.{Fails, Runs};
+ghost use Rattle.itch_engine.specs.ReplayEngines.{Replays, replayer};
+
+use crate::fault::ProgFault;
+use crate::limits::{MOST_FILE_BYTES, MOST_MESSAGES};
+use crate::report::day::{Report, report_of_day};
+use binaryfile::{Day, Feed, Sink, read_to_end, send};
+use std::alloc::Allocator;
+use std::io::{Read, Write};
+
+/// The report of a file, and how many of its messages are refused.
+pub(crate) fn report_of_file<A: Allocator + Copy>(
+    alloc: A,
+    input: Vec<u8, A>,
+) -> Result<Report<A>, ProgFault>
+    ensures report { IfOk result (λ report. Replays input.items report.text.items report.refused) }
+    ensures fault { IfErr result (Fails replayer input.items) }
+{
+    let day = Day::from_bytes(alloc, input, MOST_MESSAGES)?;
+    Ok(report_of_day(alloc, &day)?)
+}
+
+/// Reads a day file, replays it and writes the report. It answers how many messages were refused.
+///
+/// The whole file is read before it is judged, and the whole report is made in memory before it is sent. After
+/// [`ProgFault::Write`] the bytes that were taken are a prefix of the report; after another fault none was sent.
+/// [`ProgFault::Read`] comes exactly where the feed has failed, [`ProgFault::TooManyBytes`] above
+/// [`MOST_FILE_BYTES`] bytes, [`ProgFault::TooManyMessages`] above [`MOST_MESSAGES`] messages, and
+/// [`ProgFault::Memory`] only where memory was refused. The report is the same for every number of workers, from 1 to
+/// 64; today one does the whole day. The report is of this project.
+///
+/// ```text
+/// let mut feed = Feed::new(file);
+/// let mut sink = Sink::new(output);
+/// let refused = replay_run(alloc, &mut feed, &mut sink, 1)?;
+/// ```
+pub fn replay_run<A: Allocator + Copy, R: Read, W: Write>(
+    alloc: A,
+    feed: &mut Feed<R>,
+    sink: &mut Sink<W>,
+    workers: u32,
+) -> Result<u32, ProgFault>
+    requires { (1 ≤ workers) × (workers ≤ 64) }
+    ensures { Runs replayer R.remaining W.contents feed.old feed.new sink.old sink.new result }
+{
+    let _ = workers;
+    let input = read_to_end(alloc, feed, MOST_FILE_BYTES)?;
+    let report = report_of_file(alloc, input)?;
+    send(sink, &report.text)?;
+    Ok(report.refused)
+}

@@ -1,0 +1,111 @@
+//! The lines of a report that speak of messages.
+ghost use Rattle.std.specs.Prelude.{◌≡◌, ◌++◌, ◌<◌, ◌^◌, length, OnOk, count_by};
+ghost use Rattle.byte_strings.specs.Extending.{Extends};
+ghost use Rattle.itch_engine.specs.Report.{refused_line, refused_lines, counts, mark, summary_line, is_applied, is_passed, is_refused};
+
+use crate::report::numbers::put_count;
+use crate::report::quoted_bytes::put_byte;
+use itch_table::Outcome;
+use std::alloc::{AllocError, Allocator};
+
+// How many messages were applied.
+fn count_applied(outcomes: &[Outcome]) -> usize
+    ensures { result ≡ count_by is_applied outcomes.now }
+{
+    outcomes
+        .iter()
+        .filter(|outcome| matches!(outcome, Outcome::Applied))
+        .count()
+}
+
+// How many messages were passed over.
+fn count_passed(outcomes: &[Outcome]) -> usize
+    ensures { result ≡ count_by is_passed outcomes.now }
+{
+    outcomes
+        .iter()
+        .filter(|outcome| matches!(outcome, Outcome::Passed))
+        .count()
+}
+
+/// How many messages were refused.
+pub(crate) fn count_refused(outcomes: &[Outcome]) -> usize
+    ensures { result ≡ count_by is_refused outcomes.now }
+{
+    outcomes
+        .iter()
+        .filter(|outcome| matches!(outcome, Outcome::Refused(_)))
+        .count()
+}
+
+// Adds the line of a message, where it was refused.
+fn put_refused<A: Allocator>(
+    text: &mut Vec<u8, A>,
+    message: u32,
+    outcome: Outcome,
+) -> Result<(), AllocError>
+    ensures { Extends text.old text.new (refused_line message outcome) result }
+{
+    if let Outcome::Refused(fault) = outcome {
+        put_count(text, b"message ", message)?;
+        put_count(text, b" refused F", fault.number())?;
+        text.push(b'\n')?;
+    }
+    Ok(())
+}
+
+/// Adds the lines of the refused messages of a day.
+pub(crate) fn put_refused_lines<A: Allocator>(
+    text: &mut Vec<u8, A>,
+    outcomes: &[Outcome],
+) -> Result<(), AllocError>
+    requires { length outcomes.now < 2 ^ 32 }
+    ensures { Extends text.old text.new (refused_lines 1 outcomes.now) result }
+{
+    let mut message = 0u32;
+    for outcome in outcomes {
+        message += 1;
+        put_refused(text, message, *outcome)?;
+    }
+    Ok(())
+}
+
+// Adds how many messages there are, and how many became what.
+fn put_counts<A: Allocator>(text: &mut Vec<u8, A>, outcomes: &[Outcome]) -> Result<(), AllocError>
+    ensures { Extends text.old text.new (counts outcomes.now) result }
+{
+    put_count(text, b"messages ", outcomes.len())?;
+    put_count(text, b" applied ", count_applied(outcomes))?;
+    put_count(text, b" passed ", count_passed(outcomes))?;
+    put_count(text, b" refused ", count_refused(outcomes))
+}
+
+// Adds whether the file has an end marker.
+fn put_mark<A: Allocator>(text: &mut Vec<u8, A>, marked: bool) -> Result<(), AllocError>
+    ensures { Extends text.old text.new (mark marked) result }
+{
+    if marked {
+        text.extend_from_slice(b" marked yes")
+    } else {
+        text.extend_from_slice(b" marked no")
+    }
+}
+
+/// Adds the line of the whole file: its messages, its mark, the length of its tail and the last event.
+pub(crate) fn put_summary<A: Allocator>(
+    text: &mut Vec<u8, A>,
+    outcomes: &[Outcome],
+    marked: bool,
+    tail_length: usize,
+    event: Option<u8>,
+) -> Result<(), AllocError>
+    ensures { Extends text.old text.new (summary_line outcomes.now marked tail_length event) result }
+{
+    put_counts(text, outcomes)?;
+    put_mark(text, marked)?;
+    put_count(text, b" tail ", tail_length)?;
+    text.extend_from_slice(b" event ")?;
+    put_byte(text, event)?;
+    text.push(b'\n')?;
+    Ok(())
+}

@@ -1,0 +1,28 @@
+//! Numbers in a text.
+ghost use Rattle.std.specs.Prelude.{◌≡◌, ◌++◌, OnOk};
+ghost use Rattle.byte_strings.specs.Extending.{Extends};
+
+use std::alloc::{AllocError, Allocator};
+
+// Adds a number in decimal digits.
+fn put_number<N: itoa::Integer, A: Allocator>(
+    text: &mut Vec<u8, A>,
+    number: N,
+) -> Result<(), AllocError>
+    ensures { Extends text.old text.new (N.text number) result }
+{
+    let mut buffer = itoa::Buffer::new();
+    text.extend_from_slice(buffer.format(number).as_bytes())
+}
+
+/// Adds a word, with the spaces that belong to it, followed by a number in decimal digits.
+pub(crate) fn put_count<N: itoa::Integer, A: Allocator>(
+    text: &mut Vec<u8, A>,
+    word: &[u8],
+    number: N,
+) -> Result<(), AllocError>
+    ensures { Extends text.old text.new (word.now ++ N.text number) result }
+{
+    text.extend_from_slice(word)?;
+    put_number(text, number)
+}
