@@ -1,0 +1,99 @@
+//! Limits, and memory that is refused.
+use crate::THREE;
+use binaryfile::{Day, Feed, Limits, LoadFault, read_to_end};
+use refusing::{Refusal, Refusing};
+use std::alloc::Allocator;
+use std::test::Fail;
+use support::{AMPLE, same};
+
+// The limits of bytes and messages under which the three entries are loaded, and the fault.
+const LIMITS: [(u64, u32, Option<LoadFault>); 5] = [
+    (13, 3, None),
+    (13, 2, Some(LoadFault::TooManyMessages)),
+    (12, 3, Some(LoadFault::TooManyBytes)),
+    (12, 2, Some(LoadFault::TooManyBytes)),
+    (0, 0, Some(LoadFault::TooManyBytes)),
+];
+
+#[test]
+fn files_above_a_limit_are_refused(rt: HostRuntime) -> Result<(), Fail> {
+    for (bytes, messages, wanted) in LIMITS {
+        let mut feed = Feed::new(THREE);
+        let loaded = Day::load(rt.alloc(), &mut feed, Limits { bytes, messages });
+        same(
+            "a fault",
+            &(bytes, messages, loaded.err()),
+            &(bytes, messages, wanted),
+        )?;
+        same("a feed that is read no further", &feed.failed(), &false)?;
+    }
+    let nothing = Limits {
+        bytes: 0,
+        messages: 0,
+    };
+    let loaded = Day::load(rt.alloc(), &mut Feed::new(b"".as_slice()), nothing);
+    same("an empty file", &loaded.err(), &None)
+}
+
+// A load is out of memory where a growth is refused, and its feed has not failed.
+fn try_refusal<A: Allocator>(heap: &Refusing<A>, refusal: Refusal) -> Result<(), Fail> {
+    heap.restart(refusal);
+    let mut feed = Feed::new(THREE);
+    let loaded = Day::load(heap, &mut feed, AMPLE);
+    let found = (refusal, loaded.err(), feed.failed());
+    same(
+        "a refused growth",
+        &found,
+        &(refusal, Some(LoadFault::Memory), false),
+    )
+}
+
+#[test]
+fn each_growth_of_a_load_may_be_refused(rt: HostRuntime) -> Result<(), Fail> {
+    let heap = Refusing::new(rt.alloc(), Refusal::Never);
+    let loaded = Day::load(&heap, &mut Feed::new(THREE), AMPLE);
+    same("with memory", &loaded.err(), &None)?;
+    let growths = heap.asked();
+    same("that there are growths", &(growths > 1), &true)?;
+    for growth in 1..=growths {
+        try_refusal(&heap, Refusal::Only(growth))?;
+        try_refusal(&heap, Refusal::From(growth))?;
+    }
+    Ok(())
+}
+
+// The fault of a load that may grow so often, and that of a day of bytes that may not grow at all.
+fn try_limit<A: Allocator>(
+    heap: &Refusing<A>,
+    reading: u64,
+    messages: u32,
+    wanted: LoadFault,
+) -> Result<(), Fail> {
+    heap.restart(Refusal::From(reading.saturating_add(1)));
+    let limits = Limits {
+        bytes: 100,
+        messages,
+    };
+    let loaded = Day::load(heap, &mut Feed::new(THREE), limits).err();
+    heap.restart(Refusal::Never);
+    let bytes = THREE.to_vec(heap)?;
+    heap.restart(Refusal::From(1));
+    let split = Day::from_bytes(heap, bytes, messages).err();
+    same(
+        "loaded, and of bytes",
+        &(messages, loaded, split),
+        &(messages, Some(wanted), Some(wanted)),
+    )
+}
+
+// The growths of reading are counted by reading alone, so that the next one is the index's.
+#[test]
+fn too_many_messages_are_found_before_the_index_grows(rt: HostRuntime) -> Result<(), Fail> {
+    let heap = Refusing::new(rt.alloc(), Refusal::Never);
+    let read = read_to_end(&heap, &mut Feed::new(THREE), 100);
+    same("with memory", &read.err(), &None)?;
+    let reading = heap.asked();
+    try_limit(&heap, reading, 0, LoadFault::TooManyMessages)?;
+    try_limit(&heap, reading, 2, LoadFault::TooManyMessages)?;
+    try_limit(&heap, reading, 3, LoadFault::Memory)
+}

@@ -1,0 +1,260 @@
+//! Growths that are refused in turn: a step or a list that is refused memory changes nothing.
+use itch_layouts::Msg;
+use itch_table::{Level, Order, Outcome, Plain, Side};
+use refusing::{Refusal, Refusing};
+use std::alloc::{AllocError, Allocator};
+use std::test::Fail;
+use support::{AAPL, Known, Ticker, known_of, payload_of, same, same_list, take};
+
+// All that a machine knows of the stock of locate code 1.
+#[derive(Drop)]
+struct Rows<A: Allocator> {
+    known: Known,
+    orders: Vec<Order, A>,
+    bids: Vec<Level, A>,
+    asks: Vec<Level, A>,
+    locates: Vec<u16, A>,
+}
+
+fn rows_of<A: Allocator + Copy>(alloc: A, machine: &Plain<A>) -> Result<Rows<A>, AllocError> {
+    Ok(Rows {
+        known: known_of(machine, 1),
+        orders: machine.orders(alloc, 1)?,
+        bids: machine.levels(alloc, 1, Side::Buy)?,
+        asks: machine.levels(alloc, 1, Side::Sell)?,
+        locates: machine.locates(alloc)?,
+    })
+}
+
+fn same_rows<A: Allocator>(case: &str, found: &Rows<A>, wanted: &Rows<A>) -> Result<(), Fail> {
+    same(case, &found.known, &wanted.known)?;
+    same_list(case, &found.orders, &wanted.orders)?;
+    same_list(case, &found.bids, &wanted.bids)?;
+    same_list(case, &found.asks, &wanted.asks)?;
+    same_list(case, &found.locates, &wanted.locates)
+}
+
+// Steps a machine through one message that is applied: with each of its growths refused in turn, and then with memory.
+// Answers how many growths there are.
+fn growths_of<'h, A: Allocator + Copy>(
+    heap: &'h Refusing<A>,
+    machine: &mut Plain<&'h Refusing<A>>,
+    payload: &[u8],
+) -> Result<u64, Fail> {
+    heap.restart(Refusal::Never);
+    let before = rows_of(heap, machine)?;
+    for growth in 1..=5u64 {
+        if machine.steps() == u32::MAX {
+            return Err(Fail::new("a machine takes no more messages"));
+        }
+        heap.restart(Refusal::From(growth));
+        let answer = machine.step(payload);
+        let asked = heap.asked();
+        heap.restart(Refusal::Never);
+        if let Ok(outcome) = answer {
+            same(
+                "a step with memory",
+                &(outcome, asked),
+                &(Outcome::Applied, growth - 1),
+            )?;
+            return Ok(growth - 1);
+        }
+        same_rows("a step without memory", &rows_of(heap, machine)?, &before)?;
+    }
+    Err(Fail::new("a step takes four growths at most"))
+}
+
+// A kind of message that may need a new row.
+#[derive(Debug, Clone, Copy, PartialEq, Eq)]
+enum Kind {
+    Directory,
+    Add,
+    AddMpid,
+    Execute,
+    ExecutePrice,
+    Replace,
+    Trade,
+    Cross,
+}
+
+const KINDS: [Kind; 8] = [
+    Kind::Directory,
+    Kind::Add,
+    Kind::AddMpid,
+    Kind::Execute,
+    Kind::ExecutePrice,
+    Kind::Replace,
+    Kind::Trade,
+    Kind::Cross,
+];
+
+// The message of a kind that adds row `number`. The executions are of order 1, and the replacements of an order with the
+// row's number.
+fn message_of(kind: Kind, number: u8) -> Msg {
+    let reference = u64::from(number);
+    match kind {
+        Kind::Directory => Ticker {
+            locate: u16::from(number),
+            ..AAPL
+        }
+        .directory(),
+        Kind::Add => AAPL.add(reference, b'B', 10, 100),
+        Kind::AddMpid => AAPL.add_mpid(reference, b'S', 10, 200),
+        Kind::Execute => AAPL.execute(1, 0, reference),
+        Kind::ExecutePrice => AAPL.execute_price(1, 0, reference, b'Y', 5),
+        Kind::Replace => AAPL.replace(reference, 1_000 + reference, 10, 300),
+        Kind::Trade => AAPL.trade(b'B', 1, 1, reference),
+        Kind::Cross => AAPL.cross(1, 1, reference),
+    }
+}
+
+// Hands a machine a message with memory, which is applied.
+fn apply<'h, A: Allocator + Copy>(
+    heap: &'h Refusing<A>,
+    machine: &mut Plain<&'h Refusing<A>>,
+    msg: &Msg,
+) -> Result<(), Fail> {
+    heap.restart(Refusal::Never);
+    let payload = payload_of(heap, msg)?;
+    take("a message with memory", machine, &payload, Outcome::Applied)
+}
+
+// Adds row `number` of a kind, and answers how many growths there are.
+fn add_row<'h, A: Allocator + Copy>(
+    heap: &'h Refusing<A>,
+    machine: &mut Plain<&'h Refusing<A>>,
+    kind: Kind,
+    number: u8,
+) -> Result<u64, Fail> {
+    if kind == Kind::Replace {
+        apply(heap, machine, &AAPL.add(u64::from(number), b'B', 10, 100))?;
+    }
+    let payload = payload_of(heap, &message_of(kind, number))?;
+    growths_of(heap, machine, &payload)
+}
+
+// Adds rows of a kind to a machine with order 1, and answers how many growths there are.
+fn add_rows<A: Allocator + Copy>(heap: &Refusing<A>, kind: Kind) -> Result<u64, Fail> {
+    let mut machine = Plain::new(heap);
+    apply(heap, &mut machine, &AAPL.directory())?;
+    apply(heap, &mut machine, &AAPL.add(1, b'B', 10, 100))?;
+    let mut growths = 0u64;
+    for number in 2..=100 {
+        growths = growths.saturating_add(add_row(heap, &mut machine, kind, number)?);
+    }
+    Ok(growths)
+}
+
+// Some of 99 rows need memory, and some find room.
+#[test]
+fn a_step_without_memory_changes_nothing(rt: HostRuntime) -> Result<(), Fail> {
+    let heap = Refusing::new(rt.alloc(), Refusal::Never);
+    for kind in KINDS {
+        let growths = add_rows(&heap, kind)?;
+        same(
+            "how many rows needed memory",
+            &(kind, growths > 0 && growths < 99),
+            &(kind, true),
+        )?;
+    }
+    Ok(())
+}
+
+#[test]
+fn a_list_without_memory_is_none(rt: HostRuntime) -> Result<(), Fail> {
+    let heap = Refusing::new(rt.alloc(), Refusal::Never);
+    let mut machine = Plain::new(&heap);
+    same(
+        "the first row",
+        &machine.step(b"nothing"),
+        &Ok(Outcome::Passed),
+    )?;
+    apply(&heap, &mut machine, &AAPL.directory())?;
+    apply(&heap, &mut machine, &AAPL.add(1, b'B', 10, 100))?;
+    apply(&heap, &mut machine, &AAPL.add(2, b'B', 10, 200))?;
+    heap.restart(Refusal::Never);
+    same("levels", &machine.levels(&heap, 1, Side::Buy)?.len(), &2)?;
+    for growth in 1..=heap.asked() {
+        heap.restart(Refusal::From(growth));
+        let refused = machine
+            .levels(&heap, 1, Side::Buy)
+            .map(|levels| levels.len());
+        same(
+            "refused levels",
+            &(growth, refused),
+            &(growth, Err(AllocError)),
+        )?;
+    }
+    heap.restart(Refusal::From(1));
+    let refused = machine.orders(&heap, 1).map(|orders| orders.len());
+    same("refused orders", &refused, &Err(AllocError))?;
+    let refused = machine.locates(&heap).map(|locates| locates.len());
+    same("refused locate codes", &refused, &Err(AllocError))?;
+    heap.restart(Refusal::Never);
+    same("orders", &machine.orders(&heap, 1)?.len(), &2)?;
+    same_list("locate codes", &machine.locates(&heap)?, &[1])
+}
+
+// A short day that needs a new row at each message but the last two.
+fn short_day() -> [Msg; 8] {
+    [
+        AAPL.directory(),
+        AAPL.add(1, b'B', 10, 100),
+        AAPL.add_mpid(2, b'S', 10, 200),
+        AAPL.execute(1, 1, 1),
+        AAPL.execute_price(2, 1, 2, b'N', 5),
+        AAPL.replace(1, 3, 7, 150),
+        AAPL.trade(b'B', 1, 1, 3),
+        AAPL.cross(9, 2, 4),
+    ]
+}
+
+// Steps a machine through the short day, and once more through each message that is refused memory. Answers what is
+// known in the end, and how many steps were refused.
+fn play<A: Allocator + Copy, B: Allocator + Copy>(
+    alloc: B,
+    machine: &mut Plain<A>,
+) -> Result<(Known, u32), Fail> {
+    let mut refused = 0u32;
+    for msg in short_day() {
+        let payload = payload_of(alloc, &msg)?;
+        let before = known_of(machine, 1);
+        if machine.steps() == u32::MAX {
+            return Err(Fail::new("a machine takes no more messages"));
+        }
+        match machine.step(&payload) {
+            Ok(outcome) => same("a step", &outcome, &Outcome::Applied)?,
+            Err(AllocError) => {
+                refused = refused.wrapping_add(1);
+                same("a refused step", &known_of(machine, 1), &before)?;
+                take("the step again", machine, &payload, Outcome::Applied)?;
+            }
+        }
+    }
+    Ok((known_of(machine, 1), refused))
+}
+
+#[test]
+fn a_day_ends_the_same_whichever_growth_was_refused(rt: HostRuntime) -> Result<(), Fail> {
+    let heap = Refusing::new(rt.alloc(), Refusal::Never);
+    let mut machine = Plain::new(&heap);
+    let (wanted, refused) = play(rt.alloc(), &mut machine)?;
+    same("steps refused with memory", &refused, &0)?;
+    same("the best bid", &wanted.top.bid_price, &150)?;
+    same(
+        "trades",
+        &(wanted.totals.trades, wanted.totals.unprinted),
+        &(3, 1),
+    )?;
+    let growths = heap.asked();
+    same("that there are growths", &(growths > 2), &true)?;
+    let mut all = 0u32;
+    for growth in 1..=growths {
+        let heap = Refusing::new(rt.alloc(), Refusal::Only(growth));
+        let mut machine = Plain::new(&heap);
+        let (found, refused) = play(rt.alloc(), &mut machine)?;
+        same("the end of the day", &(growth, found), &(growth, wanted))?;
+        all = all.wrapping_add(refused);
+    }
+    same("that some steps were refused", &(all > 0), &true)
+}

@@ -1,0 +1,7 @@
+//! The memory that the plain machine takes: steps and lists with each of their growths refused, and steps that take none.
+#![tactic(auto)]
+
+#[cfg(test)]
+mod growing;
+#[cfg(test)]
+mod steady;

@@ -1,0 +1,19 @@
+//! What the tests of several crates share: messages by their fields, scripts that a machine is led through, devices that
+//! give and take little at a time and fail, and a worked file in all its forms.
+//!
+//! No helper ends the process, which only a test may do: each answers a `Fail` that names the case.
+#![tactic(auto)]
+
+mod comparing;
+mod devices;
+mod machine;
+mod messages;
+mod script;
+mod worked;
+
+pub use comparing::{same, same_bytes, same_list};
+pub use devices::{Failure, Narrow, Pieces};
+pub use machine::{Known, known_of, take};
+pub use messages::{AAPL, MSFT, Ticker, head, payload_of, system};
+pub use script::{Line, follow};
+pub use worked::{AMPLE, DIGITS, FILE, REPORT, TEXT};

@@ -1,0 +1,86 @@
+//! The top of one stock's book after each of its messages.
+ghost use Rattle.std.specs.Prelude.{◌≡◌, IfOk};
+ghost use Rattle.itch_table.specs.Parts.{part};
+ghost use Rattle.uses.specs.Tops.{is_part, tops_of};
+
+use binaryfile::Day;
+use itch_table::{Part, Plain, Top, part};
+use std::alloc::{AllocError, Allocator};
+
+/// The best bid and ask of a stock after one of its messages.
+#[derive(Debug, Clone, Copy, PartialEq, Eq)]
+pub struct Moment {
+    /// The number of the message in the day, counted from 1.
+    pub message: u32,
+    /// The top after it.
+    pub top: Top,
+}
+
+// Whether a payload is of the stock of a locate code.
+fn is_of_stock(payload: &[u8], locate: u16) -> bool
+    ensures { result ≡ is_part locate (part payload.now) }
+{
+    match part(payload) {
+        Part::Locate(code) => code == locate,
+        Part::Nowhere(_) => false,
+    }
+}
+
+/// The top of a stock after each of its messages, in the order of the day.
+///
+/// A machine steps through the whole day, since it refuses messages by what came before. An error says that memory was
+/// refused.
+pub fn tops<A: Allocator + Copy>(
+    alloc: A,
+    day: &Day<A>,
+    locate: u16,
+) -> Result<Vec<Moment, A>, AllocError>
+    // Each moment is the top of the table's world after that message.
+    ensures { IfOk result (λ tops. tops.items ≡ tops_of day.now.payloads locate) }
+{
+    let mut plain = Plain::new(alloc);
+    let mut tops = Vec::new(alloc);
+    for payload in day.payloads() {
+        plain.step(payload)?;
+        if is_of_stock(payload, locate) {
+            tops.push(Moment {
+                message: plain.steps(),
+                top: plain.top(locate),
+            })?;
+        }
+    }
+    Ok(tops)
+}
+
+#[cfg(test)]
+mod tests {
+    use super::*;
+    use binaryfile::{Feed, Limits};
+    use itch_text::assemble;
+    use std::test::Fail;
+
+    // Two stocks with a bid each, and the second one's bid goes.
+    const TEXT: &[u8] =
+        b"directory locate=1 tracking=0 time=0 stock=\"AAPL\" category=\"Q\" status=\"N\" lot=100 lots_only=\"N\" issue_class=\"C\" issue_subtype=\"Z\" authenticity=\"P\" short_sale=\"N\" ipo=\"N\" luld=\"1\" etp=\"N\" leverage=0 inverse=\"N\"\n\
+          directory locate=2 tracking=0 time=1 stock=\"MSFT\" category=\"Q\" status=\"N\" lot=100 lots_only=\"N\" issue_class=\"C\" issue_subtype=\"Z\" authenticity=\"P\" short_sale=\"N\" ipo=\"N\" luld=\"1\" etp=\"N\" leverage=0 inverse=\"N\"\n\
+          add locate=2 tracking=0 time=2 reference=7 side=\"B\" shares=20 stock=\"MSFT\" price=200\n\
+          add locate=1 tracking=0 time=3 reference=7 side=\"B\" shares=10 stock=\"AAPL\" price=100\n\
+          delete locate=2 tracking=0 time=4 reference=7\n";
+
+    #[test]
+    fn a_stock_has_a_top_after_each_of_its_messages(rt: HostRuntime) -> Result<(), Fail> {
+        let file = assemble(rt.alloc(), TEXT)?;
+        let limits = Limits {
+            bytes: 1 << 20,
+            messages: 1_000,
+        };
+        let day = Day::load(rt.alloc(), &mut Feed::new(file.as_slice()), limits)?;
+        let mut found = Vec::new(rt.alloc());
+        for moment in &tops(rt.alloc(), &day, 2)? {
+            found.push((moment.message, moment.top.bid_price, moment.top.bid_shares))?;
+        }
+        let wanted = [(2, 0, 0), (3, 200, 20), (5, 0, 0)];
+        assert!(rt; found.as_slice() == wanted.as_slice(), "found {found:?}");
+        Ok(())
+    }
+}
