@@ -1,26 +1,7 @@
 //! What is known of a stock beside its book, and of the day.
-use itch_layouts::Directory;
 use itch_table::{Fault, Order, Side, Status, Totals, Trading};
 use std::test::Fail;
 use support::{AAPL, Line, MSFT, Ticker, follow, system};
-
-// The directory row of `AAPL`.
-const ROW: Directory = Directory {
-    stock: *b"AAPL    ",
-    category: b'Q',
-    status: b'N',
-    lot: 100,
-    lots_only: b'N',
-    issue_class: b'C',
-    issue_subtype: *b"Z ",
-    authenticity: b'P',
-    short_sale: b'N',
-    ipo: b'N',
-    luld: b'1',
-    etp: b'N',
-    leverage: 0,
-    inverse: b'N',
-};
 
 const NOTHING: Status = Status {
     directory: None,
@@ -31,7 +12,7 @@ const NOTHING: Status = Status {
 #[test]
 fn directory_rows_come_again(rt: HostRuntime) -> Result<(), Fail> {
     let known = Status {
-        directory: Some(ROW),
+        directory: Some(AAPL.directory_row()),
         trading: Some(Trading {
             state: b'H',
             reserved: b' ',

@@ -53,10 +53,10 @@ pub fn payload_of<A: Allocator>(alloc: A, msg: &Msg) -> Result<Vec<u8, A>, Alloc
 }
 
 impl Ticker {
-    /// Its directory message.
-    pub fn directory(self) -> Msg {
+    /// Its directory row.
+    pub fn directory_row(self) -> Directory {
         let stock = self.symbol;
-        let body = Directory {
+        Directory {
             stock,
             category: b'Q',
             status: b'N',
@@ -71,8 +71,12 @@ impl Ticker {
             etp: b'N',
             leverage: 0,
             inverse: b'N',
-        };
-        Msg::Directory(head(self.locate), body)
+        }
+    }
+
+    /// Its directory message.
+    pub fn directory(self) -> Msg {
+        Msg::Directory(head(self.locate), self.directory_row())
     }
 
     /// A trading state with its reason.
