@@ -88,7 +88,8 @@ const KINDS: [Kind; 8] = [
     Kind::Cross,
 ];
 
-// The message of a kind that adds row `number`. The executions are of order 1, and the replacements of an order with the
+// The message of a kind that adds row `number`. The executions are of order 1, and the replacements of an order with
+// the
 // row's number.
 fn message_of(kind: Kind, number: u8) -> Msg {
     let reference = u64::from(number);

@@ -3,7 +3,8 @@ use std::fs;
 use std::io::{self, Write};
 use std::rt::Files;
 
-/// A writer to the file at a path. The first write, and nothing before it, makes the file, or empties one that is there.
+/// A writer to the file at a path. The first write, and nothing before it, makes the file, or empties one that is
+/// there.
 #[derive(Drop)]
 pub struct Created<'a, R: Files> {
     rt: &'a R,

@@ -12,7 +12,8 @@ pub record Engine (A : Type 0) : Type 1 where
   pub Makes : List ℕ → List ℕ → A → Type 0
   pub Finds : List ℕ → ProgFault → Type 0
 
--- Why nothing is made of an input: out of memory, which says nothing of the input, or a fault that the engine finds in it.
+-- Why nothing is made of an input: out of memory, which says nothing of the input, or a fault that the engine finds
+-- in it.
 abbrev pub Fails : {A : Type 0} → Engine A → List ℕ → ProgFault → Type 0
 Fails engine input Memory = Unit {0}
 Fails engine input Read = ⊥

@@ -1,4 +1,5 @@
--- A text denotes at most one string of bytes, and none where a line of it is wrong; it has at most one first faulty line.
+-- A text denotes at most one string of bytes, and none where a line of it is wrong; it has at most one first faulty
+-- line.
 use Rattle.std.proofs.Common.{◌≡◌, ℕ, suc, IsSome, List, [], ◌∷◌, ◌++◌, length, Option, Some, None, option_and_then, refl, sym, ap, ap₂, ◌∙◌, subst}
 use Rattle.std.proofs.lemmas.Bool.{false≢true}
 use Rattle.std.proofs.lemmas.Option.{same_Some, none-some}

@@ -26,8 +26,10 @@ fn report_of_digits<A: Allocator + Copy>(
 
 /// Reads a day file that is given in hexadecimal digits, replays it and writes the report, as [`replay_run`] does.
 ///
-/// Spaces and line feeds are passed over. [`ProgFault::TooManyBytes`] comes above [`MOST_HEX_BYTES`] bytes of input, and
-/// [`ProgFault::BadHex`] only where there is an odd number of digits, or a byte that is no hexadecimal digit, no space and
+/// Spaces and line feeds are passed over. [`ProgFault::TooManyBytes`] comes above [`MOST_HEX_BYTES`] bytes of input,
+/// and
+/// [`ProgFault::BadHex`] only where there is an odd number of digits, or a byte that is no hexadecimal digit, no
+/// space and
 /// no line feed.
 ///
 /// [`replay_run`]: crate::replay_run
