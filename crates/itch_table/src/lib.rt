@@ -15,8 +15,8 @@ mod status;
 mod trades;
 
 pub use laws::levels_are_sums;
-pub use levels::levels_of;
-pub use order::{Level, Order, Side, Top};
+pub use levels::{best_with, levels_of};
+pub use order::{Level, Order, OrderRow, Side, Top};
 pub use outcome::{Fault, Outcome, Part};
 pub use parts::part;
 pub use plain::Plain;

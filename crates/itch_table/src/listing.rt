@@ -14,13 +14,7 @@ use std::collections::btree_map::Range;
 fn order_from(key: &OrderKey, row: &OrderRow) -> Order
     ensures { result ≡ order_of key.now row.now }
 {
-    Order {
-        reference: key.reference,
-        side: row.side,
-        shares: row.shares,
-        price: row.price,
-        attribution: row.attribution,
-    }
+    row.under(key.reference)
 }
 
 // The orders of a stock among these rows.

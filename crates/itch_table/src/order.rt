@@ -1,4 +1,6 @@
 //! Orders, and what a book shows of them.
+ghost use Rattle.std.specs.Prelude.{◌≡◌};
+ghost use Rattle.itch_table.specs.World.{order_under, row_of};
 
 /// Which side of the book an order is on.
 ///
@@ -26,6 +28,20 @@ pub struct Order {
     pub price: u32,
     /// The market participant, where the order was added with one.
     pub attribution: Option<[u8; 4]>,
+}
+
+impl Order {
+    /// The order without its reference.
+    pub fn row(self) -> OrderRow
+        ensures { result ≡ row_of self }
+    {
+        OrderRow {
+            side: self.side,
+            shares: self.shares,
+            price: self.price,
+            attribution: self.attribution,
+        }
+    }
 }
 
 /// The orders of one side at one price, taken together.
@@ -57,11 +73,32 @@ pub(crate) struct OrderKey {
     pub reference: u64,
 }
 
-/// An order without its reference, which is in its key.
+/// A live order without its reference, under which rows keep it.
+///
+/// Nasdaq TotalView-ITCH 5.0, "Add Order Message".
 #[derive(Debug, Clone, Copy, PartialEq, Eq)]
-pub(crate) struct OrderRow {
+pub struct OrderRow {
+    /// Its side of the book.
     pub side: Side,
+    /// The shares that remain.
     pub shares: u32,
+    /// The price, in 1/10,000 of a currency unit.
     pub price: u32,
+    /// The market participant, where the order was added with one.
     pub attribution: Option<[u8; 4]>,
+}
+
+impl OrderRow {
+    /// The order with its reference.
+    pub fn under(self, reference: u64) -> Order
+        ensures { result ≡ order_under reference self }
+    {
+        Order {
+            reference,
+            side: self.side,
+            shares: self.shares,
+            price: self.price,
+            attribution: self.attribution,
+        }
+    }
 }

@@ -28,10 +28,15 @@ pub struct Status {
 }
 
 /// What is known of a stock that has a directory row.
+///
+/// Nasdaq TotalView-ITCH 5.0, "Stock Related Messages".
 #[derive(Debug, Clone, Copy, PartialEq, Eq)]
-pub(crate) struct StockRow {
+pub struct StockRow {
+    /// The last directory row.
     pub directory: Directory,
+    /// The last trading state, where one was reported.
     pub trading: Option<Trading>,
+    /// The action of the last short sale restriction message, where there was one.
     pub regsho: Option<u8>,
 }
 

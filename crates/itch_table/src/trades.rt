@@ -7,9 +7,13 @@ ghost use Rattle.itch_table.specs.Trades.{broken_at, is_unbroken, totals_of, tra
 use crate::status::Totals;
 
 /// An execution, a trade of non-displayed orders or a cross. In a list it stands with the locate code of its stock.
+///
+/// Nasdaq TotalView-ITCH 5.0, "Order Executed Message", "Trade Messages" and "Broken Trade".
 #[derive(Debug, Clone, Copy, PartialEq, Eq)]
-pub(crate) struct TradeRow {
+pub struct TradeRow {
+    /// The match number, which several trades may share.
     pub match_no: u64,
+    /// The shares that were traded.
     pub shares: u64,
     /// The price, in 1/10,000 of a currency unit.
     pub price: u32,
