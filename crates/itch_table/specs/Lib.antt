@@ -8,4 +8,5 @@ pub mod Table
 pub mod After
 pub mod Parts
 pub mod Machine
+pub mod Held
 pub use Rattle.itch_layouts.specs.Shapes

@@ -1,16 +1,18 @@
 //! The effects of the table. Each makes its growth before any change, so that an error leaves the rows as they were.
-ghost use Rattle.std.specs.Prelude.{◌≡◌, ◌≤◌, Some, None, true, IsTrue, IsSome, OnOk, OnErr};
+ghost use Rattle.std.specs.Prelude.{◌≡◌, ◌≤◌, Some, None, IsSome, IsTrue, OnOk, OnErr};
 ghost use Rattle.std.specs.Option.{unwrap_or};
 ghost use Rattle.itch_table.specs.World.{live, stock_row};
-ghost use Rattle.itch_table.specs.Table.{checks, effect, first_fault, less_shares, no_order, set_regsho, side_of, trade_of, with_trade};
+ghost use Rattle.itch_table.specs.Held.{Holds, HoldsPart, on_world};
+ghost use Rattle.itch_table.specs.Parts.{part_of_message};
 ghost use Rattle.itch_table.specs.Machine.{adds_row, named_order};
+ghost use Rattle.itch_table.specs.Table.{checks, effect, first_fault, less_shares, no_order, set_regsho, set_trading, side_of, trade_of, with_directory_row, with_trade};
 
 use crate::order::{OrderRow, Side};
-use crate::rows::Rows;
 use crate::status::{StockRow, Trading};
+use crate::store::Store;
 use crate::trades::TradeRow;
-use itch_layouts::{Add, AddMpid, Cancel, Directory, Execute, ExecutePrice, Head, Msg, Replace};
-use std::alloc::{AllocError, Allocator};
+use itch_layouts::{Directory, Msg};
+use std::alloc::AllocError;
 
 // The side that a byte of a message says, which is `B` or `S` where the checks pass.
 fn side_from(byte: u8) -> Side
@@ -19,16 +21,24 @@ fn side_from(byte: u8) -> Side
     if byte == b'B' { Side::Buy } else { Side::Sell }
 }
 
-// Sets a directory row, and keeps what else is known of the stock.
-fn set_directory<A: Allocator + Copy>(
-    rows: &mut Rows<A>,
-    head: &Head,
-    directory: &Directory,
-) -> Result<(), AllocError>
-    ensures ok { OnOk result (rows.new ≡ effect (Msg.Directory head.now directory.now) rows.old) }
-    ensures err { OnErr result (rows.new ≡ rows.old) }
+// A trade that isn't broken.
+fn trade(match_no: u64, shares: u64, price: u32, printed: bool) -> TradeRow
+    ensures { result ≡ trade_of match_no shares price printed }
 {
-    let row = match rows.stock(head.locate) {
+    TradeRow {
+        match_no,
+        shares,
+        price,
+        printed,
+        broken: false,
+    }
+}
+
+// A directory row, with what else is known of the stock.
+fn with_directory(known: Option<StockRow>, directory: &Directory) -> StockRow
+    ensures { result ≡ with_directory_row known directory.now }
+{
+    match known {
         Some(known) => StockRow {
             directory: *directory,
             ..known
@@ -38,66 +48,36 @@ fn set_directory<A: Allocator + Copy>(
             trading: None,
             regsho: None,
         },
-    };
-    rows.set_stock(head.locate, row)
+    }
 }
 
 // Sets a stock's trading state.
-fn trading<A: Allocator + Copy>(
-    rows: &mut Rows<A>,
-    head: &Head,
-    action: &itch_layouts::TradingAction,
-)
-    ensures { rows.new ≡ effect (Msg.Trading head.now action.now) rows.old }
+fn set_trading<S: Store>(store: &mut S, locate: u16, state: Trading)
+    requires { Holds (S.held store.old) locate }
+    ensures { S.held store.new ≡
+        on_world (λ w. set_trading (stock_row w locate) w locate state) (S.held store.old) }
 {
-    if let Some(known) = rows.stock(head.locate) {
-        let reason = action.reason;
-        let state = Trading {
-            state: action.state,
-            reserved: action.reserved,
-            reason,
-        };
+    if let Some(known) = store.stock(locate) {
         let row = StockRow {
             trading: Some(state),
             ..known
         };
-        rows.update_stock(head.locate, row);
+        store.update_stock(locate, row);
     }
 }
 
 // Sets a stock's short sale action.
-fn regsho<A: Allocator + Copy>(rows: &mut Rows<A>, locate: u16, action: u8)
-    ensures { rows.new ≡ set_regsho (stock_row rows.old locate) rows.old locate action }
+fn set_regsho<S: Store>(store: &mut S, locate: u16, action: u8)
+    requires { Holds (S.held store.old) locate }
+    ensures { S.held store.new ≡
+        on_world (λ w. set_regsho (stock_row w locate) w locate action) (S.held store.old) }
 {
-    if let Some(known) = rows.stock(locate) {
+    if let Some(known) = store.stock(locate) {
         let row = StockRow {
             regsho: Some(action),
             ..known
         };
-        rows.update_stock(locate, row);
-    }
-}
-
-// Takes shares off an order, which is gone where none are left.
-fn take_shares<A: Allocator + Copy>(
-    rows: &mut Rows<A>,
-    locate: u16,
-    reference: u64,
-    row: OrderRow,
-    shares: u32,
-)
-    requires live { live rows.old locate reference ≡ Some row }
-    requires enough { shares ≤ row.shares }
-    ensures { rows.new ≡ less_shares rows.old locate reference row shares }
-{
-    if row.shares == shares {
-        rows.remove_order(locate, reference);
-    } else {
-        let left = OrderRow {
-            shares: row.shares - shares,
-            ..row
-        };
-        rows.update_order(locate, reference, left);
+        store.update_stock(locate, row);
     }
 }
 
@@ -111,210 +91,106 @@ fn order_found(named: Option<OrderRow>) -> OrderRow
 }
 
 // Takes shares off an order by a trade.
-fn trade_shares<A: Allocator + Copy>(
-    rows: &mut Rows<A>,
+fn execute<S: Store>(
+    store: &mut S,
     locate: u16,
     reference: u64,
     row: OrderRow,
     shares: u32,
     trade: TradeRow,
 ) -> Result<(), AllocError>
-    requires live { live rows.old locate reference ≡ Some row }
+    requires here { Holds (S.held store.old) locate }
+    requires room { S.has_room store.old }
+    requires live { live (S.held store.old).world locate reference ≡ Some row }
     requires enough { shares ≤ row.shares }
-    ensures ok { OnOk result (
-        rows.new ≡ with_trade (less_shares rows.old locate reference row shares) locate trade) }
-    ensures err { OnErr result (rows.new ≡ rows.old) }
+    ensures ok { OnOk result (S.held store.new ≡
+        on_world (λ w. with_trade (less_shares w locate reference row shares) locate trade) (S.held store.old)) }
+    ensures err { OnErr result (S.held store.new ≡ S.held store.old) }
 {
-    rows.add_trade(locate, trade)?;
-    take_shares(rows, locate, reference, row, shares);
+    store.add_trade(locate, trade)?;
+    store.reduce_order(locate, reference, row, shares);
     Ok(())
 }
 
-// An execution at the price of its order.
-fn execute<A: Allocator + Copy>(
-    rows: &mut Rows<A>,
-    head: &Head,
-    execute: &Execute,
-    named: Option<OrderRow>,
-) -> Result<(), AllocError>
-    requires passed { first_fault (checks (Msg.Execute head.now execute.now) rows.old) ≡ None }
-    requires named { named ≡ live rows.old head.now.locate execute.now.reference }
-    ensures ok { OnOk result (rows.new ≡ effect (Msg.Execute head.now execute.now) rows.old) }
-    ensures err { OnErr result (rows.new ≡ rows.old) }
-{
-    let row = order_found(named);
-    let trade = TradeRow {
-        match_no: execute.match_no,
-        shares: u64::from(execute.shares),
-        price: row.price,
-        printed: true,
-        broken: false,
-    };
-    trade_shares(
-        rows,
-        head.locate,
-        execute.reference,
-        row,
-        execute.shares,
-        trade,
-    )
-}
-
-// An execution at a price of its own.
-fn execute_price<A: Allocator + Copy>(
-    rows: &mut Rows<A>,
-    head: &Head,
-    execute: &ExecutePrice,
-    named: Option<OrderRow>,
-) -> Result<(), AllocError>
-    requires passed { first_fault (checks (Msg.ExecutePrice head.now execute.now) rows.old) ≡ None }
-    requires named { named ≡ live rows.old head.now.locate execute.now.reference }
-    ensures ok { OnOk result (rows.new ≡ effect (Msg.ExecutePrice head.now execute.now) rows.old) }
-    ensures err { OnErr result (rows.new ≡ rows.old) }
-{
-    let row = order_found(named);
-    let trade = TradeRow {
-        match_no: execute.match_no,
-        shares: u64::from(execute.shares),
-        price: execute.price,
-        printed: execute.printable == b'Y',
-        broken: false,
-    };
-    trade_shares(
-        rows,
-        head.locate,
-        execute.reference,
-        row,
-        execute.shares,
-        trade,
-    )
-}
-
-// A cancel of some of an order's shares.
-fn cancel<A: Allocator + Copy>(
-    rows: &mut Rows<A>,
-    head: &Head,
-    cancel: &Cancel,
-    named: Option<OrderRow>,
-)
-    requires passed { first_fault (checks (Msg.Cancel head.now cancel.now) rows.old) ≡ None }
-    requires named { named ≡ live rows.old head.now.locate cancel.now.reference }
-    ensures { rows.new ≡ effect (Msg.Cancel head.now cancel.now) rows.old }
-{
-    let row = order_found(named);
-    take_shares(rows, head.locate, cancel.reference, row, cancel.shares);
-}
-
-// A replacement, which keeps the side and the attribution of the original.
-fn replace<A: Allocator + Copy>(
-    rows: &mut Rows<A>,
-    head: &Head,
-    replace: &Replace,
-    named: Option<OrderRow>,
-) -> Result<(), AllocError>
-    requires passed { first_fault (checks (Msg.Replace head.now replace.now) rows.old) ≡ None }
-    requires named { named ≡ live rows.old head.now.locate replace.now.reference }
-    ensures ok { OnOk result (rows.new ≡ effect (Msg.Replace head.now replace.now) rows.old) }
-    ensures err { OnErr result (rows.new ≡ rows.old) }
-{
-    let row = order_found(named);
-    let placed = OrderRow {
-        shares: replace.shares,
-        price: replace.price,
-        ..row
-    };
-    rows.set_order(head.locate, replace.new_reference, placed)?;
-    rows.remove_order(head.locate, replace.reference);
-    Ok(())
-}
-
-// A trade that takes no shares off an order.
-fn trade_alone<A: Allocator + Copy>(
-    rows: &mut Rows<A>,
-    locate: u16,
-    match_no: u64,
-    shares: u64,
-    price: u32,
-) -> Result<(), AllocError>
-    ensures ok { OnOk result (rows.new ≡ with_trade rows.old locate (trade_of match_no shares price true)) }
-    ensures err { OnErr result (rows.new ≡ rows.old) }
-{
-    let trade = TradeRow {
-        match_no,
-        shares,
-        price,
-        printed: true,
-        broken: false,
-    };
-    rows.add_trade(locate, trade)
-}
-
-// A new order without attribution.
-fn add<A: Allocator + Copy>(rows: &mut Rows<A>, head: &Head, add: &Add) -> Result<(), AllocError>
-    ensures ok { OnOk result (rows.new ≡ effect (Msg.Add head.now add.now) rows.old) }
-    ensures err { OnErr result (rows.new ≡ rows.old) }
-{
-    let row = OrderRow {
-        side: side_from(add.side),
-        shares: add.shares,
-        price: add.price,
-        attribution: None,
-    };
-    rows.set_order(head.locate, add.reference, row)
-}
-
-// A new order with attribution.
-fn add_mpid<A: Allocator + Copy>(
-    rows: &mut Rows<A>,
-    head: &Head,
-    add: &AddMpid,
-) -> Result<(), AllocError>
-    ensures ok { OnOk result (rows.new ≡ effect (Msg.AddMpid head.now add.now) rows.old) }
-    ensures err { OnErr result (rows.new ≡ rows.old) }
-{
-    let attribution = add.attribution;
-    let row = OrderRow {
-        side: side_from(add.side),
-        shares: add.shares,
-        price: add.price,
-        attribution: Some(attribution),
-    };
-    rows.set_order(head.locate, add.reference, row)
-}
-
-/// The effect of a message that passed its checks, which have found the order that it takes shares off or replaces.
+/// The effect of a message that passed its checks, which have found the order that it takes shares off.
 ///
 /// After an error the rows are as they were; it comes only where a message may need a new row.
-pub(crate) fn apply<A: Allocator + Copy>(
-    rows: &mut Rows<A>,
+pub(crate) fn apply<S: Store>(
+    store: &mut S,
     msg: &Msg,
     named: Option<OrderRow>,
 ) -> Result<(), AllocError>
-    requires passed { first_fault (checks msg.now rows.old) ≡ None }
-    requires named { named ≡ named_order msg.now rows.old }
-    ensures ok { OnOk result (rows.new ≡ effect msg.now rows.old) }
-    ensures err { OnErr result (rows.new ≡ rows.old) }
+    requires here { HoldsPart (S.held store.old) (part_of_message msg.now) }
+    requires room { S.has_room store.old }
+    requires passed { first_fault (checks msg.now (S.held store.old).world) ≡ None }
+    requires named { named ≡ named_order msg.now (S.held store.old).world }
+    ensures ok { OnOk result (S.held store.new ≡ on_world (effect msg.now) (S.held store.old)) }
+    ensures err { OnErr result (S.held store.new ≡ S.held store.old) }
     ensures grows { OnErr result (IsTrue (adds_row msg.now)) }
 {
     match msg {
-        Msg::Directory(head, m) => return set_directory(rows, head, m),
-        Msg::Add(head, m) => return add(rows, head, m),
-        Msg::AddMpid(head, m) => return add_mpid(rows, head, m),
-        Msg::Execute(head, m) => return execute(rows, head, m, named),
-        Msg::ExecutePrice(head, m) => return execute_price(rows, head, m, named),
-        Msg::Replace(head, m) => return replace(rows, head, m, named),
+        Msg::System(_, m) => store.set_event(m.event),
+        Msg::Directory(head, m) => {
+            let row = with_directory(store.stock(head.locate), m);
+            return store.set_stock(head.locate, row);
+        }
+        Msg::Trading(head, m) => {
+            let reason = m.reason;
+            let state = Trading {
+                state: m.state,
+                reserved: m.reserved,
+                reason,
+            };
+            set_trading(store, head.locate, state);
+        }
+        Msg::Regsho(head, m) => set_regsho(store, head.locate, m.action),
+        Msg::Add(head, m) => {
+            let row = OrderRow {
+                side: side_from(m.side),
+                shares: m.shares,
+                price: m.price,
+                attribution: None,
+            };
+            return store.add_order(head.locate, m.reference, row);
+        }
+        Msg::AddMpid(head, m) => {
+            let attribution = m.attribution;
+            let row = OrderRow {
+                side: side_from(m.side),
+                shares: m.shares,
+                price: m.price,
+                attribution: Some(attribution),
+            };
+            return store.add_order(head.locate, m.reference, row);
+        }
+        Msg::Execute(head, m) => {
+            let row = order_found(named);
+            let trade = trade(m.match_no, u64::from(m.shares), row.price, true);
+            return execute(store, head.locate, m.reference, row, m.shares, trade);
+        }
+        Msg::ExecutePrice(head, m) => {
+            let row = order_found(named);
+            let printed = m.printable == b'Y';
+            let trade = trade(m.match_no, u64::from(m.shares), m.price, printed);
+            return execute(store, head.locate, m.reference, row, m.shares, trade);
+        }
+        Msg::Cancel(head, m) => {
+            store.reduce_order(head.locate, m.reference, order_found(named), m.shares);
+        }
+        Msg::Delete(head, m) => store.remove_order(head.locate, m.reference),
+        Msg::Replace(head, m) => {
+            let (old, new) = (m.reference, m.new_reference);
+            return store.replace_order(head.locate, old, new, m.shares, m.price);
+        }
         Msg::Trade(head, m) => {
-            return trade_alone(rows, head.locate, m.match_no, u64::from(m.shares), m.price);
+            let trade = trade(m.match_no, u64::from(m.shares), m.price, true);
+            return store.add_trade(head.locate, trade);
         }
         Msg::Cross(head, m) => {
-            return trade_alone(rows, head.locate, m.match_no, m.shares, m.price);
+            let trade = trade(m.match_no, m.shares, m.price, true);
+            return store.add_trade(head.locate, trade);
         }
-        Msg::System(_, m) => rows.set_event(m.event),
-        Msg::Trading(head, m) => trading(rows, head, m),
-        Msg::Regsho(head, m) => regsho(rows, head.locate, m.action),
-        Msg::Cancel(head, m) => cancel(rows, head, m, named),
-        Msg::Delete(head, m) => rows.remove_order(head.locate, m.reference),
-        Msg::Broken(head, m) => rows.break_trades(head.locate, m.match_no),
+        Msg::Broken(head, m) => store.break_trades(head.locate, m.match_no),
         Msg::Participant(_, _)
         | Msg::Decline(_, _)
         | Msg::Breach(_, _)

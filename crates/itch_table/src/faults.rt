@@ -1,224 +1,253 @@
-//! The checks of the table.
-ghost use Rattle.std.specs.Prelude.{◌≡◌, ◌∷◌, [], Some, None, IfOk, OnOk, IfErr};
-ghost use Rattle.itch_table.specs.World.{live};
-ghost use Rattle.itch_table.specs.Table.{checks, first_fault, has_left, has_shares, has_side, is_live, is_new, listed, names_stock};
+//! The checks of the table, in its words and in its order. None takes memory.
+ghost use Rattle.std.specs.Prelude.{◌≡◌, ◌∷◌, [], Some, IfOk};
+ghost use Rattle.std.specs.Result.{result_err};
+ghost use Rattle.std.specs.List.{list_any};
+ghost use Rattle.itch_table.specs.World.{directory, live, stock_row};
+ghost use Rattle.itch_table.specs.Held.{Holds, HoldsPart};
 ghost use Rattle.itch_table.specs.Machine.{found_unless, named_order};
+ghost use Rattle.itch_table.specs.Parts.{part_of_message};
+ghost use Rattle.itch_table.specs.Trades.{is_unbroken};
+ghost use Rattle.itch_table.specs.Table.{are_left, checks, first_fault, has_left, has_shares, has_side, is_live, is_new, is_printable, listed, names_stock, refuse_unless, same_stock};
 
 use crate::order::OrderRow;
 use crate::outcome::Fault;
-use crate::rows::Rows;
-use itch_layouts::{Broken, Directory, ExecutePrice, Head, Msg, Replace};
-use std::alloc::Allocator;
+use crate::status::StockRow;
+use crate::store::Store;
+use itch_layouts::{ExecutePrice, Head, Msg, Replace};
 
-// The checks of a directory message.
-fn directory_fault<A: Allocator + Copy>(
-    rows: &Rows<A>,
-    head: &Head,
-    directory: &Directory,
-) -> Option<Fault>
-    ensures { result ≡ first_fault (checks (Msg.Directory head.now directory.now) rows.now) }
+// A fault, unless something holds.
+fn refuse_unless(holds: bool, fault: Fault) -> Result<(), Fault>
+    ensures { result_err result ≡ refuse_unless holds fault }
 {
-    let Some(known) = rows.directory(head.locate) else {
-        return None;
-    };
-    if known.stock != directory.stock {
-        return Some(Fault::LocateTaken);
+    if holds { Ok(()) } else { Err(fault) }
+}
+
+// The locate code has a directory row.
+fn listed<S: Store>(store: &S, locate: u16) -> Result<StockRow, Fault>
+    requires { Holds (S.held store.now) locate }
+    ensures fault { result_err result ≡ listed (S.held store.now).world locate }
+    ensures row { IfOk result (λ row. stock_row (S.held store.now).world locate ≡ Some row) }
+{
+    store.stock(locate).ok_or(Fault::NoDirectory)
+}
+
+// The directory row names this stock.
+fn names_stock(row: &StockRow, stock: &[u8; 8]) -> Result<(), Fault>
+    ensures { result_err result ≡
+        refuse_unless (same_stock stock.now (Some row.now.directory)) Fault.StockDiffers }
+{
+    refuse_unless(row.directory.stock == *stock, Fault::StockDiffers)
+}
+
+// A side is `B` or `S`.
+fn has_side(byte: u8) -> Result<(), Fault>
+    ensures { result_err result ≡ has_side byte }
+{
+    refuse_unless(byte == b'B' || byte == b'S', Fault::BadSide)
+}
+
+// Printable is `Y` or `N`.
+fn has_printable(byte: u8) -> Result<(), Fault>
+    ensures { result_err result ≡ refuse_unless (is_printable byte) Fault.BadPrintable }
+{
+    refuse_unless(byte == b'Y' || byte == b'N', Fault::BadPrintable)
+}
+
+// An order has shares.
+fn has_shares(shares: u32) -> Result<(), Fault>
+    ensures { result_err result ≡ has_shares shares }
+{
+    refuse_unless(shares != 0, Fault::ZeroShares)
+}
+
+// No order lives under the reference.
+fn is_new<S: Store>(store: &S, locate: u16, reference: u64) -> Result<(), Fault>
+    requires { Holds (S.held store.now) locate }
+    ensures { result_err result ≡ is_new (S.held store.now).world locate reference }
+{
+    let found = store.order(locate, reference);
+    refuse_unless(found.is_none(), Fault::ReferenceInUse)
+}
+
+// An order lives under the reference.
+fn is_live<S: Store>(store: &S, locate: u16, reference: u64) -> Result<OrderRow, Fault>
+    requires { Holds (S.held store.now) locate }
+    ensures fault { result_err result ≡ is_live (S.held store.now).world locate reference }
+    ensures row { IfOk result (λ row. live (S.held store.now).world locate reference ≡ Some row) }
+{
+    let found = store.order(locate, reference);
+    found.ok_or(Fault::ReferenceUnknown)
+}
+
+// An order has at least these shares left.
+fn has_left(row: &OrderRow, shares: u32) -> Result<(), Fault>
+    ensures { result_err result ≡ refuse_unless (are_left shares (Some row.now)) Fault.TooManyShares }
+{
+    refuse_unless(shares <= row.shares, Fault::TooManyShares)
+}
+
+// The directory row, where there is one, names this stock.
+fn keeps_stock<S: Store>(store: &S, locate: u16, stock: &[u8; 8]) -> Result<(), Fault>
+    requires { Holds (S.held store.now) locate }
+    ensures { result_err result ≡
+        refuse_unless (same_stock stock.now (directory (S.held store.now).world locate)) Fault.LocateTaken }
+{
+    match store.stock(locate) {
+        Some(row) => refuse_unless(row.directory.stock == *stock, Fault::LocateTaken),
+        None => Ok(()),
     }
-    None
+}
+
+// A trade with this match number isn't broken.
+fn has_trade<S: Store>(store: &S, locate: u16, match_no: u64) -> Result<(), Fault>
+    requires { Holds (S.held store.now) locate }
+    ensures { result_err result ≡
+        refuse_unless (list_any (is_unbroken locate match_no) (S.held store.now).world.trades) Fault.NoTrade }
+{
+    refuse_unless(store.has_unbroken(locate, match_no), Fault::NoTrade)
 }
 
 // The checks of every message that names a stock.
-fn stock_fault<A: Allocator + Copy>(rows: &Rows<A>, locate: u16, stock: &[u8; 8]) -> Option<Fault>
-    ensures { result ≡ first_fault (listed rows.now locate ∷ names_stock rows.now locate stock.now ∷ []) }
+fn check_stock<S: Store>(store: &S, locate: u16, stock: &[u8; 8]) -> Result<(), Fault>
+    requires { Holds (S.held store.now) locate }
+    ensures { let w = (S.held store.now).world in
+        result_err result ≡ first_fault (listed w locate ∷ names_stock w locate stock.now ∷ []) }
 {
-    let Some(directory) = rows.directory(locate) else {
-        return Some(Fault::NoDirectory);
-    };
-    if directory.stock != *stock {
-        return Some(Fault::StockDiffers);
-    }
-    None
+    names_stock(&listed(store, locate)?, stock)
 }
 
 // The checks of a message that names a stock and a side.
-fn side_fault<A: Allocator + Copy>(
-    rows: &Rows<A>,
-    locate: u16,
-    stock: &[u8; 8],
-    side: u8,
-) -> Option<Fault>
-    ensures { result ≡ first_fault (listed rows.now locate ∷ names_stock rows.now locate stock.now
+fn check_side<S: Store>(store: &S, locate: u16, stock: &[u8; 8], side: u8) -> Result<(), Fault>
+    requires { Holds (S.held store.now) locate }
+    ensures { let w = (S.held store.now).world in
+        result_err result ≡ first_fault (listed w locate ∷ names_stock w locate stock.now
         ∷ has_side side ∷ []) }
 {
-    if let Some(fault) = stock_fault(rows, locate, stock) {
-        return Some(fault);
-    }
-    if side != b'B' && side != b'S' {
-        return Some(Fault::BadSide);
-    }
-    None
+    check_stock(store, locate, stock)?;
+    has_side(side)
 }
 
 // The checks of a new order.
-fn add_fault<A: Allocator + Copy>(
-    rows: &Rows<A>,
+fn check_add<S: Store>(
+    store: &S,
     locate: u16,
     reference: u64,
     side: u8,
     shares: u32,
     stock: &[u8; 8],
-) -> Option<Fault>
-    ensures { result ≡ first_fault (listed rows.now locate ∷ names_stock rows.now locate stock.now
-        ∷ has_side side ∷ has_shares shares ∷ is_new rows.now locate reference ∷ []) }
+) -> Result<(), Fault>
+    requires { Holds (S.held store.now) locate }
+    ensures { let w = (S.held store.now).world in
+        result_err result ≡ first_fault (listed w locate ∷ names_stock w locate stock.now ∷ has_side side
+        ∷ has_shares shares ∷ is_new w locate reference ∷ []) }
 {
-    if let Some(fault) = side_fault(rows, locate, stock, side) {
-        return Some(fault);
-    }
-    if shares == 0 {
-        return Some(Fault::ZeroShares);
-    }
-    if rows.order(locate, reference).is_some() {
-        return Some(Fault::ReferenceInUse);
-    }
-    None
-}
-
-// The order that lives under a reference, where the locate code has a directory row.
-fn find_order<A: Allocator + Copy>(
-    rows: &Rows<A>,
-    locate: u16,
-    reference: u64,
-) -> Result<OrderRow, Fault>
-    ensures listed { OnOk result (listed rows.now locate ≡ None) }
-    ensures order { IfOk result (λ row. live rows.now locate reference ≡ Some row) }
-    ensures refused { IfErr result (λ fault.
-        first_fault (listed rows.now locate ∷ is_live rows.now locate reference ∷ []) ≡ Some fault) }
-{
-    if rows.directory(locate).is_none() {
-        return Err(Fault::NoDirectory);
-    }
-    match rows.order(locate, reference) {
-        Some(row) => Ok(row),
-        None => Err(Fault::ReferenceUnknown),
-    }
+    check_side(store, locate, stock, side)?;
+    has_shares(shares)?;
+    is_new(store, locate, reference)
 }
 
 // The checks of a message that takes shares off an order, which find that order.
-fn check_shares<A: Allocator + Copy>(
-    rows: &Rows<A>,
+fn check_shares<S: Store>(
+    store: &S,
     locate: u16,
     reference: u64,
     shares: u32,
 ) -> Result<Option<OrderRow>, Fault>
-    ensures { let fault = first_fault (listed rows.now locate ∷ is_live rows.now locate reference
-        ∷ has_left rows.now locate reference shares ∷ []) in
-        result ≡ found_unless fault (live rows.now locate reference) }
+    requires { Holds (S.held store.now) locate }
+    ensures { let w = (S.held store.now).world in
+        let fault = first_fault (listed w locate ∷ is_live w locate reference
+        ∷ has_left w locate reference shares ∷ []) in
+        result ≡ found_unless fault (live w locate reference) }
 {
-    let row = find_order(rows, locate, reference)?;
-    if row.shares < shares {
-        return Err(Fault::TooManyShares);
-    }
+    listed(store, locate)?;
+    let row = is_live(store, locate, reference)?;
+    has_left(&row, shares)?;
     Ok(Some(row))
 }
 
 // The checks of an execution at a price of its own, which find the order.
-fn check_execute_price<A: Allocator + Copy>(
-    rows: &Rows<A>,
+fn check_execute_price<S: Store>(
+    store: &S,
     head: &Head,
     execute: &ExecutePrice,
 ) -> Result<Option<OrderRow>, Fault>
-    ensures { let fault = first_fault (checks (Msg.ExecutePrice head.now execute.now) rows.now) in
-        result ≡ found_unless fault (live rows.now head.now.locate execute.now.reference) }
+    requires { Holds (S.held store.now) head.now.locate }
+    ensures { let w = (S.held store.now).world in
+        let fault = first_fault (checks (Msg.ExecutePrice head.now execute.now) w) in
+        result ≡ found_unless fault (live w head.now.locate execute.now.reference) }
 {
-    if rows.directory(head.locate).is_none() {
-        return Err(Fault::NoDirectory);
-    }
-    if execute.printable != b'Y' && execute.printable != b'N' {
-        return Err(Fault::BadPrintable);
-    }
-    check_shares(rows, head.locate, execute.reference, execute.shares)
-}
-
-// The checks of a delete.
-fn delete_fault<A: Allocator + Copy>(rows: &Rows<A>, locate: u16, reference: u64) -> Option<Fault>
-    ensures { result ≡ first_fault (listed rows.now locate ∷ is_live rows.now locate reference ∷ []) }
-{
-    find_order(rows, locate, reference).err()
-}
-
-// The checks of a replacement, which find the original.
-fn check_replace<A: Allocator + Copy>(
-    rows: &Rows<A>,
-    head: &Head,
-    replace: &Replace,
-) -> Result<Option<OrderRow>, Fault>
-    ensures { let fault = first_fault (checks (Msg.Replace head.now replace.now) rows.now) in
-        result ≡ found_unless fault (live rows.now head.now.locate replace.now.reference) }
-{
-    let row = find_order(rows, head.locate, replace.reference)?;
-    if rows.order(head.locate, replace.new_reference).is_some() {
-        return Err(Fault::ReferenceInUse);
-    }
-    if replace.shares == 0 {
-        return Err(Fault::ZeroShares);
-    }
+    listed(store, head.locate)?;
+    has_printable(execute.printable)?;
+    let row = is_live(store, head.locate, execute.reference)?;
+    has_left(&row, execute.shares)?;
     Ok(Some(row))
 }
 
+// The checks of a delete.
+fn check_delete<S: Store>(store: &S, locate: u16, reference: u64) -> Result<(), Fault>
+    requires { Holds (S.held store.now) locate }
+    ensures { let w = (S.held store.now).world in
+        result_err result ≡ first_fault (listed w locate ∷ is_live w locate reference ∷ []) }
+{
+    listed(store, locate)?;
+    is_live(store, locate, reference)?;
+    Ok(())
+}
+
+// The checks of a replacement.
+fn check_replace<S: Store>(store: &S, head: &Head, replace: &Replace) -> Result<(), Fault>
+    requires { Holds (S.held store.now) head.now.locate }
+    ensures { let w = (S.held store.now).world in
+        result_err result ≡ first_fault (checks (Msg.Replace head.now replace.now) w) }
+{
+    listed(store, head.locate)?;
+    is_live(store, head.locate, replace.reference)?;
+    is_new(store, head.locate, replace.new_reference)?;
+    has_shares(replace.shares)
+}
+
 // The checks of a broken trade message.
-fn broken_fault<A: Allocator + Copy>(rows: &Rows<A>, head: &Head, broken: &Broken) -> Option<Fault>
-    ensures { result ≡ first_fault (checks (Msg.Broken head.now broken.now) rows.now) }
+fn check_broken<S: Store>(store: &S, locate: u16, match_no: u64) -> Result<(), Fault>
+    requires { Holds (S.held store.now) locate }
+    ensures { let w = (S.held store.now).world in
+        result_err result ≡ first_fault (listed w locate
+        ∷ refuse_unless (list_any (is_unbroken locate match_no) w.trades) Fault.NoTrade ∷ []) }
 {
-    if rows.directory(head.locate).is_none() {
-        return Some(Fault::NoDirectory);
-    }
-    if !rows.has_unbroken(head.locate, broken.match_no) {
-        return Some(Fault::NoTrade);
-    }
-    None
+    listed(store, locate)?;
+    has_trade(store, locate, match_no)
 }
 
-// The answer of checks that find no order.
-fn nothing_found(fault: Option<Fault>) -> Result<Option<OrderRow>, Fault>
-    ensures { result ≡ found_unless fault None }
+/// Checks a message, up to the first fault; where there is none it answers the order that the message takes shares off,
+/// if it does.
+pub(crate) fn check<S: Store>(store: &S, msg: &Msg) -> Result<Option<OrderRow>, Fault>
+    requires { HoldsPart (S.held store.now) (part_of_message msg.now) }
+    ensures { let w = (S.held store.now).world in
+        result ≡ found_unless (first_fault (checks msg.now w)) (named_order msg.now w) }
 {
-    match fault {
-        Some(fault) => Err(fault),
-        None => Ok(None),
-    }
-}
-
-/// Checks a message, and answers the first fault, or where there is none the order that the message takes shares off or
-/// replaces. It takes no memory.
-pub(crate) fn check<A: Allocator + Copy>(
-    rows: &Rows<A>,
-    msg: &Msg,
-) -> Result<Option<OrderRow>, Fault>
-    ensures { result ≡ found_unless (first_fault (checks msg.now rows.now)) (named_order msg.now rows.now) }
-{
-    nothing_found(match msg {
-        Msg::Execute(head, m) => return check_shares(rows, head.locate, m.reference, m.shares),
-        Msg::ExecutePrice(head, m) => return check_execute_price(rows, head, m),
-        Msg::Cancel(head, m) => return check_shares(rows, head.locate, m.reference, m.shares),
-        Msg::Replace(head, m) => return check_replace(rows, head, m),
-        Msg::System(_, _) | Msg::Decline(_, _) | Msg::Breach(_, _) | Msg::Ipo(_, _) => None,
-        Msg::Directory(head, m) => directory_fault(rows, head, m),
-        Msg::Trading(head, m) => stock_fault(rows, head.locate, &m.stock),
-        Msg::Regsho(head, m) => stock_fault(rows, head.locate, &m.stock),
-        Msg::Participant(head, m) => stock_fault(rows, head.locate, &m.stock),
-        Msg::Collar(head, m) => stock_fault(rows, head.locate, &m.stock),
-        Msg::Operational(head, m) => stock_fault(rows, head.locate, &m.stock),
+    match msg {
+        Msg::System(_, _) | Msg::Decline(_, _) | Msg::Breach(_, _) | Msg::Ipo(_, _) => {}
+        Msg::Directory(head, m) => keeps_stock(store, head.locate, &m.stock)?,
+        Msg::Trading(head, m) => check_stock(store, head.locate, &m.stock)?,
+        Msg::Regsho(head, m) => check_stock(store, head.locate, &m.stock)?,
+        Msg::Participant(head, m) => check_stock(store, head.locate, &m.stock)?,
+        Msg::Collar(head, m) => check_stock(store, head.locate, &m.stock)?,
+        Msg::Operational(head, m) => check_stock(store, head.locate, &m.stock)?,
         Msg::Add(head, m) => {
-            add_fault(rows, head.locate, m.reference, m.side, m.shares, &m.stock)
+            check_add(store, head.locate, m.reference, m.side, m.shares, &m.stock)?
         }
         Msg::AddMpid(head, m) => {
-            add_fault(rows, head.locate, m.reference, m.side, m.shares, &m.stock)
+            check_add(store, head.locate, m.reference, m.side, m.shares, &m.stock)?
         }
-        Msg::Delete(head, m) => delete_fault(rows, head.locate, m.reference),
-        Msg::Trade(head, m) => side_fault(rows, head.locate, &m.stock, m.side),
-        Msg::Cross(head, m) => stock_fault(rows, head.locate, &m.stock),
-        Msg::Broken(head, m) => broken_fault(rows, head, m),
-        Msg::Imbalance(head, m) => stock_fault(rows, head.locate, &m.stock),
-        Msg::Retail(head, m) => stock_fault(rows, head.locate, &m.stock),
-    })
+        Msg::Execute(head, m) => return check_shares(store, head.locate, m.reference, m.shares),
+        Msg::ExecutePrice(head, m) => return check_execute_price(store, head, m),
+        Msg::Cancel(head, m) => return check_shares(store, head.locate, m.reference, m.shares),
+        Msg::Delete(head, m) => check_delete(store, head.locate, m.reference)?,
+        Msg::Replace(head, m) => check_replace(store, head, m)?,
+        Msg::Trade(head, m) => check_side(store, head.locate, &m.stock, m.side)?,
+        Msg::Cross(head, m) => check_stock(store, head.locate, &m.stock)?,
+        Msg::Broken(head, m) => check_broken(store, head.locate, m.match_no)?,
+        Msg::Imbalance(head, m) => check_stock(store, head.locate, &m.stock)?,
+        Msg::Retail(head, m) => check_stock(store, head.locate, &m.stock)?,
+    }
+    Ok(None)
 }

@@ -3,6 +3,7 @@
 
 mod effects;
 mod faults;
+mod following;
 mod laws;
 mod levels;
 mod listing;
@@ -12,12 +13,16 @@ mod parts;
 mod plain;
 mod rows;
 mod status;
+mod store;
 mod trades;
 
+pub use following::follow;
 pub use laws::levels_are_sums;
 pub use levels::{best_with, levels_of};
 pub use order::{Level, Order, OrderRow, Side, Top};
 pub use outcome::{Fault, Outcome, Part};
 pub use parts::part;
 pub use plain::Plain;
-pub use status::{Status, Totals, Trading};
+pub use status::{Status, StockRow, Totals, Trading};
+pub use store::Store;
+pub use trades::{TradeRow, break_trades, has_unbroken, totals_under};

@@ -7,6 +7,7 @@ use crate::levels::{best_with, levels_of};
 use crate::order::{Level, Order, OrderKey, OrderRow, Side, Top};
 use crate::rows::Rows;
 use crate::status::Status;
+use crate::store::Store;
 use std::alloc::{AllocError, Allocator};
 use std::collections::btree_map::Range;
 

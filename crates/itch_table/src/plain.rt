@@ -5,13 +5,11 @@ ghost use Rattle.itch_table.specs.Levels.{levels, top};
 ghost use Rattle.itch_table.specs.Table.{step};
 ghost use Rattle.itch_table.specs.Machine.{MayGrow};
 
-use crate::effects::apply;
-use crate::faults::check;
+use crate::following::follow;
 use crate::order::{Level, Order, Side, Top};
-use crate::outcome::{Fault, Outcome};
+use crate::outcome::Outcome;
 use crate::rows::Rows;
 use crate::status::{Status, Totals};
-use itch_layouts::{Shape, read_msg};
 use std::alloc::{AllocError, Allocator};
 use std::marker::Model;
 
@@ -150,27 +148,8 @@ impl<A: Allocator + Copy> Plain<A> {
         ensures err { OnErr result (self.new ≡ self.old) }
         ensures grows { OnErr result (MayGrow self.old.world payload.now) }
     {
-        let outcome = step_rows(&mut self.rows, payload)?;
+        let outcome = follow(&mut self.rows, payload)?;
         self.steps += 1;
         Ok(outcome)
     }
-}
-
-// One message over the rows alone.
-fn step_rows<A: Allocator + Copy>(rows: &mut Rows<A>, payload: &[u8]) -> Result<Outcome, AllocError>
-    ensures ok { IfOk result (λ outcome. (outcome, rows.new) ≡ step rows.old payload.now) }
-    ensures err { OnErr result (rows.new ≡ rows.old) }
-    ensures grows { OnErr result (MayGrow rows.old payload.now) }
-{
-    let msg = match read_msg(payload) {
-        Shape::Unknown => return Ok(Outcome::Passed),
-        Shape::BadLength => return Ok(Outcome::Refused(Fault::WrongLength)),
-        Shape::Known(msg) => msg,
-    };
-    let named = match check(rows, &msg) {
-        Ok(named) => named,
-        Err(fault) => return Ok(Outcome::Refused(fault)),
-    };
-    apply(rows, &msg, named)?;
-    Ok(Outcome::Applied)
 }

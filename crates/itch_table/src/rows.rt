@@ -4,14 +4,13 @@ ghost use Rattle.std.specs.List.{list_any};
 ghost use Rattle.std.specs.BTreeMap.{IsOrdered, keys};
 ghost use Rattle.std.specs.Ordering.{nat_cmp};
 ghost use Rattle.std.specs.FinMap as maps;
-ghost use Rattle.itch_table.specs.World.{directory, empty_world, is_under, live, locates, stock_row, totals};
-ghost use Rattle.itch_table.specs.Table.{with_order, with_stock, with_trade, without_order};
-ghost use Rattle.itch_table.specs.Trades.{broken_at, is_unbroken};
+ghost use Rattle.itch_table.specs.World.{empty_world, is_under, live, locates, totals};
+ghost use Rattle.itch_table.specs.Table.{with_order, without_order};
 
 use crate::order::{OrderKey, OrderRow};
 use crate::status::{StockRow, Totals};
+use crate::store::Store;
 use crate::trades::{TradeRow, break_trades, has_unbroken, totals_under};
-use itch_layouts::Directory;
 use std::alloc::{AllocError, Allocator};
 use std::collections::BTreeMap;
 use std::collections::btree_map::Range;
@@ -72,62 +71,8 @@ impl<A: Allocator + Copy> Rows<A> {
         self.event
     }
 
-    /// What is known of a stock that has a directory row.
-    pub fn stock(&self, locate: u16) -> Option<StockRow>
-        ensures { result ≡ stock_row self.now locate }
-    {
-        self.stocks.get(&locate).copied()
-    }
-
-    /// A stock's directory row.
-    pub fn directory(&self, locate: u16) -> Option<Directory>
-        ensures { result ≡ directory self.now locate }
-    {
-        self.stock(locate).map(|row| row.directory)
-    }
-
-    /// The order that lives under a locate code and a reference.
-    pub fn order(&self, locate: u16, reference: u64) -> Option<OrderRow>
-        ensures { result ≡ live self.now locate reference }
-    {
-        self.orders.get(&OrderKey { locate, reference }).copied()
-    }
-
-    /// Sets the last event.
-    pub fn set_event(&mut self, event: u8)
-        ensures { self.new ≡ record self.old { event = Some event } }
-    {
-        self.event = Some(event);
-    }
-
-    /// Sets what is known of a stock, which may need a new row.
-    pub fn set_stock(&mut self, locate: u16, row: StockRow) -> Result<(), AllocError>
-        ensures ok { OnOk result (self.new ≡ with_stock self.old locate row) }
-        ensures err { OnErr result (self.new ≡ self.old) }
-    {
-        match self.stocks.insert(locate, row) {
-            Ok(_) => Ok(()),
-            Err(_) => Err(AllocError),
-        }
-    }
-
-    /// Sets what is known of a stock that has a directory row, which takes no memory.
-    pub fn update_stock(&mut self, locate: u16, row: StockRow)
-        requires { IsSome (stock_row self.old locate) }
-        ensures { self.new ≡ with_stock self.old locate row }
-    {
-        if let Some(known) = self.stocks.get_mut(&locate) {
-            *known = row;
-        }
-    }
-
-    /// Sets an order, which may need a new row.
-    pub fn set_order(
-        &mut self,
-        locate: u16,
-        reference: u64,
-        row: OrderRow,
-    ) -> Result<(), AllocError>
+    // Sets an order, which may need a new row.
+    fn set_order(&mut self, locate: u16, reference: u64, row: OrderRow) -> Result<(), AllocError>
         ensures ok { OnOk result (self.new ≡ with_order self.old locate reference row) }
         ensures err { OnErr result (self.new ≡ self.old) }
     {
@@ -137,8 +82,8 @@ impl<A: Allocator + Copy> Rows<A> {
         }
     }
 
-    /// Sets an order that lives already, which takes no memory.
-    pub fn update_order(&mut self, locate: u16, reference: u64, row: OrderRow)
+    // Sets an order that lives already, which takes no memory.
+    fn update_order(&mut self, locate: u16, reference: u64, row: OrderRow)
         requires { IsSome (live self.old locate reference) }
         ensures { self.new ≡ with_order self.old locate reference row }
     {
@@ -147,34 +92,11 @@ impl<A: Allocator + Copy> Rows<A> {
         }
     }
 
-    /// Removes an order.
-    pub fn remove_order(&mut self, locate: u16, reference: u64)
+    // Removes an order, where it lives.
+    fn unset_order(&mut self, locate: u16, reference: u64)
         ensures { self.new ≡ without_order self.old locate reference }
     {
         self.orders.remove(&OrderKey { locate, reference });
-    }
-
-    /// Adds a trade after the others.
-    pub fn add_trade(&mut self, locate: u16, trade: TradeRow) -> Result<(), AllocError>
-        ensures ok { OnOk result (self.new ≡ with_trade self.old locate trade) }
-        ensures err { OnErr result (self.new ≡ self.old) }
-    {
-        self.trades.push((locate, trade))?;
-        Ok(())
-    }
-
-    /// Whether a stock has an unbroken trade with this match number.
-    pub fn has_unbroken(&self, locate: u16, match_no: u64) -> bool
-        ensures { result ≡ list_any (is_unbroken locate match_no) self.now.trades }
-    {
-        has_unbroken(&self.trades, locate, match_no)
-    }
-
-    /// Breaks all trades of a stock with this match number.
-    pub fn break_trades(&mut self, locate: u16, match_no: u64)
-        ensures { self.new ≡ record self.old { trades = map (broken_at locate match_no) self.old.trades } }
-    {
-        break_trades(&mut self.trades, locate, match_no);
     }
 
     /// A stock's totals over its trades.
@@ -205,6 +127,91 @@ impl<A: Allocator + Copy> Rows<A> {
         ensures { IfOk result (λ list. list.items ≡ locates self.now) }
     {
         keys_of(alloc, &self.stocks)
+    }
+}
+
+impl<A: Allocator + Copy> Store for Rows<A> {
+    ghost use Rattle.itch_table.specs.Held.{all_stocks};
+
+    ghost held = { all_stocks };
+
+    ghost has_room = { λ _. Unit {0} };
+
+    fn stock(&self, locate: u16) -> Option<StockRow> {
+        self.stocks.get(&locate).copied()
+    }
+
+    fn order(&self, locate: u16, reference: u64) -> Option<OrderRow> {
+        self.orders.get(&OrderKey { locate, reference }).copied()
+    }
+
+    fn has_unbroken(&self, locate: u16, match_no: u64) -> bool {
+        has_unbroken(&self.trades, locate, match_no)
+    }
+
+    fn set_event(&mut self, event: u8) {
+        self.event = Some(event);
+    }
+
+    fn set_stock(&mut self, locate: u16, row: StockRow) -> Result<(), AllocError> {
+        match self.stocks.insert(locate, row) {
+            Ok(_) => Ok(()),
+            Err(_) => Err(AllocError),
+        }
+    }
+
+    fn update_stock(&mut self, locate: u16, row: StockRow) {
+        if let Some(known) = self.stocks.get_mut(&locate) {
+            *known = row;
+        }
+    }
+
+    fn add_order(&mut self, locate: u16, reference: u64, row: OrderRow) -> Result<(), AllocError> {
+        self.set_order(locate, reference, row)
+    }
+
+    fn reduce_order(&mut self, locate: u16, reference: u64, row: OrderRow, shares: u32) {
+        if row.shares == shares {
+            self.unset_order(locate, reference);
+        } else {
+            let left = OrderRow {
+                shares: row.shares - shares,
+                ..row
+            };
+            self.update_order(locate, reference, left);
+        }
+    }
+
+    fn remove_order(&mut self, locate: u16, reference: u64) {
+        self.unset_order(locate, reference);
+    }
+
+    fn replace_order(
+        &mut self,
+        locate: u16,
+        old: u64,
+        new: u64,
+        shares: u32,
+        price: u32,
+    ) -> Result<(), AllocError> {
+        let row = self.order(locate, old).unwrap();
+        let placed = OrderRow {
+            shares,
+            price,
+            ..row
+        };
+        self.set_order(locate, new, placed)?;
+        self.unset_order(locate, old);
+        Ok(())
+    }
+
+    fn add_trade(&mut self, locate: u16, trade: TradeRow) -> Result<(), AllocError> {
+        self.trades.push((locate, trade))?;
+        Ok(())
+    }
+
+    fn break_trades(&mut self, locate: u16, match_no: u64) {
+        break_trades(&mut self.trades, locate, match_no);
     }
 }
 

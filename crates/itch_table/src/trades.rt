@@ -31,7 +31,7 @@ fn is_unbroken(row: &(u16, TradeRow), locate: u16, match_no: u64) -> bool
 }
 
 /// Whether a stock has an unbroken trade with this match number.
-pub(crate) fn has_unbroken(rows: &[(u16, TradeRow)], locate: u16, match_no: u64) -> bool
+pub fn has_unbroken(rows: &[(u16, TradeRow)], locate: u16, match_no: u64) -> bool
     ensures { result ≡ list_any (is_unbroken locate match_no) rows.now }
 {
     rows.iter().any(|row| is_unbroken(row, locate, match_no))
@@ -55,7 +55,7 @@ fn broken_row(row: (u16, TradeRow), locate: u16, match_no: u64) -> (u16, TradeRo
 }
 
 /// Breaks all trades of a stock with this match number.
-pub(crate) fn break_trades(rows: &mut [(u16, TradeRow)], locate: u16, match_no: u64)
+pub fn break_trades(rows: &mut [(u16, TradeRow)], locate: u16, match_no: u64)
     ensures { rows.new ≡ map (broken_at locate match_no) rows.old }
 {
     for row in rows.iter_mut() {
@@ -96,7 +96,7 @@ fn with_trade(totals: Totals, trade: &TradeRow) -> Totals
 }
 
 /// The totals of a stock's trades.
-pub(crate) fn totals_under(rows: &[(u16, TradeRow)], locate: u16) -> Totals
+pub fn totals_under(rows: &[(u16, TradeRow)], locate: u16) -> Totals
     requires { length rows.now < 2 ^ 32 }
     ensures { result ≡ totals_of (trades_under locate rows.now) }
 {

@@ -1,5 +1,5 @@
 use Rattle.std.proofs.Common.{ap, length, arith}
-use Rattle.itch_table.specs.World.{World, orders_of}
+use Rattle.itch_table.specs.World.{orders_of}
 use Rattle.itch_table.specs.Machine.{Machine}
 use Rattle.itch_table.proofs.Counts.{length-orders_of}
 use Rattle.itch_table.proofs.plain.Plain.orders.Goals as goal

@@ -3,10 +3,11 @@ use Rattle.std.specs.Cmp.{nat_cmp_total}
 use mathlib.Core.Bool.{false≢true}
 use Rattle.std.specs.FinMap as maps
 use Rattle.std.specs.FinMap.{nat_cmp-IsAntisymmetric}
+use Rattle.itch_table.specs.Held.{all_stocks}
 use Rattle.itch_table.specs.World.{World, stock_row}
 use Rattle.itch_table.proofs.MapViews.{view_insert, get_view}
-use Rattle.itch_table.proofs.rows.Rows.update_stock.Goals as goal
-use Rattle.itch_table.proofs.rows.Rows.update_stock.Goals.{in-Some, in_default}
+use Rattle.itch_table.proofs.rows.RowsStore.update_stock.Goals as goal
+use Rattle.itch_table.proofs.rows.RowsStore.update_stock.Goals.{in-Some, in_default}
 
 pub returns : goal.returns
 returns g c =
@@ -14,12 +15,12 @@ returns g c =
     let row = c.args.row in
     elim c.match-get_mut.branch [
       | in-Some w ↦ rw (w.self-inside-is, ← c.self.view_is) (
-          ap (λ m. record { orders = maps.from_entries inside.orders.entries; trades = inside.trades.items; stocks = m; event = inside.event })
+          ap (λ m. all_stocks (record { orders = maps.from_entries inside.orders.entries; trades = inside.trades.items; stocks = m; event = inside.event }))
           (view_insert nat_cmp_total nat_cmp-IsAntisymmetric inside.stocks.entries (c.get_mut.follows.lender row).entries c.args.locate row (((c.get_mut.follows.holds row).3 (search rules)).0))
           )
       | in_default w ↦
           let none : stock_row c.args.self.now c.args.locate ≡ None =
           ap (λ (v : World). stock_row v c.args.locate) (sym c.self.view_is) ∙ get_view nat_cmp_total inside.stocks.entries c.args.locate
           ∙ sym (w.in_default.ensures {u = tt}).value in
-          absurd (false≢true (rw none at c.requires))
+          absurd (false≢true (rw none at c.requires.known))
     ]

@@ -1,0 +1,31 @@
+-- Rows that the table can be followed over, as a world: those of all stocks, or of one.
+use Rattle.std.specs.Prelude.{◌≡◌, ℕ, Option, Some, None}
+use Rattle.itch_table.specs.declared.outcome.Part.{Part}
+use Rattle.itch_table.specs.declared.outcome.Part.TheVariants.{Locate, Nowhere}
+use Rattle.itch_table.specs.World.{World}
+
+-- a world, with the locate code of the one stock whose rows are held, or none where those of all stocks are
+pub record Held : Type 0 where
+  pub own : Option ℕ
+  pub world : World
+
+-- the rows of all stocks
+abbrev pub all_stocks : World → Held
+all_stocks world = record { own = None; world = world }
+
+-- the world changes, and whose rows are held stays
+abbrev pub on_world : (World → World) → Held → Held
+on_world change held = record { own = held.own; world = change held.world }
+
+abbrev pub IsOwn : Option ℕ → ℕ → Type 0
+IsOwn None locate = Unit {0}
+IsOwn (Some own) locate = locate ≡ own
+
+-- the stock's rows are held
+abbrev pub Holds : Held → ℕ → Type 0
+Holds held locate = IsOwn held.own locate
+
+-- the rows that a message may read and change are held
+abbrev pub HoldsPart : Held → Part → Type 0
+HoldsPart held (Locate locate) = Holds held locate
+HoldsPart held (Nowhere outcome) = Unit {0}

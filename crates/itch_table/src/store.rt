@@ -1,0 +1,109 @@
+//! Rows that the table can be followed over.
+ghost use Rattle.std.specs.Prelude.{◌≡◌, ◌≤◌, ◌<◌, Some, None, map, IsSome, OnOk, OnErr};
+ghost use Rattle.std.specs.List.{list_any};
+ghost use Rattle.itch_table.specs.World.{live, stock_row};
+ghost use Rattle.itch_table.specs.Held.{Held, Holds, on_world};
+ghost use Rattle.itch_table.specs.Table.{less_shares, with_order, with_replaced, with_stock, with_trade, without_order};
+ghost use Rattle.itch_table.specs.Trades.{broken_at, is_unbroken};
+
+use crate::order::OrderRow;
+use crate::status::StockRow;
+use crate::trades::TradeRow;
+use std::alloc::AllocError;
+
+/// Rows that the table of instructions can be followed over, of this project: those of all stocks, or of one.
+///
+/// Each call is one step of an effect, or a look-up of a check. An error says that memory was refused, and leaves the
+/// rows as they were.
+pub trait Store {
+    /// The rows as a world, and whose they are.
+    ghost held: { Self → Held };
+
+    /// There may be an order and a trade more.
+    ghost has_room: { Self → Type 0 };
+
+    /// What is known of a stock that has a directory row.
+    fn stock(&self, locate: u16) -> Option<StockRow>
+        requires { Holds (held self.now) locate }
+        ensures { result ≡ stock_row (held self.now).world locate };
+
+    /// The order that lives under a reference.
+    fn order(&self, locate: u16, reference: u64) -> Option<OrderRow>
+        requires { Holds (held self.now) locate }
+        ensures { result ≡ live (held self.now).world locate reference };
+
+    /// Whether a stock has an unbroken trade with this match number.
+    fn has_unbroken(&self, locate: u16, match_no: u64) -> bool
+        requires { Holds (held self.now) locate }
+        ensures { result ≡ list_any (is_unbroken locate match_no) (held self.now).world.trades };
+
+    /// Sets the last event.
+    fn set_event(&mut self, event: u8)
+        ensures { held self.new ≡ on_world (λ w. record w { event = Some event }) (held self.old) };
+
+    /// Sets what is known of a stock, which may need a new row.
+    fn set_stock(&mut self, locate: u16, row: StockRow) -> Result<(), AllocError>
+        requires { Holds (held self.old) locate }
+        ensures ok { OnOk result (held self.new ≡ on_world (λ w. with_stock w locate row) (held self.old)) }
+        ensures err { OnErr result (held self.new ≡ held self.old) };
+
+    /// Sets what is known of a stock that has a directory row, which takes no memory.
+    fn update_stock(&mut self, locate: u16, row: StockRow)
+        requires here { Holds (held self.old) locate }
+        requires known { IsSome (stock_row (held self.old).world locate) }
+        ensures { held self.new ≡ on_world (λ w. with_stock w locate row) (held self.old) };
+
+    /// Adds an order under a new reference.
+    fn add_order(&mut self, locate: u16, reference: u64, row: OrderRow) -> Result<(), AllocError>
+        requires here { Holds (held self.old) locate }
+        requires new { live (held self.old).world locate reference ≡ None }
+        requires some { 0 < row.shares }
+        requires room { has_room self.old }
+        ensures ok { OnOk result (held self.new ≡ on_world (λ w. with_order w locate reference row) (held self.old)) }
+        ensures err { OnErr result (held self.new ≡ held self.old) };
+
+    /// Takes shares off an order, given with what a check found of it; it is gone where none are left.
+    fn reduce_order(&mut self, locate: u16, reference: u64, row: OrderRow, shares: u32)
+        requires here { Holds (held self.old) locate }
+        requires live { live (held self.old).world locate reference ≡ Some row }
+        requires enough { shares ≤ row.shares }
+        ensures { held self.new ≡ on_world (λ w. less_shares w locate reference row shares) (held self.old) };
+
+    /// Removes an order.
+    fn remove_order(&mut self, locate: u16, reference: u64)
+        requires here { Holds (held self.old) locate }
+        requires live { IsSome (live (held self.old).world locate reference) }
+        ensures { held self.new ≡ on_world (λ w. without_order w locate reference) (held self.old) };
+
+    /// Puts an order under a new reference in the place of one that is gone then, with its side and attribution.
+    fn replace_order(
+        &mut self,
+        locate: u16,
+        old: u64,
+        new: u64,
+        shares: u32,
+        price: u32,
+    ) -> Result<(), AllocError>
+        requires here { Holds (held self.old) locate }
+        requires live { IsSome (live (held self.old).world locate old) }
+        requires new { live (held self.old).world locate new ≡ None }
+        requires some { 0 < shares }
+        requires room { has_room self.old }
+        ensures ok { OnOk result (
+            held self.new ≡ on_world (λ w. with_replaced w locate old new shares price) (held self.old)) }
+        ensures err { OnErr result (held self.new ≡ held self.old) };
+
+    /// Adds a trade after the others.
+    fn add_trade(&mut self, locate: u16, trade: TradeRow) -> Result<(), AllocError>
+        requires here { Holds (held self.old) locate }
+        requires room { has_room self.old }
+        ensures ok { OnOk result (held self.new ≡ on_world (λ w. with_trade w locate trade) (held self.old)) }
+        ensures err { OnErr result (held self.new ≡ held self.old) };
+
+    /// Breaks all trades of a stock with this match number.
+    fn break_trades(&mut self, locate: u16, match_no: u64)
+        requires here { Holds (held self.old) locate }
+        requires room { has_room self.old }
+        ensures { held self.new ≡
+            on_world (λ w. record w { trades = map (broken_at locate match_no) w.trades }) (held self.old) };
+}
