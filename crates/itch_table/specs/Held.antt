@@ -13,6 +13,10 @@ pub record Held : Type 0 where
 abbrev pub all_stocks : World → Held
 all_stocks world = record { own = None; world = world }
 
+-- the rows of one stock
+abbrev pub one_stock : ℕ → World → Held
+one_stock own world = record { own = Some own; world = world }
+
 -- the world changes, and whose rows are held stays
 abbrev pub on_world : (World → World) → Held → Held
 on_world change held = record { own = held.own; world = change held.world }
@@ -25,7 +29,7 @@ IsOwn (Some own) locate = locate ≡ own
 abbrev pub Holds : Held → ℕ → Type 0
 Holds held locate = IsOwn held.own locate
 
--- the rows that a message may read and change are held
+-- the rows that a message may read and change are held: those of its stock, or of all stocks where it is of none
 abbrev pub HoldsPart : Held → Part → Type 0
 HoldsPart held (Locate locate) = Holds held locate
-HoldsPart held (Nowhere outcome) = Unit {0}
+HoldsPart held (Nowhere outcome) = held.own ≡ None

@@ -126,7 +126,7 @@ pub(crate) fn apply<S: Store>(
     requires named { named ≡ named_order msg.now (S.held store.old).world }
     ensures ok { OnOk result (S.held store.new ≡ on_world (effect msg.now) (S.held store.old)) }
     ensures err { OnErr result (S.held store.new ≡ S.held store.old) }
-    ensures grows { OnErr result (IsTrue (adds_row msg.now)) }
+    ensures grows { OnErr result (IsTrue (adds_row (S.held store.old).own msg.now)) }
 {
     match msg {
         Msg::System(_, m) => store.set_event(m.event),

@@ -21,7 +21,7 @@ fn follow_message<S: Store>(store: &mut S, msg: &Msg) -> Result<Outcome, AllocEr
     ensures own { (S.held store.new).own ≡ (S.held store.old).own }
     ensures err { OnErr result (S.held store.new ≡ S.held store.old) }
     ensures passed { OnErr result (first_fault (checks msg.now (S.held store.old).world) ≡ None) }
-    ensures grows { OnErr result (IsTrue (adds_row msg.now)) }
+    ensures grows { OnErr result (IsTrue (adds_row (S.held store.old).own msg.now)) }
 {
     let named = match check(store, msg) {
         Ok(named) => named,
@@ -44,7 +44,7 @@ pub fn follow<S: Store>(store: &mut S, payload: &[u8]) -> Result<Outcome, AllocE
         (outcome, (S.held store.new).world) ≡ step (S.held store.old).world payload.now) }
     ensures own { (S.held store.new).own ≡ (S.held store.old).own }
     ensures err { OnErr result (S.held store.new ≡ S.held store.old) }
-    ensures grows { OnErr result (MayGrow (S.held store.old).world payload.now) }
+    ensures grows { OnErr result (MayGrow (S.held store.old) payload.now) }
 {
     match read_msg(payload) {
         Shape::Unknown => Ok(Outcome::Passed),

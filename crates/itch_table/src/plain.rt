@@ -3,6 +3,7 @@ ghost use Rattle.std.specs.Prelude.{◌≡◌, ◌+◌, ◌-◌, ◌<◌, ◌^�
 ghost use Rattle.itch_table.specs.World.{empty_world, locates, order, orders_of, status, totals};
 ghost use Rattle.itch_table.specs.Levels.{levels, top};
 ghost use Rattle.itch_table.specs.Table.{step};
+ghost use Rattle.itch_table.specs.Held.{all_stocks};
 ghost use Rattle.itch_table.specs.Machine.{MayGrow};
 
 use crate::following::follow;
@@ -146,7 +147,7 @@ impl<A: Allocator + Copy> Plain<A> {
         ensures ok { IfOk result (λ outcome. (outcome, self.new.world) ≡ step self.old.world payload.now) }
         ensures steps { OnOk result (self.new.steps ≡ self.old.steps + 1) }
         ensures err { OnErr result (self.new ≡ self.old) }
-        ensures grows { OnErr result (MayGrow self.old.world payload.now) }
+        ensures grows { OnErr result (MayGrow (all_stocks self.old.world) payload.now) }
     {
         let outcome = follow(&mut self.rows, payload)?;
         self.steps += 1;

@@ -37,15 +37,17 @@ pub trait Store {
         requires { Holds (held self.now) locate }
         ensures { result ≡ list_any (is_unbroken locate match_no) (held self.now).world.trades };
 
-    /// Sets the last event.
+    /// Sets the last event, which the rows of all stocks alone have.
     fn set_event(&mut self, event: u8)
+        requires { (held self.old).own ≡ None }
         ensures { held self.new ≡ on_world (λ w. record w { event = Some event }) (held self.old) };
 
-    /// Sets what is known of a stock, which may need a new row.
+    /// Sets what is known of a stock, which may need a new row among those of all stocks.
     fn set_stock(&mut self, locate: u16, row: StockRow) -> Result<(), AllocError>
         requires { Holds (held self.old) locate }
         ensures ok { OnOk result (held self.new ≡ on_world (λ w. with_stock w locate row) (held self.old)) }
-        ensures err { OnErr result (held self.new ≡ held self.old) };
+        ensures err { OnErr result (held self.new ≡ held self.old) }
+        ensures all { OnErr result ((held self.old).own ≡ None) };
 
     /// Sets what is known of a stock that has a directory row, which takes no memory.
     fn update_stock(&mut self, locate: u16, row: StockRow)
