@@ -1,4 +1,5 @@
 pub mod Padding
+pub mod Escapes
 pub mod HexDigits
 pub mod HeldFields
 pub mod OneWord
