@@ -6,9 +6,9 @@ use std::alloc::{AllocError, Allocator};
 use std::test::Fail;
 use support::{AAPL, Known, Ticker, known_of, payload_of, same, same_list, take};
 
-// All that a machine knows of the stock of locate code 1.
+// All that a machine knows of the stock of locate code 1, and all lists that it makes.
 #[derive(Drop)]
-struct Rows<A: Allocator> {
+struct Everything<A: Allocator> {
     known: Known,
     orders: Vec<Order, A>,
     bids: Vec<Level, A>,
@@ -16,8 +16,11 @@ struct Rows<A: Allocator> {
     locates: Vec<u16, A>,
 }
 
-fn rows_of<A: Allocator + Copy>(alloc: A, machine: &Plain<A>) -> Result<Rows<A>, AllocError> {
-    Ok(Rows {
+fn everything_of<A: Allocator + Copy>(
+    alloc: A,
+    machine: &Plain<A>,
+) -> Result<Everything<A>, AllocError> {
+    Ok(Everything {
         known: known_of(machine, 1),
         orders: machine.orders(alloc, 1)?,
         bids: machine.levels(alloc, 1, Side::Buy)?,
@@ -26,7 +29,11 @@ fn rows_of<A: Allocator + Copy>(alloc: A, machine: &Plain<A>) -> Result<Rows<A>,
     })
 }
 
-fn same_rows<A: Allocator>(case: &str, found: &Rows<A>, wanted: &Rows<A>) -> Result<(), Fail> {
+fn same_everything<A: Allocator>(
+    case: &str,
+    found: &Everything<A>,
+    wanted: &Everything<A>,
+) -> Result<(), Fail> {
     same(case, &found.known, &wanted.known)?;
     same_list(case, &found.orders, &wanted.orders)?;
     same_list(case, &found.bids, &wanted.bids)?;
@@ -42,7 +49,7 @@ fn growths_of<'h, A: Allocator + Copy>(
     payload: &[u8],
 ) -> Result<u64, Fail> {
     heap.restart(Refusal::Never);
-    let before = rows_of(heap, machine)?;
+    let before = everything_of(heap, machine)?;
     for growth in 1..=5u64 {
         if machine.steps() == u32::MAX {
             return Err(Fail::new("a machine takes no more messages"));
@@ -59,7 +66,11 @@ fn growths_of<'h, A: Allocator + Copy>(
             )?;
             return Ok(growth - 1);
         }
-        same_rows("a step without memory", &rows_of(heap, machine)?, &before)?;
+        same_everything(
+            "a step without memory",
+            &everything_of(heap, machine)?,
+            &before,
+        )?;
     }
     Err(Fail::new("a step takes four growths at most"))
 }
@@ -89,8 +100,7 @@ const KINDS: [Kind; 8] = [
 ];
 
 // The message of a kind that adds row `number`. The executions are of order 1, and the replacements of an order with
-// the
-// row's number.
+// the row's number.
 fn message_of(kind: Kind, number: u8) -> Msg {
     let reference = u64::from(number);
     match kind {
@@ -161,39 +171,56 @@ fn a_step_without_memory_changes_nothing(rt: HostRuntime) -> Result<(), Fail> {
     Ok(())
 }
 
+// How long each list of the stock of locate code 1 is: its bids, its orders and all locate codes.
+fn lengths_of<A: Allocator + Copy>(alloc: A, machine: &Plain<A>) -> [Result<usize, AllocError>; 3] {
+    let bids = machine.levels(alloc, 1, Side::Buy);
+    let orders = machine.orders(alloc, 1);
+    let locates = machine.locates(alloc);
+    [
+        bids.map(|list| list.len()),
+        orders.map(|list| list.len()),
+        locates.map(|list| list.len()),
+    ]
+}
+
+// Asks for the bids with each growth refused in turn.
+fn refuse_bids<'h, A: Allocator + Copy>(
+    heap: &'h Refusing<A>,
+    machine: &Plain<&'h Refusing<A>>,
+) -> Result<(), Fail> {
+    heap.restart(Refusal::Never);
+    let found = machine.levels(heap, 1, Side::Buy).map(|list| list.len());
+    let growths = heap.asked();
+    same("bids with memory", &(found, growths > 1), &(Ok(2), true))?;
+    for growth in 1..=growths {
+        heap.restart(Refusal::From(growth));
+        let found = machine.levels(heap, 1, Side::Buy).map(|list| list.len());
+        same(
+            "bids without memory",
+            &(growth, found),
+            &(growth, Err(AllocError)),
+        )?;
+    }
+    Ok(())
+}
+
 #[test]
 fn a_list_without_memory_is_none(rt: HostRuntime) -> Result<(), Fail> {
     let heap = Refusing::new(rt.alloc(), Refusal::Never);
     let mut machine = Plain::new(&heap);
-    same(
-        "the first row",
-        &machine.step(b"nothing"),
-        &Ok(Outcome::Passed),
-    )?;
     apply(&heap, &mut machine, &AAPL.directory())?;
     apply(&heap, &mut machine, &AAPL.add(1, b'B', 10, 100))?;
     apply(&heap, &mut machine, &AAPL.add(2, b'B', 10, 200))?;
-    heap.restart(Refusal::Never);
-    same("levels", &machine.levels(&heap, 1, Side::Buy)?.len(), &2)?;
-    for growth in 1..=heap.asked() {
-        heap.restart(Refusal::From(growth));
-        let refused = machine
-            .levels(&heap, 1, Side::Buy)
-            .map(|levels| levels.len());
-        same(
-            "refused levels",
-            &(growth, refused),
-            &(growth, Err(AllocError)),
-        )?;
-    }
+    refuse_bids(&heap, &machine)?;
     heap.restart(Refusal::From(1));
-    let refused = machine.orders(&heap, 1).map(|orders| orders.len());
-    same("refused orders", &refused, &Err(AllocError))?;
-    let refused = machine.locates(&heap).map(|locates| locates.len());
-    same("refused locate codes", &refused, &Err(AllocError))?;
+    let refused = lengths_of(&heap, &machine);
     heap.restart(Refusal::Never);
-    same("orders", &machine.orders(&heap, 1)?.len(), &2)?;
-    same_list("locate codes", &machine.locates(&heap)?, &[1])
+    let found = lengths_of(&heap, &machine);
+    same(
+        "lists without memory, and with it",
+        &(refused, found),
+        &([Err(AllocError); 3], [Ok(2), Ok(2), Ok(1)]),
+    )
 }
 
 // A short day that needs a new row at each message but the last two.
