@@ -1,0 +1,53 @@
+use Rattle.std.proofs.Common.{rules, ◌≡◌, ℕ, List, [], ◌∷◌, ◌++◌, map, ◌∙◌, ap, sym, subst, arith, length, append-nil, append_assoc}
+use Rattle.std.specs.Map.Iter.{deref_pair}
+use Rattle.std.proofs.lemmas.Map.Iter.{rest_all, rest_more}
+use Rattle.std.proofs.lemmas.List.{length-append}
+use Rattle.itch_table.specs.Best.{IsBest}
+use Rattle.itch_table.specs.declared.order.Order.{Order}
+use Rattle.itch_table.specs.declared.order.OrderRow.{OrderRow}
+use Rattle.itch_table.proofs.BestLevels.{best_is}
+use Rattle.order_book.specs.Orders.{orders_in}
+use Rattle.order_book.proofs.Rows.{few_orders, listed_rows, under}
+use Rattle.order_book.proofs.book.Book.best.Goals as goal
+
+pub loop-reference-init : goal.loop-reference-init
+loop-reference-init g c =
+    let rows = c.self.inside.orders.entries in
+    let gives = c.into_iter-reference-iterator.ensures.into_iter_gives in
+    record {
+      seen = [];
+      whole = ap (map under) gives.0 ∙ sym (listed_rows rows gives.5) ∙ ap orders_in c.self.view_is;
+      is_best = search rules;
+      most = omega arith;
+    }
+
+pub best_with-best-requires : goal.best_with-best-requires
+best_with-best-requires g c =
+    let looked = c.loop-reference.invariant in
+    let rest = map under c.loop-reference.reference-iterator in
+    let few = few_orders c.self.inside.orders.entries c.args.self.now c.into_iter-reference-iterator.ensures.into_iter_gives.5 c.self.view_is c.self.invariant in
+    omega (arith, looked.most, few, ap length looked.whole, length-append looked.seen rest)
+
+pub loop-reference-preserved : goal.loop-reference-preserved
+loop-reference-preserved g c =
+    let looked = c.loop-reference.invariant in
+    let rest = map under c.next.new.self in
+    record {
+      seen = looked.seen ++ c.under.result ∷ [];
+      whole =
+          append_assoc looked.seen (c.under.result ∷ []) rest
+          ∙ ap (λ (order : Order). looked.seen ++ order ∷ rest) c.under.ensures
+          ∙ ap (λ (rows : List (ℕ × OrderRow)). looked.seen ++ map under rows) (sym (rest_more deref_pair _ _ _ _ c.in-Some.is c.next.ensures.steps))
+          ∙ looked.whole;
+      is_best = c.best_with-best.ensures.best looked.seen looked.is_best;
+      most = omega (arith, looked.most, c.best_with-best.ensures.most, length-append looked.seen (c.under.result ∷ []), ap (λ (order : Order). order.shares) c.under.ensures);
+    }
+
+pub returns : goal.returns
+returns g c =
+    let looked = c.loop-reference.invariant in
+    let orders = orders_in c.args.self.now in
+    let left : c.loop-reference.reference-iterator ≡ [] = rest_all deref_pair _ _ _ c.in-None.is c.next.ensures.steps in
+    let all : looked.seen ≡ orders =
+    sym (append-nil looked.seen) ∙ ap (λ (rows : List (ℕ × OrderRow)). looked.seen ++ map under rows) (sym left) ∙ looked.whole in
+    best_is orders c.args.side c.loop-reference.best (subst (λ (os : List Order). IsBest os c.args.side c.loop-reference.best) all looked.is_best)

@@ -1,0 +1,244 @@
+//! The book of one stock.
+ghost use Rattle.std.specs.Prelude.{◌≡◌, ◌-◌, ◌<◌, ◌≤◌, ◌^◌, ◌==◌, ◌&&◌, Some, None, sum, length, map, filter, IfOk, OnOk, OnErr, IsSome, IsSomeAnd};
+ghost use Rattle.std.specs.BTreeMap.{btree_map_len, values, IsOrdered};
+ghost use Rattle.std.specs.Ordering.{nat_cmp};
+ghost use Rattle.std.specs.FinMap as maps;
+ghost use Rattle.itch_table.specs.Levels.{best, levels, same_side, shares_at, top};
+ghost use Rattle.itch_table.specs.World.{order_under};
+ghost use Rattle.order_book.specs.Orders.{order_in, orders_in, reduced, replaced, with_order};
+
+use itch_table::{Level, Order, OrderRow, Side, Top, best_with, levels_of};
+use std::alloc::{AllocError, Allocator};
+use std::collections::BTreeMap;
+use std::marker::Model;
+
+/// The live orders of one stock, each under its reference, and the levels that they make.
+///
+/// A book doesn't judge what it is asked for: the caller has seen that a reference is live, or is new. At most 2^32 - 1
+/// orders live at once. Prices are in 1/10,000 of a currency unit.
+///
+/// ```text
+/// let mut book = Book::new(alloc);
+/// book.add(Order { reference: 1, side: Side::Buy, shares: 100, price: 10, attribution: None })?;
+/// book.replace(1, 2, 50, 11)?;
+/// book.reduce(2, 20);
+/// assert_eq!(book.level(Side::Buy, 11), 30);
+/// ```
+#[derive(Drop)]
+pub struct Book<A: Allocator> {
+    orders: BTreeMap<u64, OrderRow, A>,
+}
+
+impl<A: Allocator> Model for Book<A> {
+    ghost use Rattle.std.specs.Prelude.{◌<◌, ◌^◌};
+    ghost use Rattle.std.specs.BTreeMap.{btree_map_len};
+    ghost use Rattle.std.specs.Coded.{coded_ℕ};
+    ghost use Rattle.std.specs.FinMap as maps;
+    ghost use Rattle.std.specs.Ordering.{nat_cmp};
+    ghost use Rattle.itch_table.specs.contracts.order.OrderRow as order_row;
+    ghost use Rattle.order_book.specs.Orders.{Orders};
+
+    ghost Value = { Orders };
+
+    ghost coded = { maps.code {R = nat_cmp} coded_ℕ order_row.the_row.coded };
+
+    ghost view = { λ b. maps.from_entries b.orders.entries };
+
+    // So a `u32` counts the orders, and the shares of a level fit a `u64`.
+    ghost invariant = { λ b. btree_map_len b.orders < 2 ^ 32 };
+}
+
+impl<A: Allocator + Copy> Book<A> {
+    /// A book without orders. It takes no memory yet.
+    pub fn new(alloc: A) -> Book<A>
+        ensures { result ≡ maps.empty }
+    {
+        Book {
+            orders: BTreeMap::new(alloc),
+        }
+    }
+
+    /// The order that lives under a reference.
+    pub fn order(&self, reference: u64) -> Option<Order>
+        ensures { result ≡ order_in self.now reference }
+    {
+        let row = self.row(reference)?;
+        Some(row.under(reference))
+    }
+
+    // The row under a reference.
+    fn row(&self, reference: u64) -> Option<OrderRow>
+        ensures { result ≡ maps.get self.now reference }
+    {
+        self.orders.get(&reference).copied()
+    }
+
+    /// How many orders live.
+    pub fn count(&self) -> u32
+        ensures { result ≡ maps.len self.now }
+    {
+        self.orders.len() as u32
+    }
+
+    /// Adds an order under a reference that isn't live. The caller sees that there are fewer than 2^32 - 1 orders.
+    ///
+    /// An error says that memory was refused, and leaves the book as it was.
+    pub fn add(&mut self, order: Order) -> Result<(), AllocError>
+        requires new { order_in self.old order.reference ≡ None }
+        requires some { 1 ≤ order.shares }
+        requires few { maps.len self.old < 2 ^ 32 - 1 }
+        ensures ok { OnOk result (self.new ≡ with_order self.old order) }
+        ensures err { OnErr result (self.new ≡ self.old) }
+    {
+        self.orders.insert(order.reference, order.row())?;
+        Ok(())
+    }
+
+    /// Puts a new order in the place of a live one, with its side and its market participant. The new reference isn't
+    /// live.
+    ///
+    /// An error says that memory was refused, and leaves the book as it was.
+    pub fn replace(&mut self, old: u64, new: u64, shares: u32, price: u32) -> Result<(), AllocError>
+        requires live { IsSome (order_in self.old old) }
+        requires new { order_in self.old new ≡ None }
+        requires some { 1 ≤ shares }
+        ensures ok { OnOk result (self.new ≡ replaced self.old old new shares price) }
+        ensures err { OnErr result (self.new ≡ self.old) }
+    {
+        let row = self.row(old).unwrap();
+        let placed = OrderRow {
+            shares,
+            price,
+            ..row
+        };
+        self.orders.insert(new, placed)?;
+        self.orders.remove(&old);
+        Ok(())
+    }
+
+    /// Takes shares off a live order that has at least so many. An order with none left is gone.
+    pub fn reduce(&mut self, reference: u64, shares: u32)
+        requires { IsSomeAnd (order_in self.old reference) (λ order. shares ≤ order.shares) }
+        ensures { self.new ≡ reduced self.old reference shares }
+    {
+        let row = self.orders.get_mut(&reference).unwrap();
+        if row.shares == shares {
+            self.orders.remove(&reference);
+        } else {
+            row.shares -= shares;
+        }
+    }
+
+    /// Removes a live order, and answers it as it was.
+    pub fn remove(&mut self, reference: u64) -> Order
+        requires { IsSome (order_in self.old reference) }
+        ensures order { order_in self.old reference ≡ Some result }
+        ensures gone { self.new ≡ maps.remove self.old reference }
+    {
+        let row = self.orders.remove(&reference).unwrap();
+        row.under(reference)
+    }
+
+    /// The shares of a side's orders at a price, and 0 where there are none.
+    pub fn level(&self, side: Side, price: u32) -> u64
+        ensures { result ≡ shares_at (orders_in self.now) side price }
+    {
+        shares_among(&self.orders, side, price)
+    }
+
+    // The best level of a side, or zeros.
+    fn best(&self, side: Side) -> Level
+        ensures { result ≡ best (orders_in self.now) side }
+    {
+        let mut best = Level {
+            price: 0,
+            shares: 0,
+        };
+        for (reference, row) in &self.orders {
+            best = best_with(best, side, &row.under(*reference));
+        }
+        best
+    }
+
+    /// The best bid and the best ask, with the shares there; zeros where a side is empty.
+    pub fn top(&self) -> Top
+        ensures { result ≡ top (orders_in self.now) }
+    {
+        let bid = self.best(Side::Buy);
+        let ask = self.best(Side::Sell);
+        Top {
+            bid_price: bid.price,
+            bid_shares: bid.shares,
+            ask_price: ask.price,
+            ask_shares: ask.shares,
+        }
+    }
+
+    /// A side's levels: bids by falling price, asks by rising price. An error says that memory was refused.
+    pub fn levels(&self, alloc: A, side: Side) -> Result<Vec<Level, A>, AllocError>
+        ensures { IfOk result (λ list. list.items ≡ levels (orders_in self.now) side) }
+    {
+        let orders = self.orders(alloc)?;
+        levels_of(alloc, &orders, side)
+    }
+
+    /// The live orders, by rising reference. An error says that memory was refused.
+    pub fn orders(&self, alloc: A) -> Result<Vec<Order, A>, AllocError>
+        ensures list { IfOk result (λ list. list.items ≡ orders_in self.now) }
+        // They are few enough for `levels_of`.
+        ensures few { length (orders_in self.now) < 2 ^ 32 }
+    {
+        listed(alloc, &self.orders)
+    }
+
+    /// A book with the same orders, whose memory is that of `alloc`. An error says that memory was refused.
+    pub fn copy(&self, alloc: A) -> Result<Book<A>, AllocError>
+        ensures { IfOk result (λ book. book ≡ self.now) }
+    {
+        Ok(Book {
+            orders: copied(alloc, &self.orders)?,
+        })
+    }
+}
+
+// The rows as orders, by rising reference.
+fn listed<A: Allocator + Copy>(
+    alloc: A,
+    rows: &BTreeMap<u64, OrderRow, A>,
+) -> Result<Vec<Order, A>, AllocError>
+    ensures list { IfOk result (λ list. list.items ≡ map (λ e. order_under e.0 e.1) rows.now.entries) }
+    ensures ordered { IsOrdered nat_cmp rows.now }
+{
+    rows.iter()
+        .map(|(reference, row)| row.under(*reference))
+        .collect(alloc)
+}
+
+// The shares of the rows at a side and a price.
+fn shares_among<A: Allocator + Copy>(
+    rows: &BTreeMap<u64, OrderRow, A>,
+    side: Side,
+    price: u32,
+) -> u64
+    requires { btree_map_len rows.now < 2 ^ 32 }
+    ensures sum { result ≡ sum (map (λ row. row.shares) (filter
+        (λ row. same_side row.side side && (row.price == price)) (values rows.now))) }
+    ensures ordered { IsOrdered nat_cmp rows.now }
+{
+    rows.values()
+        .filter(|row| row.side == side && row.price == price)
+        .map(|row| u64::from(row.shares))
+        .sum()
+}
+
+// The same rows, in memory of `alloc`.
+fn copied<A: Allocator + Copy>(
+    alloc: A,
+    rows: &BTreeMap<u64, OrderRow, A>,
+) -> Result<BTreeMap<u64, OrderRow, A>, AllocError>
+    ensures { IfOk result (λ copied. copied.entries ≡ rows.now.entries) }
+{
+    rows.iter()
+        .map(|(reference, row)| (*reference, *row))
+        .collect(alloc)
+}

@@ -1,0 +1,6 @@
+//! One stock's live orders, and the levels that they make.
+#![tactic(auto)]
+
+mod book;
+
+pub use book::Book;
