@@ -1,12 +1,10 @@
 //! The book of one stock.
-ghost use Rattle.std.specs.Prelude.{◌≡◌, ◌-◌, ◌<◌, ◌≤◌, ◌^◌, ◌==◌, ◌&&◌, Some, None, sum, length, map, filter, IfOk, OnOk, OnErr, IsSome, IsSomeAnd};
-ghost use Rattle.std.specs.BTreeMap.{btree_map_len, values, IsOrdered};
-ghost use Rattle.std.specs.Ordering.{nat_cmp};
+ghost use Rattle.std.specs.Prelude.{◌≡◌, ◌-◌, ◌<◌, ◌≤◌, ◌^◌, Some, None, length, IfOk, OnOk, OnErr, IsSome, IsSomeAnd};
 ghost use Rattle.std.specs.FinMap as maps;
-ghost use Rattle.itch_table.specs.Levels.{best, levels, same_side, shares_at, top};
-ghost use Rattle.itch_table.specs.World.{order_under};
+ghost use Rattle.itch_table.specs.Levels.{best, levels, shares_at, top};
 ghost use Rattle.order_book.specs.Orders.{order_in, orders_in, reduced, replaced, with_order};
 
+use crate::rows::{copied, listed, shares_among};
 use itch_table::{Level, Order, OrderRow, Side, Top, best_with, levels_of};
 use std::alloc::{AllocError, Allocator};
 use std::collections::BTreeMap;
@@ -14,15 +12,18 @@ use std::marker::Model;
 
 /// The live orders of one stock, each under its reference, and the levels that they make.
 ///
-/// A book doesn't judge what it is asked for: the caller has seen that a reference is live, or is new. At most 2^32 - 1
-/// orders live at once. Prices are in 1/10,000 of a currency unit.
+/// What the calls do is of Nasdaq TotalView-ITCH 5.0, "Add Order Message" and "Modify Order Messages"; levels are of this
+/// project. A book refuses nothing: its caller sees by [`Book::order`] that a reference is live, or isn't. Prices are in
+/// 1/10,000 of a currency unit. A call that answers a `Result` may take memory, and its only error is that memory was
+/// refused; no other call takes any.
 ///
 /// ```text
 /// let mut book = Book::new(alloc);
 /// book.add(Order { reference: 1, side: Side::Buy, shares: 100, price: 10, attribution: None })?;
 /// book.replace(1, 2, 50, 11)?;
 /// book.reduce(2, 20);
-/// assert_eq!(book.level(Side::Buy, 11), 30);
+/// assert_eq!((book.level(Side::Buy, 10), book.level(Side::Buy, 11)), (0, 30));
+/// assert_eq!(book.remove(2).shares, 30);
 /// ```
 #[derive(Drop)]
 pub struct Book<A: Allocator> {
@@ -73,14 +74,14 @@ impl<A: Allocator + Copy> Book<A> {
         self.orders.get(&reference).copied()
     }
 
-    /// How many orders live.
+    /// How many orders live: at most 2^32 - 1.
     pub fn count(&self) -> u32
         ensures { result ≡ maps.len self.now }
     {
         self.orders.len() as u32
     }
 
-    /// Adds an order under a reference that isn't live. The caller sees that there are fewer than 2^32 - 1 orders.
+    /// Adds an order that has shares, under a reference that isn't live, to a book of fewer than 2^32 - 1 orders.
     ///
     /// An error says that memory was refused, and leaves the book as it was.
     pub fn add(&mut self, order: Order) -> Result<(), AllocError>
@@ -94,8 +95,8 @@ impl<A: Allocator + Copy> Book<A> {
         Ok(())
     }
 
-    /// Puts a new order in the place of a live one, with its side and its market participant. The new reference isn't
-    /// live.
+    /// Puts a new order, which has shares, in the place of a live one, whose side and market participant it takes over.
+    /// The new reference isn't live; the old one no longer is.
     ///
     /// An error says that memory was refused, and leaves the book as it was.
     pub fn replace(&mut self, old: u64, new: u64, shares: u32, price: u32) -> Result<(), AllocError>
@@ -129,7 +130,7 @@ impl<A: Allocator + Copy> Book<A> {
         }
     }
 
-    /// Removes a live order, and answers it as it was.
+    /// Removes a live order, and answers what it was.
     pub fn remove(&mut self, reference: u64) -> Order
         requires { IsSome (order_in self.old reference) }
         ensures order { order_in self.old reference ≡ Some result }
@@ -139,7 +140,7 @@ impl<A: Allocator + Copy> Book<A> {
         row.under(reference)
     }
 
-    /// The shares of a side's orders at a price, and 0 where there are none.
+    /// The shares of a side's orders at a price, 0 where there are none.
     pub fn level(&self, side: Side, price: u32) -> u64
         ensures { result ≡ shares_at (orders_in self.now) side price }
     {
@@ -199,46 +200,4 @@ impl<A: Allocator + Copy> Book<A> {
             orders: copied(alloc, &self.orders)?,
         })
     }
-}
-
-// The rows as orders, by rising reference.
-fn listed<A: Allocator + Copy>(
-    alloc: A,
-    rows: &BTreeMap<u64, OrderRow, A>,
-) -> Result<Vec<Order, A>, AllocError>
-    ensures list { IfOk result (λ list. list.items ≡ map (λ e. order_under e.0 e.1) rows.now.entries) }
-    ensures ordered { IsOrdered nat_cmp rows.now }
-{
-    rows.iter()
-        .map(|(reference, row)| row.under(*reference))
-        .collect(alloc)
-}
-
-// The shares of the rows at a side and a price.
-fn shares_among<A: Allocator + Copy>(
-    rows: &BTreeMap<u64, OrderRow, A>,
-    side: Side,
-    price: u32,
-) -> u64
-    requires { btree_map_len rows.now < 2 ^ 32 }
-    ensures sum { result ≡ sum (map (λ row. row.shares) (filter
-        (λ row. same_side row.side side && (row.price == price)) (values rows.now))) }
-    ensures ordered { IsOrdered nat_cmp rows.now }
-{
-    rows.values()
-        .filter(|row| row.side == side && row.price == price)
-        .map(|row| u64::from(row.shares))
-        .sum()
-}
-
-// The same rows, in memory of `alloc`.
-fn copied<A: Allocator + Copy>(
-    alloc: A,
-    rows: &BTreeMap<u64, OrderRow, A>,
-) -> Result<BTreeMap<u64, OrderRow, A>, AllocError>
-    ensures { IfOk result (λ copied. copied.entries ≡ rows.now.entries) }
-{
-    rows.iter()
-        .map(|(reference, row)| (*reference, *row))
-        .collect(alloc)
 }

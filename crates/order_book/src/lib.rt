@@ -2,5 +2,6 @@
 #![tactic(auto)]
 
 mod book;
+mod rows;
 
 pub use book::Book;

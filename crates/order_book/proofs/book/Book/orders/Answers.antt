@@ -1,14 +1,14 @@
-use Rattle.std.proofs.Common.{◌≡◌, List, ap, sym, subst, ◌∙◌}
+use Rattle.std.proofs.Common.{◌≡◌, List, sym, subst}
 use Rattle.std.specs.Prelude.{IfOk}
 use Rattle.itch_table.specs.declared.order.Order.{Order}
-use Rattle.order_book.specs.Orders.{orders_in}
-use Rattle.order_book.proofs.Rows.{few_orders, listed_rows}
+use Rattle.order_book.proofs.RowViews.{few_orders, list_rows}
 use Rattle.order_book.proofs.book.Book.orders.Goals as goal
 
 pub returns-clause-list : goal.returns-clause-list
 returns-clause-list g c =
     subst (λ (items : List Order). IfOk c.listed.result (λ list. list.items ≡ items))
-    (sym (listed_rows c.self.inside.orders.entries c.listed.ensures.ordered) ∙ ap orders_in c.self.view_is) c.listed.ensures.list
+    (sym (list_rows c.self.inside.orders.entries c.args.self.now c.self.view_is c.listed.ensures.ordered)) c.listed.ensures.list
 
 pub returns-clause-few : goal.returns-clause-few
-returns-clause-few g c = few_orders c.self.inside.orders.entries c.args.self.now c.listed.ensures.ordered c.self.view_is c.self.invariant
+returns-clause-few g c =
+    few_orders c.self.inside.orders.entries c.args.self.now c.self.view_is c.listed.ensures.ordered c.self.invariant
