@@ -7,7 +7,7 @@ use Rattle.std.proofs.lemmas.Bool.Decides.{nat_tests}
 use Rattle.itch_table.specs.Table.{no_order}
 use Rattle.itch_table.specs.declared.order.OrderRow.{OrderRow}
 use Rattle.itch_table.specs.World.{order_under}
-use Rattle.order_book.specs.Orders.{Orders, less_shares, order_in, reduced}
+use Rattle.order_book.specs.Orders.{Orders, reduced_by, order_in, reduced}
 
 pub some_of : {X Y : Type 0} (f : X → Y) (o : Option X) → IsSome (option_map f o) → IsSome o
 some_of f None some = some
@@ -31,7 +31,7 @@ module _ (orders : Orders) (reference shares : ℕ) (row : OrderRow) (there : ma
   reduced_by : (b : Bool) → (row.shares == shares) ≡ b → reduced orders reference shares
       ≡ (if b then maps.remove orders reference else maps.insert orders reference (record row { shares = row.shares - shares }))
   reduced_by b is =
-      ap (λ (o : Option OrderRow). less_shares orders reference (unwrap_or o no_order) shares) there
+      ap (λ (o : Option OrderRow). reduced_by orders reference (unwrap_or o no_order) shares) there
       ∙ ap (λ (b : Bool). if b then maps.remove orders reference else maps.insert orders reference (record row { shares = row.shares - shares })) is
 
   pub reduced_part : (row.shares ≡ shares → ⊥)

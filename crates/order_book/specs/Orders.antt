@@ -23,23 +23,23 @@ abbrev pub orders_in : Orders → List Order
 orders_in orders = map (λ e. order_under e.0 e.1) (maps.entries orders)
 
 -- an order more
-abbrev pub with_order : Orders → Order → Orders
-with_order orders order = maps.insert orders order.reference (row_of order)
+abbrev pub added : Orders → Order → Orders
+added orders order = maps.insert orders order.reference (row_of order)
 
 -- the row of an order that lives
-abbrev pub order_row : Orders → ℕ → OrderRow
-order_row orders reference = unwrap_or (maps.get orders reference) no_order
+abbrev pub row_in : Orders → ℕ → OrderRow
+row_in orders reference = unwrap_or (maps.get orders reference) no_order
 
 -- shares come off an order, which is gone where none are left
-abbrev pub less_shares : Orders → ℕ → OrderRow → ℕ → Orders
-less_shares orders reference row shares =
+abbrev pub reduced_by : Orders → ℕ → OrderRow → ℕ → Orders
+reduced_by orders reference row shares =
     if row.shares == shares then maps.remove orders reference
     else maps.insert orders reference (record row { shares = row.shares - shares })
 
 abbrev pub reduced : Orders → ℕ → ℕ → Orders
-reduced orders reference shares = less_shares orders reference (order_row orders reference) shares
+reduced orders reference shares = reduced_by orders reference (row_in orders reference) shares
 
 -- a new order has the old side and attribution, and the old one is gone
 abbrev pub replaced : Orders → ℕ → ℕ → ℕ → ℕ → Orders
 replaced orders old new shares price =
-    maps.insert (maps.remove orders old) new (record (order_row orders old) { shares = shares; price = price })
+    maps.insert (maps.remove orders old) new (record (row_in orders old) { shares = shares; price = price })

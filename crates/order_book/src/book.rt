@@ -2,7 +2,7 @@
 ghost use Rattle.std.specs.Prelude.{◌≡◌, ◌-◌, ◌<◌, ◌≤◌, ◌^◌, Some, None, length, IfOk, OnOk, OnErr, IsSome, IsSomeAnd};
 ghost use Rattle.std.specs.FinMap as maps;
 ghost use Rattle.itch_table.specs.Levels.{best, levels, shares_at, top};
-ghost use Rattle.order_book.specs.Orders.{order_in, orders_in, reduced, replaced, with_order};
+ghost use Rattle.order_book.specs.Orders.{order_in, orders_in, reduced, replaced, added};
 
 use crate::rows::{copied, listed, shares_among};
 use itch_table::{Level, Order, OrderRow, Side, Top, best_with, levels_of};
@@ -88,7 +88,7 @@ impl<A: Allocator + Copy> Book<A> {
         requires new { order_in self.old order.reference ≡ None }
         requires some { 1 ≤ order.shares }
         requires few { maps.len self.old < 2 ^ 32 - 1 }
-        ensures ok { OnOk result (self.new ≡ with_order self.old order) }
+        ensures ok { OnOk result (self.new ≡ added self.old order) }
         ensures err { OnErr result (self.new ≡ self.old) }
     {
         self.orders.insert(order.reference, order.row())?;
