@@ -45,18 +45,7 @@ impl<A: Allocator + Copy> Rows<A> {
     pub fn status(&self, locate: u16) -> Status
         ensures { result ≡ status self.now locate }
     {
-        match self.stock(locate) {
-            Some(row) => Status {
-                directory: Some(row.directory),
-                trading: row.trading,
-                regsho: row.regsho,
-            },
-            None => Status {
-                directory: None,
-                trading: None,
-                regsho: None,
-            },
-        }
+        Status::of(self.stock(locate))
     }
 
     /// A stock's live orders, by rising reference.

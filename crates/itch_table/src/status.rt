@@ -1,4 +1,7 @@
 //! What is known of a stock beside its book.
+ghost use Rattle.std.specs.Prelude.{◌≡◌};
+ghost use Rattle.itch_table.specs.World.{status_of};
+
 use itch_layouts::Directory;
 
 /// A stock's trading state.
@@ -25,6 +28,26 @@ pub struct Status {
     pub trading: Option<Trading>,
     /// The action of the last short sale restriction message.
     pub regsho: Option<u8>,
+}
+
+impl Status {
+    /// What is known of a stock that has this row, or none.
+    pub fn of(known: Option<StockRow>) -> Status
+        ensures { result ≡ status_of known }
+    {
+        match known {
+            Some(row) => Status {
+                directory: Some(row.directory),
+                trading: row.trading,
+                regsho: row.regsho,
+            },
+            None => Status {
+                directory: None,
+                trading: None,
+                regsho: None,
+            },
+        }
+    }
 }
 
 /// What is known of a stock that has a directory row.

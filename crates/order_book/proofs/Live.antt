@@ -6,7 +6,6 @@ use Rattle.std.specs.FinMap as maps
 use Rattle.std.proofs.lemmas.Bool.Decides.{nat_tests}
 use Rattle.itch_table.specs.Table.{no_order}
 use Rattle.itch_table.specs.declared.order.OrderRow.{OrderRow}
-use Rattle.itch_table.specs.World.{order_under}
 use Rattle.order_book.specs.Orders.{Orders, reduced_by, order_in, reduced}
 
 pub some_of : {X Y : Type 0} (f : X → Y) (o : Option X) → IsSome (option_map f o) → IsSome o
@@ -28,15 +27,15 @@ module _ (orders : Orders) (reference shares : ℕ) (row : OrderRow) (there : ma
   pub enough_in : IsSomeAnd (order_in orders reference) (λ order. shares ≤ order.shares) → shares ≤ row.shares
   enough_in enough = rw there at enough
 
-  reduced_by : (b : Bool) → (row.shares == shares) ≡ b → reduced orders reference shares
+  row_reduced : (b : Bool) → (row.shares == shares) ≡ b → reduced orders reference shares
       ≡ (if b then maps.remove orders reference else maps.insert orders reference (record row { shares = row.shares - shares }))
-  reduced_by b is =
+  row_reduced b is =
       ap (λ (o : Option OrderRow). reduced_by orders reference (unwrap_or o no_order) shares) there
       ∙ ap (λ (b : Bool). if b then maps.remove orders reference else maps.insert orders reference (record row { shares = row.shares - shares })) is
 
   pub reduced_part : (row.shares ≡ shares → ⊥)
       → reduced orders reference shares ≡ maps.insert orders reference (record row { shares = row.shares - shares })
-  reduced_part apart = reduced_by false (grind (arith, nat_tests))
+  reduced_part apart = row_reduced false (grind (arith, nat_tests))
 
   pub reduced_whole : row.shares ≡ shares → reduced orders reference shares ≡ maps.remove orders reference
-  reduced_whole same = reduced_by true (grind (arith, nat_tests))
+  reduced_whole same = row_reduced true (grind (arith, nat_tests))

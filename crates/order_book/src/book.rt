@@ -67,8 +67,8 @@ impl<A: Allocator + Copy> Book<A> {
         Some(row.under(reference))
     }
 
-    // The row under a reference.
-    fn row(&self, reference: u64) -> Option<OrderRow>
+    /// The order that lives under a reference, without it.
+    pub fn row(&self, reference: u64) -> Option<OrderRow>
         ensures { result ≡ maps.get self.now reference }
     {
         self.orders.get(&reference).copied()

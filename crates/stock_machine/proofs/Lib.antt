@@ -1,0 +1,3 @@
+pub mod Keyed
+pub mod Owned
+pub mod OwnRows

@@ -1,0 +1,64 @@
+-- What each change of a part does to a stock's rows of the world.
+use Rattle.std.proofs.Common.{◌≡◌, ℕ, ◌-◌, ◌==◌, List, Option, Some, cond, Bool, true, false, refl, ap, sym, ◌∙◌}
+use Rattle.std.specs.Option.{unwrap_or}
+use Rattle.std.specs.Ordering.{nat_cmp}
+use Rattle.std.specs.FinMap.{FinMap, insert, remove}
+use Rattle.itch_table.specs.World.{World, key, key_cmp}
+use Rattle.itch_table.specs.Held.{Held, one_stock, on_world}
+use Rattle.itch_table.specs.Table.{less_shares, order_row, with_order, without_order, with_replaced, with_stock, no_order}
+use Rattle.itch_table.specs.declared.order.OrderRow.{OrderRow}
+use Rattle.itch_table.specs.declared.status.StockRow.{StockRow}
+use Rattle.itch_table.specs.declared.trades.TradeRow.{TradeRow}
+use Rattle.order_book.specs.Orders.{Orders, reduced_by, replaced, row_in}
+use Rattle.stock_machine.specs.Own.{own, held_by_one, keyed}
+use Rattle.stock_machine.proofs.Keyed.{live_keyed, keyed_insert, keyed_remove}
+use Rattle.stock_machine.proofs.OwnRows.{stock_set}
+
+-- a world with other orders
+abbrev with_orders : World → FinMap key_cmp OrderRow → World
+with_orders w orders = record w { orders = orders }
+
+less_by : (l k n : ℕ) (b : Orders) (row : OrderRow) (w : World) (all : Bool) → w.orders ≡ keyed l b
+    → with_orders w (keyed l (cond all (remove b k) (insert b k (record row { shares = row.shares - n }))))
+    ≡ cond all (with_orders w (remove w.orders (key l k))) (with_orders w (insert w.orders (key l k) (record row { shares = row.shares - n })))
+less_by l k n b row w true e = ap (with_orders w) (keyed_remove l k b ∙ ap (λ (m : FinMap key_cmp OrderRow). remove m (key l k)) (sym e))
+less_by l k n b row w false e = ap (with_orders w) (keyed_insert l k _ b ∙ ap (λ (m : FinMap key_cmp OrderRow). insert m (key l k) (record row { shares = row.shares - n })) (sym e))
+
+module _ (l : ℕ) (b : Orders) (ts : List (ℕ × TradeRow)) (known : Option StockRow) where
+  world : World
+  world = (own l b ts known).world
+
+  row_own : (k : ℕ) → order_row (own l b ts known).world l k ≡ row_in b k
+  row_own k = ap (λ (o : Option OrderRow). unwrap_or o no_order) (live_keyed l k b)
+
+  replaced_own : (old new shares price : ℕ) → (own l (replaced b old new shares price) ts known).world ≡ with_replaced (own l b ts known).world l old new shares price
+  replaced_own old new shares price = ap (with_orders (own l b ts known).world)
+      (keyed_insert l new _ (remove b old)
+      ∙ ap (λ (m : FinMap key_cmp OrderRow). insert m (key l new) (record (row_in b old) { shares = shares; price = price })) (keyed_remove l old b)
+      ∙ ap (λ (row : OrderRow). insert (remove (keyed l b) (key l old)) (key l new) (record row { shares = shares; price = price })) (sym (row_own old)))
+
+  -- rows with another book
+  held_book : (new : Orders) (orders : FinMap key_cmp OrderRow) → keyed l new ≡ orders → held_by_one (own l new ts known) ≡ one_stock l (with_orders (own l b ts known).world orders)
+  held_book new orders e = ap (λ (m : FinMap key_cmp OrderRow). one_stock l (with_orders (own l b ts known).world m)) e
+
+  pub held_insert : (k : ℕ) (v : OrderRow) (new : Orders) → new ≡ insert b k v → held_by_one (own l new ts known) ≡ on_world (λ w. with_order w l k v) (held_by_one (own l b ts known))
+  held_insert k v new e = held_book new _ (ap (keyed l) e ∙ keyed_insert l k v b)
+
+  pub held_remove : (k : ℕ) (new : Orders) → new ≡ remove b k → held_by_one (own l new ts known) ≡ on_world (λ w. without_order w l k) (held_by_one (own l b ts known))
+  held_remove k new e = held_book new _ (ap (keyed l) e ∙ keyed_remove l k b)
+
+  pub held_reduce : (k n : ℕ) (row : OrderRow) (new : Orders) → row_in b k ≡ row → new ≡ reduced_by b k (row_in b k) n
+      → held_by_one (own l new ts known) ≡ on_world (λ w. less_shares w l k row n) (held_by_one (own l b ts known))
+  held_reduce k n row new r e =
+      ap (λ (m : Orders). held_by_one (own l m ts known)) (e ∙ ap (λ (row : OrderRow). reduced_by b k row n) r)
+      ∙ ap (one_stock l) (less_by l k n b row (own l b ts known).world (row.shares == n) refl)
+
+  pub held_replace : (old next shares price : ℕ) (new : Orders) → new ≡ replaced b old next shares price
+      → held_by_one (own l new ts known) ≡ on_world (λ w. with_replaced w l old next shares price) (held_by_one (own l b ts known))
+  held_replace old next shares price new e = ap (λ (m : Orders). held_by_one (own l m ts known)) e ∙ ap (one_stock l) (replaced_own old next shares price)
+
+  pub held_stock : (row : StockRow) → held_by_one (own l b ts (Some row)) ≡ on_world (λ w. with_stock w l row) (held_by_one (own l b ts known))
+  held_stock row = ap (λ (m : FinMap nat_cmp StockRow). in_one m) (stock_set l known row)
+    where
+      in_one : FinMap nat_cmp StockRow → Held
+      in_one m = one_stock l (record (own l b ts known).world { stocks = m })

@@ -1,0 +1,30 @@
+use Rattle.std.proofs.Common.{◌≡◌, Option, ap, sym, ◌∙◌, arith}
+use Rattle.std.specs.Option.{option_map}
+use Rattle.std.specs.FinMap as maps
+use Rattle.std.proofs.lemmas.Result.{on_ok_weaker}
+use Rattle.itch_table.specs.declared.order.Order.{Order}
+use Rattle.itch_table.specs.declared.order.OrderRow.{OrderRow}
+use Rattle.itch_table.specs.World.{order_under}
+use Rattle.order_book.specs.Orders.{added, order_in}
+use Rattle.stock_machine.specs.Own.{Own}
+use Rattle.stock_machine.proofs.Keyed.{live_keyed, len_keyed}
+use Rattle.stock_machine.proofs.Owned.{held_insert}
+use Rattle.stock_machine.proofs.rows.RowsStore.add_order.Goals as goal
+
+pub add-requires-clause-new : goal.add-requires-clause-new
+add-requires-clause-new g c =
+    let here : c.args._locate ≡ c.args.self.now.locate = c.requires.here in
+    let i = c.self.inside in
+    ap (λ (order : Order). order_in i.book order.reference) c.under.ensures
+    ∙ ap (λ (o : Option OrderRow). option_map (order_under c.args.reference) o) (sym (live_keyed i.locate c.args.reference i.book) ∙ (rw (here, ← c.self.view_is) at c.requires.new))
+
+pub add-requires-clause-few : goal.add-requires-clause-few
+add-requires-clause-few g c = omega (arith, len_keyed c.self.inside.locate c.self.inside.book, ap (λ (o : Own). maps.len o.world.orders) c.self.view_is, c.requires.room.orders)
+
+pub returns-clause-ok : goal.returns-clause-ok
+returns-clause-ok g c =
+    let here : c.args._locate ≡ c.args.self.now.locate = c.requires.here in
+    let i = c.self.inside in
+    on_ok_weaker c.add.result (λ is. rw (here, ← c.self.view_is) (
+    held_insert i.locate i.book i.trades.items i.known c.args.reference c.args.row _ (is ∙ ap (λ (order : Order). added i.book order) c.under.ensures)
+    )) c.add.ensures.ok

@@ -1,0 +1,24 @@
+use Rattle.std.proofs.Common.{◌≡◌, Option, Some, ap, sym, ◌∙◌}
+use Rattle.std.specs.Option.{unwrap_or}
+use Rattle.std.specs.FinMap as maps
+use Rattle.itch_table.specs.Table.{no_order}
+use Rattle.itch_table.specs.declared.order.OrderRow.{OrderRow}
+use Rattle.stock_machine.proofs.Keyed.{live_keyed}
+use Rattle.stock_machine.proofs.Owned.{held_reduce}
+use Rattle.stock_machine.proofs.rows.RowsStore.reduce_order.Goals as goal
+
+pub reduce-requires : goal.reduce-requires
+reduce-requires g c =
+    let here : c.args._locate ≡ c.args.self.now.locate = c.requires.here in
+    let i = c.self.inside in
+    let there : maps.get i.book c.args.reference ≡ Some c.args._row = sym (live_keyed i.locate c.args.reference i.book) ∙ (rw (here, ← c.self.view_is) at c.requires.live) in
+    rw there c.requires.enough
+
+pub returns : goal.returns
+returns g c =
+    let here : c.args._locate ≡ c.args.self.now.locate = c.requires.here in
+    let i = c.self.inside in
+    let there : maps.get i.book c.args.reference ≡ Some c.args._row = sym (live_keyed i.locate c.args.reference i.book) ∙ (rw (here, ← c.self.view_is) at c.requires.live) in
+    rw (here, ← c.self.view_is) (
+    held_reduce i.locate i.book i.trades.items i.known c.args.reference c.args.shares c.args._row _ (ap (λ (o : Option OrderRow). unwrap_or o no_order) there) c.reduce.ensures
+    )

@@ -1,0 +1,28 @@
+use Rattle.std.proofs.Common.{◌≡◌, Option, ap, sym, ◌∙◌}
+use Rattle.std.specs.Option.{option_map}
+use Rattle.std.proofs.lemmas.Result.{on_ok_weaker}
+use Rattle.itch_table.specs.declared.order.OrderRow.{OrderRow}
+use Rattle.itch_table.specs.World.{order_under}
+use Rattle.stock_machine.proofs.Keyed.{live_keyed}
+use Rattle.stock_machine.proofs.Owned.{held_replace}
+use Rattle.stock_machine.proofs.OwnRows.{some_mapped}
+use Rattle.stock_machine.proofs.rows.RowsStore.replace_order.Goals as goal
+
+pub replace-requires-clause-live : goal.replace-requires-clause-live
+replace-requires-clause-live g c =
+    let here : c.args._locate ≡ c.args.self.now.locate = c.requires.here in
+    some_mapped (order_under c.args.old) _ (rw (here, ← c.self.view_is, live_keyed c.self.inside.locate c.args.old c.self.inside.book) at c.requires.live)
+
+pub replace-requires-clause-new : goal.replace-requires-clause-new
+replace-requires-clause-new g c =
+    let here : c.args._locate ≡ c.args.self.now.locate = c.requires.here in
+    let i = c.self.inside in
+    ap (λ (o : Option OrderRow). option_map (order_under c.args.new) o) (sym (live_keyed i.locate c.args.new i.book) ∙ (rw (here, ← c.self.view_is) at c.requires.new))
+
+pub returns-clause-ok : goal.returns-clause-ok
+returns-clause-ok g c =
+    let here : c.args._locate ≡ c.args.self.now.locate = c.requires.here in
+    let i = c.self.inside in
+    on_ok_weaker c.replace.result (λ is. rw (here, ← c.self.view_is) (
+    held_replace i.locate i.book i.trades.items i.known c.args.old c.args.new c.args.shares c.args.price _ is
+    )) c.replace.ensures.ok

@@ -1,0 +1,9 @@
+use Rattle.std.proofs.Common.{◌≡◌}
+use Rattle.stock_machine.proofs.Owned.{held_stock}
+use Rattle.stock_machine.proofs.rows.RowsStore.update_stock.Goals as goal
+
+pub returns : goal.returns
+returns g c =
+    let here : c.args._locate ≡ c.args.self.now.locate = c.requires.here in
+    let i = c.self.inside in
+    rw (here, ← c.self.view_is) (held_stock i.locate i.book i.trades.items i.known c.args.row)

@@ -1,0 +1,52 @@
+-- One stock's rows, as that stock's rows of a world.
+use Rattle.std.specs.Prelude.{ℕ, ◌-◌, ◌<◌, ◌^◌, length, List, map, Option, Some, None}
+use Rattle.std.specs.Ordering.{nat_cmp}
+use Rattle.std.specs.FinMap as maps
+use Rattle.std.specs.FinMap.{FinMap}
+use Rattle.itch_table.specs.Held.{Held, one_stock}
+use Rattle.itch_table.specs.World.{World, key, key_cmp}
+use Rattle.itch_table.specs.declared.order.OrderRow.{OrderRow}
+use Rattle.itch_table.specs.declared.status.StockRow.{StockRow}
+use Rattle.itch_table.specs.declared.trades.TradeRow.{TradeRow}
+use Rattle.order_book.specs.Orders.{Orders}
+
+-- a stock's locate code, and its rows of the world
+pub record Own : Type 0 where
+  pub locate : ℕ
+  pub world : World
+
+-- a book's orders under their locate code
+abbrev pub keyed : ℕ → Orders → FinMap key_cmp OrderRow
+keyed locate orders = maps.from_sorted (map (λ e. (key locate e.0, e.1)) (maps.entries orders))
+
+-- what is known of the stock, under its locate code
+abbrev pub stocks_of : ℕ → Option StockRow → FinMap nat_cmp StockRow
+stocks_of locate None = maps.empty
+stocks_of locate (Some row) = maps.insert maps.empty locate row
+
+-- the rows that a stock's orders, its trades and what is known of it stand for
+abbrev pub own : ℕ → Orders → List (ℕ × TradeRow) → Option StockRow → Own
+own locate orders trades known = record {
+  locate = locate;
+  world = record {
+    orders = keyed locate orders;
+    trades = trades;
+    stocks = stocks_of locate known;
+    event = None;
+  };
+}
+
+-- the rows of the one stock
+abbrev pub held_by_one : Own → Held
+held_by_one o = one_stock o.locate o.world
+
+-- there may be an order and a trade more
+pub record HasRoom (w : World) : Type 0 where
+  pub orders : maps.len w.orders < 2 ^ 32 - 1
+  pub trades : length w.trades < 2 ^ 32 - 1
+
+-- a stock's machine, as contracts see it: its locate code, its rows of the world, and how many messages it has taken
+pub record StockMachine : Type 0 where
+  pub locate : ℕ
+  pub world : World
+  pub steps : ℕ

@@ -1,0 +1,7 @@
+//! The machine of one stock, which follows the table of instructions over the rows of that stock alone.
+#![tactic(auto)]
+
+mod rows;
+mod stock;
+
+pub use stock::Stock;

@@ -1,0 +1,196 @@
+//! The rows of one stock.
+ghost use Rattle.std.specs.Prelude.{◌≡◌, ◌<◌, ◌^◌, Some, None, IfOk, length};
+ghost use Rattle.itch_table.specs.World.{empty_world, order, orders_of, status, totals};
+ghost use Rattle.itch_table.specs.Levels.{levels, shares_at, top};
+
+use itch_table::{
+    Level, Order, OrderRow, Side, Status, StockRow, Store, Top, Totals, TradeRow, break_trades,
+    has_unbroken, totals_under,
+};
+use order_book::Book;
+use std::alloc::{AllocError, Allocator};
+use std::marker::Model;
+
+/// A stock's live orders, its trades, and what is known of it.
+#[derive(Drop)]
+pub(crate) struct Rows<A: Allocator> {
+    locate: u16,
+    book: Book<A>,
+    trades: Vec<(u16, TradeRow), A>,
+    known: Option<StockRow>,
+}
+
+impl<A: Allocator> Model for Rows<A> {
+    ghost use Rattle.std.specs.Coded.{codes, coded_ℕ};
+    ghost use Rattle.std.specs.FinMap as maps;
+    ghost use Rattle.std.specs.Ordering.{nat_cmp};
+    ghost use Rattle.itch_table.specs.World.{coded_key, key_cmp};
+    ghost use Rattle.itch_table.specs.contracts.order.OrderRow as order_row;
+    ghost use Rattle.itch_table.specs.contracts.status.StockRow as stock_row;
+    ghost use Rattle.itch_table.specs.contracts.trades.TradeRow as trade_row;
+    ghost use Rattle.stock_machine.specs.Own.{Own, own};
+
+    ghost Value = { Own };
+
+    ghost coded = { Prim.hlevel (
+      codes,
+      maps.code {R = key_cmp} coded_key order_row.the_row.coded,
+      maps.code {R = nat_cmp} coded_ℕ stock_row.the_row.coded,
+      trade_row.the_row.coded,
+    ) };
+
+    ghost view = { λ r. own r.locate r.book r.trades.items r.known };
+}
+
+impl<A: Allocator + Copy> Rows<A> {
+    /// No rows.
+    pub fn new(alloc: A, locate: u16) -> Rows<A>
+        ensures locate { result.locate ≡ locate }
+        ensures world { result.world ≡ empty_world }
+    {
+        Rows {
+            locate,
+            book: Book::new(alloc),
+            trades: Vec::new(alloc),
+            known: None,
+        }
+    }
+
+    /// The stock's locate code.
+    pub fn locate(&self) -> u16
+        ensures { result ≡ self.now.locate }
+    {
+        self.locate
+    }
+
+    /// The order that lives under a reference.
+    pub fn live_order(&self, reference: u64) -> Option<Order>
+        ensures { result ≡ order self.now.world self.now.locate reference }
+    {
+        self.book.order(reference)
+    }
+
+    /// The shares of a side's orders at a price.
+    pub fn level(&self, side: Side, price: u32) -> u64
+        ensures { result ≡ shares_at (orders_of self.now.world self.now.locate) side price }
+    {
+        self.book.level(side, price)
+    }
+
+    /// The best level of each side.
+    pub fn top(&self) -> Top
+        ensures { result ≡ top (orders_of self.now.world self.now.locate) }
+    {
+        self.book.top()
+    }
+
+    /// The totals over the trades.
+    pub fn totals(&self) -> Totals
+        requires { length self.now.world.trades < 2 ^ 32 }
+        ensures { result ≡ totals self.now.world self.now.locate }
+    {
+        totals_under(&self.trades, self.locate)
+    }
+
+    /// What is known of the stock beside its book.
+    pub fn status(&self) -> Status
+        ensures { result ≡ status self.now.world self.now.locate }
+    {
+        Status::of(self.known)
+    }
+
+    /// A side's levels, the best first.
+    pub fn levels(&self, alloc: A, side: Side) -> Result<Vec<Level, A>, AllocError>
+        ensures { IfOk result (λ list.
+            list.items ≡ levels (orders_of self.now.world self.now.locate) side) }
+    {
+        self.book.levels(alloc, side)
+    }
+
+    /// The live orders, by rising reference.
+    pub fn orders(&self, alloc: A) -> Result<Vec<Order, A>, AllocError>
+        ensures list { IfOk result (λ list. list.items ≡ orders_of self.now.world self.now.locate) }
+        ensures few { length (orders_of self.now.world self.now.locate) < 2 ^ 32 }
+    {
+        self.book.orders(alloc)
+    }
+
+    /// The same rows, in memory of their own.
+    pub fn copy(&self, alloc: A) -> Result<Rows<A>, AllocError>
+        ensures { IfOk result (λ rows. rows ≡ self.now) }
+    {
+        let book = self.book.copy(alloc)?;
+        let trades = self.trades.iter().copied().collect(alloc)?;
+        Ok(Rows {
+            locate: self.locate,
+            book,
+            trades,
+            known: self.known,
+        })
+    }
+}
+
+impl<A: Allocator + Copy> Store for Rows<A> {
+    ghost use Rattle.stock_machine.specs.Own.{HasRoom, held_by_one};
+
+    ghost held = { held_by_one };
+
+    ghost has_room = { λ r. HasRoom r.world };
+
+    fn stock(&self, _locate: u16) -> Option<StockRow> {
+        self.known
+    }
+
+    fn order(&self, _locate: u16, reference: u64) -> Option<OrderRow> {
+        self.book.row(reference)
+    }
+
+    fn has_unbroken(&self, locate: u16, match_no: u64) -> bool {
+        has_unbroken(&self.trades, locate, match_no)
+    }
+
+    fn set_event(&mut self, _event: u8) {
+        unreachable!();
+    }
+
+    fn set_stock(&mut self, _locate: u16, row: StockRow) -> Result<(), AllocError> {
+        self.known = Some(row);
+        Ok(())
+    }
+
+    fn update_stock(&mut self, _locate: u16, row: StockRow) {
+        self.known = Some(row);
+    }
+
+    fn add_order(&mut self, _locate: u16, reference: u64, row: OrderRow) -> Result<(), AllocError> {
+        self.book.add(row.under(reference))
+    }
+
+    fn reduce_order(&mut self, _locate: u16, reference: u64, _row: OrderRow, shares: u32) {
+        self.book.reduce(reference, shares);
+    }
+
+    fn remove_order(&mut self, _locate: u16, reference: u64) {
+        self.book.remove(reference);
+    }
+
+    fn replace_order(
+        &mut self,
+        _locate: u16,
+        old: u64,
+        new: u64,
+        shares: u32,
+        price: u32,
+    ) -> Result<(), AllocError> {
+        self.book.replace(old, new, shares, price)
+    }
+
+    fn add_trade(&mut self, locate: u16, trade: TradeRow) -> Result<(), AllocError> {
+        self.trades.push((locate, trade))?;
+        Ok(())
+    }
+
+    fn break_trades(&mut self, locate: u16, match_no: u64) {
+        break_trades(&mut self.trades, locate, match_no);
+    }
+}
