@@ -1,5 +1,4 @@
 pub mod Padding
-pub mod Escapes
 pub mod HexDigits
 pub mod HeldFields
 pub mod OneWord

@@ -14,11 +14,11 @@ prefix_same old new same = ap (take (length old)) same ∙ take_all old
 pub prefix_append : (old more new : List ℕ) → new ≡ old ++ more → IsPrefix old new
 prefix_append old more new same = ap (take (length old)) same ∙ take-append_seam old more
 
-pub prefix_further : (old more mid new : List ℕ) → mid ≡ old ++ more → IsPrefix mid new → IsPrefix old new
-prefix_further old more mid new same prefix =
+pub prefix_further : (old x y mid new : List ℕ) → mid ≡ (old ++ x) ++ y → IsPrefix mid new → IsPrefix old new
+prefix_further old x y mid new same prefix =
     let rest = drop (length mid) new in
-    let whole : new ≡ old ++ (more ++ rest) =
-    sym (take-append-drop (length mid) new) ∙ ap (λ xs. xs ++ rest) (prefix ∙ same) ∙ append_assoc old more rest in
-    prefix_append old (more ++ rest) new whole
+    let whole : new ≡ old ++ (x ++ (y ++ rest)) =
+    sym (take-append-drop (length mid) new) ∙ ap (λ xs. xs ++ rest) (prefix ∙ same) ∙ append_assoc (old ++ x) y rest ∙ append_assoc old x (y ++ rest) in
+    prefix_append old (x ++ (y ++ rest)) new whole
 
 pub ruleset prefixes = (prefix_same, prefix_append, prefix_further)

@@ -1,8 +1,6 @@
 //! The quoted form of fields of text.
 ghost use Rattle.std.specs.Prelude.{◌≡◌, IfOk, OnErr};
-ghost use Rattle.std.specs.List.{flat_map, list_all};
 ghost use Rattle.byte_strings.specs.Extending.{Extends};
-ghost use Rattle.itch_text.specs.Values.{denotes_itself};
 ghost use Rattle.itch_print.specs.Printing.{IsPrefix};
 ghost use Rattle.itch_print.specs.Quoted.{escaped, unpadded, quoted};
 
@@ -39,28 +37,6 @@ fn unpadded(field: &[u8]) -> &[u8]
     rest
 }
 
-// Whether all bytes denote themselves between quotes.
-fn all_denote_themselves(bytes: &[u8]) -> bool
-    ensures { result ≡ list_all denotes_itself bytes.now }
-{
-    bytes.iter().all(|byte| denotes_itself(*byte))
-}
-
-// Adds bytes as they stand between quotes. Most fields have only bytes that denote themselves, which are added at once.
-#[tactic(auto, using(crate::proofs::Escapes::appended_escaped, crate::proofs::Prefixes::prefixes))]
-fn put_all_escaped<A: Allocator>(text: &mut Vec<u8, A>, bytes: &[u8]) -> Result<(), AllocError>
-    ensures ok { Extends text.old text.new (flat_map escaped bytes.now) result }
-    ensures err { OnErr result (IsPrefix text.old.items text.new.items) }
-{
-    if all_denote_themselves(bytes) {
-        return text.extend_from_slice(bytes);
-    }
-    for byte in bytes {
-        put_escaped(text, *byte)?;
-    }
-    Ok(())
-}
-
 // Adds a field of text between quotes. After an error a part of this may have been added.
 #[tactic(auto, using(crate::proofs::Prefixes::prefixes))]
 fn add_quoted<A: Allocator>(text: &mut Vec<u8, A>, field: &[u8]) -> Result<(), AllocError>
@@ -68,7 +44,10 @@ fn add_quoted<A: Allocator>(text: &mut Vec<u8, A>, field: &[u8]) -> Result<(), A
     ensures err { OnErr result (IsPrefix text.old.items text.new.items) }
 {
     text.push(b'"')?;
-    put_all_escaped(text, unpadded(field))?;
+    let kept = unpadded(field);
+    for byte in kept {
+        put_escaped(text, *byte)?;
+    }
     text.push(b'"')?;
     Ok(())
 }
