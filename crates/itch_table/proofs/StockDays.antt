@@ -9,13 +9,14 @@ use Rattle.itch_table.specs.declared.outcome.Part.{Part}
 use Rattle.itch_table.specs.declared.outcome.Part.TheVariants.{Locate, Nowhere}
 use Rattle.itch_table.specs.After.{after, outcome}
 use Rattle.itch_table.specs.Parts.{part}
-use Rattle.itch_table.specs.Projection.{only, is_locate, is_of_stock, stock_day, steps_of, RowsAreOwn, OutcomesAreOwn, RowsStandStill}
+use Rattle.itch_table.specs.Projection.{only, payload_at, is_locate, is_of_stock, stock_day, steps_of, RowsAreOwn, OutcomesAreOwn, RowsStandStill}
 use Rattle.itch_table.specs.Table.{step}
 use Rattle.itch_table.specs.World.{World, empty_world}
 use Rattle.itch_table.proofs.OwnSteps.{steps_are_own}
 use Rattle.itch_table.proofs.Days.{after-next, outcome-next, after-none}
 use Rattle.itch_table.proofs.KeptKeys.{kept-empty}
 use Rattle.itch_table.proofs.Keys.{key_total, key_exact}
+use Rattle.itch_table.proofs.NoStock.{outcomes_are_fixed}
 use Rattle.itch_table.proofs.OneStock.{same_code, same_world}
 use Rattle.itch_table.proofs.OtherSteps.{others_stay}
 use Rattle.itch_table.proofs.Picked.{picked-next, picked-at}
@@ -115,6 +116,10 @@ outcomes_are_own day locate (suc n) some own =
     ∙ ap (λ (payload : List ℕ). (step (after (stock_day day locate) k) payload).0) (sym (stands_at day locate n test))
     ∙ sym (outcome-next (stock_day day locate) k)
     )
+
+pub outcomes_stay_fixed : (day : List (List ℕ)) (n : ℕ) (fixed : Outcome) → part (payload_at day n) ≡ Nowhere fixed → outcome day n ≡ fixed
+unfolding outcome
+outcomes_stay_fixed day n fixed none = outcomes_are_fixed (after day (n - 1)) (payload_at day n) fixed none
 
 pub rows_stand_still : RowsStandStill
 rows_stand_still day locate from zero le none = let e : from ≡ 0 = omega (arith, le) in rw e

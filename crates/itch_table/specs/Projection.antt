@@ -58,6 +58,7 @@ SystemSetsEvent =
 abbrev pub payload_at : List (List ℕ) → ℕ → List ℕ
 payload_at day n = slice_index_or day (n - 1) []
 
+-- whether a part is this stock's
 abbrev pub is_locate : ℕ → Part → Bool
 is_locate locate (Locate other) = other == locate
 is_locate locate (Nowhere fixed) = false
@@ -86,7 +87,7 @@ OutcomesAreOwn =
     (day : List (List ℕ)) (locate n : ℕ) → 0 < n → part (payload_at day n) ≡ Locate locate
     → outcome day n ≡ outcome (stock_day day locate) (steps_of day locate n)
 
--- after message `from` and up to message `to` no message is the stock's
+-- no message after number from, up to number to, is the stock's
 abbrev pub IsQuiet : List (List ℕ) → ℕ → ℕ → ℕ → Type 0
 IsQuiet day locate from to = (n : ℕ) → from < n → n ≤ to → part (payload_at day n) ≢ Locate locate
 
