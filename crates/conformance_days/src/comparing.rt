@@ -1,0 +1,92 @@
+//! What the machine of one stock says, beside what the plain machine says of that stock.
+use itch_table::{Plain, Side};
+use std::alloc::Allocator;
+use std::test::Fail;
+use stock_machine::Stock;
+use support::{same, same_list};
+
+// The top, the totals and the status.
+fn same_known<A: Allocator + Copy>(plain: &Plain<A>, stock: &Stock<A>) -> Result<(), Fail> {
+    let locate = stock.locate();
+    same(
+        "what is known of a stock",
+        &(locate, stock.top(), stock.totals(), stock.status()),
+        &(
+            locate,
+            plain.top(locate),
+            plain.totals(locate),
+            plain.status(locate),
+        ),
+    )
+}
+
+// The levels of a side, in a list and one by one.
+fn same_levels<A: Allocator + Copy>(
+    alloc: A,
+    plain: &Plain<A>,
+    stock: &Stock<A>,
+    side: Side,
+) -> Result<(), Fail> {
+    let found = stock.levels(alloc, side)?;
+    let wanted = plain.levels(alloc, stock.locate(), side)?;
+    same_list("levels", &found, &wanted)?;
+    for level in &wanted {
+        same("a level", &stock.level(side, level.price), &level.shares)?;
+    }
+    Ok(())
+}
+
+// The orders, in a list and one by one.
+fn same_orders<A: Allocator + Copy>(
+    alloc: A,
+    plain: &Plain<A>,
+    stock: &Stock<A>,
+) -> Result<(), Fail> {
+    let found = stock.orders(alloc)?;
+    let wanted = plain.orders(alloc, stock.locate())?;
+    same_list("orders", &found, &wanted)?;
+    for order in &wanted {
+        same("an order", &stock.order(order.reference), &Some(*order))?;
+    }
+    Ok(())
+}
+
+// All that the machine of a stock says.
+fn same_stock<A: Allocator + Copy>(
+    alloc: A,
+    plain: &Plain<A>,
+    stock: &Stock<A>,
+) -> Result<(), Fail> {
+    same_known(plain, stock)?;
+    same_levels(alloc, plain, stock, Side::Buy)?;
+    same_levels(alloc, plain, stock, Side::Sell)?;
+    same_orders(alloc, plain, stock)
+}
+
+// All that a copy of the machine of a stock says.
+fn same_copy<A: Allocator + Copy>(
+    alloc: A,
+    plain: &Plain<A>,
+    stock: &Stock<A>,
+) -> Result<(), Fail> {
+    let copy = stock.copy(alloc)?;
+    same(
+        "a copy",
+        &(copy.locate(), copy.steps()),
+        &(stock.locate(), stock.steps()),
+    )?;
+    same_stock(alloc, plain, &copy)
+}
+
+/// Compares all that the machines of the stocks and their copies say with what the plain machine says.
+pub fn same_stocks<A: Allocator + Copy>(
+    alloc: A,
+    plain: &Plain<A>,
+    stocks: &[Stock<A>],
+) -> Result<(), Fail> {
+    for stock in stocks {
+        same_stock(alloc, plain, stock)?;
+        same_copy(alloc, plain, stock)?;
+    }
+    Ok(())
+}

@@ -1,0 +1,61 @@
+//! A day, message by message, through the plain machine and through a machine for each of its stocks.
+use crate::comparing::same_stocks;
+use binaryfile::Day;
+use itch_table::{Outcome, Part, Plain, part};
+use std::alloc::{AllocError, Allocator};
+use std::test::Fail;
+use stock_machine::Stock;
+use support::same;
+
+// The place of a stock's machine, which is new at the stock's first message.
+fn place_of<A: Allocator + Copy>(
+    alloc: A,
+    stocks: &mut Vec<Stock<A>, A>,
+    locate: u16,
+) -> Result<usize, AllocError> {
+    if let Some(place) = stocks.iter().position(|stock| stock.locate() == locate) {
+        return Ok(place);
+    }
+    let place = stocks.len();
+    stocks.push(Stock::new(alloc, locate))?;
+    Ok(place)
+}
+
+// Hands a payload to the machine of its stock, and answers its outcome.
+fn take<A: Allocator + Copy>(
+    alloc: A,
+    stocks: &mut Vec<Stock<A>, A>,
+    payload: &[u8],
+) -> Result<Outcome, Fail> {
+    let locate = match part(payload) {
+        Part::Nowhere(outcome) => return Ok(outcome),
+        Part::Locate(locate) => locate,
+    };
+    let place = place_of(alloc, stocks, locate)?;
+    match stocks.get_mut(place) {
+        Some(stock) if stock.locate() == locate && stock.steps() < u32::MAX => {
+            Ok(stock.step(payload)?)
+        }
+        _ => Err(Fail::new("a stock's machine isn't at its place")),
+    }
+}
+
+/// Leads all machines through a day and compares them after each message of a day of at most 100, and after every
+/// hundredth of a longer one. Answers how many stocks have messages.
+pub fn compare<A: Allocator + Copy>(alloc: A, day: &Day<A>) -> Result<usize, Fail> {
+    let every = if day.len() <= 100 { 1 } else { 100 };
+    let mut plain = Plain::new(alloc);
+    let mut stocks = Vec::new(alloc);
+    for payload in day.payloads() {
+        if plain.steps() == u32::MAX {
+            return Err(Fail::new("a machine takes no more messages"));
+        }
+        let outcome = plain.step(payload)?;
+        same("an outcome", &take(alloc, &mut stocks, payload)?, &outcome)?;
+        if plain.steps() % every == 0 {
+            same_stocks(alloc, &plain, &stocks)?;
+        }
+    }
+    same_stocks(alloc, &plain, &stocks)?;
+    Ok(stocks.len())
+}

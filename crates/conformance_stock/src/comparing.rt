@@ -1,0 +1,52 @@
+//! What two machines of one stock say.
+use itch_table::{Outcome, Part, Side, part};
+use std::alloc::Allocator;
+use std::test::Fail;
+use stock_machine::Stock;
+use support::{same, same_list};
+
+// The levels of a side.
+fn same_levels<A: Allocator + Copy>(
+    alloc: A,
+    found: &Stock<A>,
+    wanted: &Stock<A>,
+    side: Side,
+) -> Result<(), Fail> {
+    let levels = found.levels(alloc, side)?;
+    same_list("levels", &levels, &wanted.levels(alloc, side)?)
+}
+
+/// Compares all that two machines say.
+pub fn same_machines<A: Allocator + Copy>(
+    alloc: A,
+    found: &Stock<A>,
+    wanted: &Stock<A>,
+) -> Result<(), Fail> {
+    same(
+        "what is known",
+        &(found.locate(), found.steps(), found.top(), found.totals()),
+        &(
+            wanted.locate(),
+            wanted.steps(),
+            wanted.top(),
+            wanted.totals(),
+        ),
+    )?;
+    same("the status", &found.status(), &wanted.status())?;
+    same_levels(alloc, found, wanted, Side::Buy)?;
+    same_levels(alloc, found, wanted, Side::Sell)?;
+    let orders = found.orders(alloc)?;
+    same_list("orders", &orders, &wanted.orders(alloc)?)
+}
+
+/// Hands a machine a payload of its stock, whose outcome is `wanted`.
+pub fn take<A: Allocator + Copy>(
+    stock: &mut Stock<A>,
+    payload: &[u8],
+    wanted: Outcome,
+) -> Result<(), Fail> {
+    if part(payload) != Part::Locate(stock.locate()) || stock.steps() == u32::MAX {
+        return Err(Fail::new("the payload isn't the stock's next one"));
+    }
+    same("an outcome", &stock.step(payload), &Ok(wanted))
+}

@@ -1,0 +1,156 @@
+//! Growths that are refused in turn, and steps that take no memory.
+use crate::comparing::{same_machines, take};
+use itch_layouts::Msg;
+use itch_table::{Fault, Outcome, Part, Side, part};
+use refusing::{Refusal, Refusing};
+use std::alloc::{AllocError, Allocator};
+use std::test::Fail;
+use stock_machine::Stock;
+use support::{AAPL, payload_of, same};
+
+// Steps a machine through one message that is applied: with each of its growths refused in turn, and then with memory.
+// Answers how many growths there are.
+fn growths_of<'h, A: Allocator + Copy>(
+    heap: &'h Refusing<A>,
+    stock: &mut Stock<&'h Refusing<A>>,
+    payload: &[u8],
+) -> Result<u64, Fail> {
+    heap.restart(Refusal::Never);
+    let before = stock.copy(heap)?;
+    for growth in 1..=5u64 {
+        if part(payload) != Part::Locate(stock.locate()) || stock.steps() == u32::MAX {
+            return Err(Fail::new("the payload isn't the stock's next one"));
+        }
+        heap.restart(Refusal::From(growth));
+        let answer = stock.step(payload);
+        let asked = heap.asked();
+        heap.restart(Refusal::Never);
+        if let Ok(outcome) = answer {
+            same("a step", &(outcome, asked), &(Outcome::Applied, growth - 1))?;
+            return Ok(asked);
+        }
+        same_machines(heap, stock, &before)?;
+    }
+    Err(Fail::new("a step takes four growths at most"))
+}
+
+// Hands a machine a message with each of its growths refused in turn, and answers how many there are.
+fn grow<'h, A: Allocator + Copy>(
+    heap: &'h Refusing<A>,
+    stock: &mut Stock<&'h Refusing<A>>,
+    msg: &Msg,
+) -> Result<u64, Fail> {
+    heap.restart(Refusal::Never);
+    let payload = payload_of(heap, msg)?;
+    growths_of(heap, stock, &payload)
+}
+
+// Hands a machine round `number` of the kinds of message that may need memory, and answers how many growths there are.
+fn grow_all<'h, A: Allocator + Copy>(
+    heap: &'h Refusing<A>,
+    stock: &mut Stock<&'h Refusing<A>>,
+    number: u64,
+) -> Result<u64, Fail> {
+    let mut growths = 0u64;
+    for msg in &[
+        AAPL.add(number, b'B', 10, 100),
+        AAPL.add_mpid(100 + number, b'S', 10, 200),
+        AAPL.execute(number, 1, number),
+        AAPL.execute_price(number, 1, number, b'N', 5),
+        AAPL.replace(number, 200 + number, 7, 150),
+        AAPL.trade(b'B', 1, 1, number),
+        AAPL.cross(9, 2, number),
+    ] {
+        growths = growths.saturating_add(grow(heap, stock, msg)?);
+    }
+    Ok(growths)
+}
+
+#[test]
+fn a_step_without_memory_changes_nothing(rt: HostRuntime) -> Result<(), Fail> {
+    let heap = Refusing::new(rt.alloc(), Refusal::Never);
+    let mut stock = Stock::new(&heap, 1);
+    same(
+        "a directory",
+        &grow(&heap, &mut stock, &AAPL.directory())?,
+        &0,
+    )?;
+    let mut growths = 0u64;
+    for number in 1..=40 {
+        growths = growths.saturating_add(grow_all(&heap, &mut stock, number)?);
+    }
+    same(
+        "the end",
+        &(growths > 4, stock.steps(), stock.totals().trades),
+        &(true, 281, 120),
+    )
+}
+
+// How long each list is, and how many messages a copy has taken.
+fn lengths_of<A: Allocator + Copy>(alloc: A, stock: &Stock<A>) -> [Result<usize, AllocError>; 3] {
+    let bids = stock.levels(alloc, Side::Buy);
+    let orders = stock.orders(alloc);
+    let copy = stock.copy(alloc);
+    [
+        bids.map(|list| list.len()),
+        orders.map(|list| list.len()),
+        copy.map(|copy| copy.steps() as usize),
+    ]
+}
+
+// A machine with two bids and a trade.
+fn two_bids<'h, A: Allocator + Copy>(
+    heap: &'h Refusing<A>,
+) -> Result<Stock<&'h Refusing<A>>, Fail> {
+    let mut stock = Stock::new(heap, 1);
+    grow(heap, &mut stock, &AAPL.directory())?;
+    grow(heap, &mut stock, &AAPL.add(1, b'B', 10, 100))?;
+    grow(heap, &mut stock, &AAPL.add(2, b'B', 10, 200))?;
+    grow(heap, &mut stock, &AAPL.trade(b'B', 1, 1, 3))?;
+    Ok(stock)
+}
+
+#[test]
+fn a_list_or_a_copy_without_memory_is_none(rt: HostRuntime) -> Result<(), Fail> {
+    let heap = Refusing::new(rt.alloc(), Refusal::Never);
+    let stock = two_bids(&heap)?;
+    heap.restart(Refusal::From(1));
+    let refused = lengths_of(&heap, &stock);
+    heap.restart(Refusal::From(2));
+    let copied = stock.copy(&heap).map(|copy| copy.steps());
+    heap.restart(Refusal::Never);
+    let found = lengths_of(&heap, &stock);
+    same(
+        "lists and copies without memory, and with it",
+        &(refused, copied, found),
+        &([Err(AllocError); 3], Err(AllocError), [Ok(2), Ok(2), Ok(4)]),
+    )
+}
+
+#[test]
+fn steps_without_a_new_row_take_no_memory(rt: HostRuntime) -> Result<(), Fail> {
+    let heap = Refusing::new(rt.alloc(), Refusal::Never);
+    let mut stock = two_bids(&heap)?;
+    heap.restart(Refusal::From(1));
+    for (msg, outcome) in &[
+        (AAPL.directory(), Outcome::Applied),
+        (AAPL.trading(b'H', *b"T1  "), Outcome::Applied),
+        (AAPL.regsho(b'1'), Outcome::Applied),
+        (
+            AAPL.execute(1, 11, 9),
+            Outcome::Refused(Fault::TooManyShares),
+        ),
+        (AAPL.cancel(1, 4), Outcome::Applied),
+        (AAPL.cancel(1, 6), Outcome::Applied),
+        (AAPL.delete(2), Outcome::Applied),
+        (AAPL.broken(3), Outcome::Applied),
+    ] {
+        let payload = payload_of(rt.alloc(), msg)?;
+        take(&mut stock, &payload, *outcome)?;
+    }
+    same(
+        "growths, orders and trades",
+        &(heap.asked(), stock.top().bid_shares, stock.totals().trades),
+        &(0, 0, 0),
+    )
+}

@@ -1,0 +1,9 @@
+//! The machine of one stock: its own messages of a day of several stocks, and the memory that it takes.
+#![tactic(auto)]
+
+#[cfg(test)]
+mod comparing;
+#[cfg(test)]
+mod growing;
+#[cfg(test)]
+mod own;
