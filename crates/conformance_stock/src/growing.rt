@@ -86,16 +86,52 @@ fn a_step_without_memory_changes_nothing(rt: HostRuntime) -> Result<(), Fail> {
     )
 }
 
-// How long each list is, and how many messages a copy has taken.
-fn lengths_of<A: Allocator + Copy>(alloc: A, stock: &Stock<A>) -> [Result<usize, AllocError>; 3] {
-    let bids = stock.levels(alloc, Side::Buy);
-    let orders = stock.orders(alloc);
-    let copy = stock.copy(alloc);
-    [
-        bids.map(|list| list.len()),
-        orders.map(|list| list.len()),
-        copy.map(|copy| copy.steps() as usize),
-    ]
+// A call that makes a list or a copy.
+#[derive(Debug, Clone, Copy, PartialEq, Eq)]
+enum Call {
+    Levels,
+    Orders,
+    Copy,
+}
+
+// How long the list is that a call makes, or how many messages the copy has taken.
+fn length_of<A: Allocator + Copy>(
+    alloc: A,
+    stock: &Stock<A>,
+    call: Call,
+) -> Result<usize, AllocError> {
+    match call {
+        Call::Levels => stock.levels(alloc, Side::Buy).map(|list| list.len()),
+        Call::Orders => stock.orders(alloc).map(|list| list.len()),
+        Call::Copy => stock.copy(alloc).map(|copy| copy.steps() as usize),
+    }
+}
+
+// Makes a call with memory, and with each of its growths refused in turn.
+fn refuse_call<'h, A: Allocator + Copy>(
+    heap: &'h Refusing<A>,
+    stock: &Stock<&'h Refusing<A>>,
+    call: Call,
+    length: usize,
+) -> Result<(), Fail> {
+    heap.restart(Refusal::Never);
+    let found = length_of(heap, stock, call);
+    let growths = heap.asked();
+    same(
+        "a call with memory",
+        &(call, found, growths > 0),
+        &(call, Ok(length), true),
+    )?;
+    for growth in 1..=growths {
+        heap.restart(Refusal::From(growth));
+        let refused = length_of(heap, stock, call);
+        same(
+            "a call without memory",
+            &(call, growth, refused),
+            &(call, growth, Err(AllocError)),
+        )?;
+    }
+    Ok(())
 }
 
 // A machine with two bids and a trade.
@@ -114,17 +150,11 @@ fn two_bids<'h, A: Allocator + Copy>(
 fn a_list_or_a_copy_without_memory_is_none(rt: HostRuntime) -> Result<(), Fail> {
     let heap = Refusing::new(rt.alloc(), Refusal::Never);
     let stock = two_bids(&heap)?;
-    heap.restart(Refusal::From(1));
-    let refused = lengths_of(&heap, &stock);
-    heap.restart(Refusal::From(2));
-    let copied = stock.copy(&heap).map(|copy| copy.steps());
+    for (call, length) in [(Call::Levels, 2), (Call::Orders, 2), (Call::Copy, 4)] {
+        refuse_call(&heap, &stock, call, length)?;
+    }
     heap.restart(Refusal::Never);
-    let found = lengths_of(&heap, &stock);
-    same(
-        "lists and copies without memory, and with it",
-        &(refused, copied, found),
-        &([Err(AllocError); 3], Err(AllocError), [Ok(2), Ok(2), Ok(4)]),
-    )
+    same_machines(&heap, &stock, &two_bids(&heap)?)
 }
 
 #[test]

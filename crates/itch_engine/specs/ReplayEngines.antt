@@ -41,9 +41,11 @@ pub record DenotesTooManyMessages (digits : List ℕ) (fault : ProgFault) : Type
   pub denoted : denoted digits ≡ Some input
   pub many : HasTooManyMessages input fault
 
+-- the engine that reads a day file and writes its report
 abbrev pub replayer : Engine ℕ
 replayer = record { most = 2 ^ 40; Makes = Replays; Finds = HasTooManyMessages }
 
+-- the engine that reads a day file in hexadecimal digits and writes its report
 abbrev pub digits_replayer : Engine ℕ
 digits_replayer = record {
   most = 2 ^ 30;

@@ -27,6 +27,7 @@ pub record HasFaultyLine (text : List ℕ) (fault : ProgFault) : Type 0 where
   pub blamed : Blames text line
   pub nothing : DenotesNothing text
 
+-- the engine that reads a day file and writes its text
 abbrev pub disassembler : Engine (Unit {0})
 disassembler = record {
   most = 2 ^ 40;
@@ -34,6 +35,7 @@ disassembler = record {
   Finds = HasTooManyMessages;
 }
 
+-- the engine that reads a text and writes the file that it denotes
 abbrev pub assembler : Engine (Unit {0})
 assembler = record {
   most = 2 ^ 40;

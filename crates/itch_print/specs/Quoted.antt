@@ -5,6 +5,7 @@ use Rattle.hex.specs.Hex.{encode_lower}
 use Rattle.itch_text.specs.Characters.{space}
 use Rattle.itch_text.specs.Values.{denotes_itself}
 
+-- a byte is the space
 abbrev pub is_space : ℕ → Bool
 is_space byte = byte == space
 

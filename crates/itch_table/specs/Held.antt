@@ -21,6 +21,7 @@ one_stock own world = record { own = Some own; world = world }
 abbrev pub on_world : (World → World) → Held → Held
 on_world change held = record { own = held.own; world = change held.world }
 
+-- the stock is the one whose rows are held, or the rows of all stocks are
 abbrev pub IsOwn : Option ℕ → ℕ → Type 0
 IsOwn None locate = Unit {0}
 IsOwn (Some own) locate = locate ≡ own

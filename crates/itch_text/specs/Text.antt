@@ -6,6 +6,7 @@ use Rattle.itch_text.specs.Items.{Item, Line, item_bytes}
 use Rattle.itch_text.specs.Order.{place_after_all}
 use Rattle.itch_text.specs.declared.place.Place.TheVariants.{Entries}
 
+-- a byte is the line feed
 abbrev pub is_line_feed : ℕ → Bool
 is_line_feed b = b == line_feed
 

@@ -3,6 +3,7 @@ use Rattle.std.specs.Prelude.{◌==◌, ℕ, Bool, true, false, not, if◌then�
 use Rattle.std.specs.List.{filter, onto_first}
 use Rattle.itch_text.specs.Characters.{space, quote_mark}
 
+-- a byte isn't the space
 abbrev pub is_no_space : ℕ → Bool
 is_no_space b = not (b == space)
 

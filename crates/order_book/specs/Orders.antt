@@ -36,6 +36,7 @@ reduced_by orders reference row shares =
     if row.shares == shares then maps.remove orders reference
     else maps.insert orders reference (record row { shares = row.shares - shares })
 
+-- shares come off the order under a reference
 abbrev pub reduced : Orders → ℕ → ℕ → Orders
 reduced orders reference shares = reduced_by orders reference (row_in orders reference) shares
 
