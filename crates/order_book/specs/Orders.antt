@@ -30,7 +30,7 @@ added orders order = maps.insert orders order.reference (row_of order)
 abbrev pub row_in : Orders → ℕ → OrderRow
 row_in orders reference = unwrap_or (maps.get orders reference) no_order
 
--- shares come off an order, which is gone where none are left
+-- shares come off an order with this row, which is gone where none are left
 abbrev pub reduced_by : Orders → ℕ → OrderRow → ℕ → Orders
 reduced_by orders reference row shares =
     if row.shares == shares then maps.remove orders reference
@@ -43,4 +43,5 @@ reduced orders reference shares = reduced_by orders reference (row_in orders ref
 -- a new order has the old side and attribution, and the old one is gone
 abbrev pub replaced : Orders → ℕ → ℕ → ℕ → ℕ → Orders
 replaced orders old new shares price =
-    maps.insert (maps.remove orders old) new (record (row_in orders old) { shares = shares; price = price })
+    maps.insert (maps.remove orders old) new
+    (record (row_in orders old) { shares = shares; price = price })

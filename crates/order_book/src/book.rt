@@ -12,10 +12,10 @@ use std::marker::Model;
 
 /// The live orders of one stock, each under its reference, and the levels that they make.
 ///
-/// What the calls do is of Nasdaq TotalView-ITCH 5.0, "Add Order Message" and "Modify Order Messages"; levels are of this
-/// project. A book refuses nothing: its caller sees by [`Book::order`] that a reference is live, or isn't. Prices are in
-/// 1/10,000 of a currency unit. A call that answers a `Result` may take memory, and its only error is that memory was
-/// refused; no other call takes any.
+/// What the calls do is of Nasdaq TotalView-ITCH 5.0, "Add Order Message" and "Modify Order Messages"; levels are of
+/// this project. A book refuses nothing: its caller sees by [`Book::order`] that a reference is live, or isn't. Prices
+/// are in 1/10,000 of a currency unit. A call that answers a `Result` may take memory, and its only error is that memory
+/// was refused; no other call takes any.
 ///
 /// ```text
 /// let mut book = Book::new(alloc);
@@ -95,8 +95,8 @@ impl<A: Allocator + Copy> Book<A> {
         Ok(())
     }
 
-    /// Puts a new order, which has shares, in the place of a live one, whose side and market participant it takes over.
-    /// The new reference isn't live; the old one no longer is.
+    /// Puts a new order, which has shares, in the place of a live one, whose side and market participant it takes
+    /// over. The new reference isn't live before, and the old one isn't afterwards.
     ///
     /// An error says that memory was refused, and leaves the book as it was.
     pub fn replace(&mut self, old: u64, new: u64, shares: u32, price: u32) -> Result<(), AllocError>

@@ -40,12 +40,13 @@ pub loop-reference-preserved : goal.loop-reference-preserved
 loop-reference-preserved g c =
     let looked = c.loop-reference.invariant in
     let order = c.under.result in
+    let shares : order.shares ≡ c.in-Some.row.now.shares = ap (λ (o : Order). o.shares) c.under.ensures in
     let next = rest_more deref_pair c.loop-reference.reference-iterator c.next.new.self c.next.result (c.in-Some.reference, c.in-Some.row) c.in-Some.is c.next.ensures.steps in
     record {
       seen = looked.seen ++ order ∷ [];
       whole = passed_on looked.seen (orders_in c.args.self.now) order _ _ _ next c.under.ensures looked.whole;
       is_best = c.best_with-best.ensures.best looked.seen looked.is_best;
-      most = omega (arith, looked.most, c.best_with-best.ensures.most, length-append looked.seen (order ∷ []), ap (λ (o : Order). o.shares) c.under.ensures);
+      most = omega (arith, looked.most, c.best_with-best.ensures.most, length-append looked.seen (order ∷ []), shares);
     }
 
 pub returns : goal.returns
