@@ -49,17 +49,18 @@ fn grow<'h, A: Allocator + Copy>(
 fn grow_all<'h, A: Allocator + Copy>(
     heap: &'h Refusing<A>,
     stock: &mut Stock<&'h Refusing<A>>,
-    number: u64,
+    number: u8,
 ) -> Result<u64, Fail> {
+    let reference = u64::from(number);
     let mut growths = 0u64;
     for msg in &[
-        AAPL.add(number, b'B', 10, 100),
-        AAPL.add_mpid(100 + number, b'S', 10, 200),
-        AAPL.execute(number, 1, number),
-        AAPL.execute_price(number, 1, number, b'N', 5),
-        AAPL.replace(number, 200 + number, 7, 150),
-        AAPL.trade(b'B', 1, 1, number),
-        AAPL.cross(9, 2, number),
+        AAPL.add(reference, b'B', 10, 100),
+        AAPL.add_mpid(100 + reference, b'S', 10, 200),
+        AAPL.execute(reference, 1, reference),
+        AAPL.execute_price(reference, 1, reference, b'N', 5),
+        AAPL.replace(reference, 200 + reference, 7, 150),
+        AAPL.trade(b'B', 1, 1, reference),
+        AAPL.cross(9, 2, reference),
     ] {
         growths = growths.saturating_add(grow(heap, stock, msg)?);
     }
