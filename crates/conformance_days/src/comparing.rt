@@ -10,9 +10,8 @@ fn same_known<A: Allocator + Copy>(plain: &Plain<A>, stock: &Stock<A>) -> Result
     let locate = stock.locate();
     same(
         "what is known of a stock",
-        &(locate, stock.top(), stock.totals(), stock.status()),
+        &(stock.top(), stock.totals(), stock.status()),
         &(
-            locate,
             plain.top(locate),
             plain.totals(locate),
             plain.status(locate),
@@ -36,7 +35,7 @@ fn same_levels<A: Allocator + Copy>(
     Ok(())
 }
 
-// The orders, in a list and one by one.
+// The orders, in a list and one by one, and one that never lives.
 fn same_orders<A: Allocator + Copy>(
     alloc: A,
     plain: &Plain<A>,
@@ -48,7 +47,7 @@ fn same_orders<A: Allocator + Copy>(
     for order in &wanted {
         same("an order", &stock.order(order.reference), &Some(*order))?;
     }
-    Ok(())
+    same("no order", &stock.order(u64::MAX), &None)
 }
 
 // All that the machine of a stock says.
@@ -78,15 +77,19 @@ fn same_copy<A: Allocator + Copy>(
     same_stock(alloc, plain, &copy)
 }
 
-/// Compares all that the machines of the stocks and their copies say with what the plain machine says.
+/// Compares all that the machines of the stocks and their copies say with what the plain machine says, and the sum of
+/// their steps with the number of the stocks' messages.
 pub fn same_stocks<A: Allocator + Copy>(
     alloc: A,
     plain: &Plain<A>,
     stocks: &[Stock<A>],
+    messages: u64,
 ) -> Result<(), Fail> {
+    let mut steps = 0u64;
     for stock in stocks {
         same_stock(alloc, plain, stock)?;
         same_copy(alloc, plain, stock)?;
+        steps = steps.saturating_add(u64::from(stock.steps()));
     }
-    Ok(())
+    same("the steps of all stocks", &steps, &messages)
 }

@@ -46,16 +46,20 @@ pub fn compare<A: Allocator + Copy>(alloc: A, day: &Day<A>) -> Result<usize, Fai
     let every = if day.len() <= 100 { 1 } else { 100 };
     let mut plain = Plain::new(alloc);
     let mut stocks = Vec::new(alloc);
+    let mut messages = 0u64;
     for payload in day.payloads() {
         if plain.steps() == u32::MAX {
             return Err(Fail::new("a machine takes no more messages"));
         }
         let outcome = plain.step(payload)?;
         same("an outcome", &take(alloc, &mut stocks, payload)?, &outcome)?;
+        if let Part::Locate(_) = part(payload) {
+            messages = messages.saturating_add(1);
+        }
         if plain.steps() % every == 0 {
-            same_stocks(alloc, &plain, &stocks)?;
+            same_stocks(alloc, &plain, &stocks, messages)?;
         }
     }
-    same_stocks(alloc, &plain, &stocks)?;
+    same_stocks(alloc, &plain, &stocks, messages)?;
     Ok(stocks.len())
 }

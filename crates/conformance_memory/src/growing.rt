@@ -16,6 +16,7 @@ struct Everything<A: Allocator> {
     locates: Vec<u16, A>,
 }
 
+// All of that, of a machine.
 fn everything_of<A: Allocator + Copy>(
     alloc: A,
     machine: &Plain<A>,
@@ -29,6 +30,7 @@ fn everything_of<A: Allocator + Copy>(
     })
 }
 
+// Compares all of that.
 fn same_everything<A: Allocator>(
     case: &str,
     found: &Everything<A>,

@@ -16,7 +16,7 @@ fn same_levels<A: Allocator + Copy>(
     same_list("levels", &levels, &wanted.levels(alloc, side)?)
 }
 
-/// Compares all that two machines say.
+/// Compares what two machines say: the locate code, the steps, the top, the totals, the status and all lists.
 pub fn same_machines<A: Allocator + Copy>(
     alloc: A,
     found: &Stock<A>,

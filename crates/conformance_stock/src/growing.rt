@@ -45,46 +45,101 @@ fn grow<'h, A: Allocator + Copy>(
     growths_of(heap, stock, &payload)
 }
 
-// Hands a machine round `number` of the kinds of message that may need memory, and answers how many growths there are.
-fn grow_all<'h, A: Allocator + Copy>(
+// A kind of message that may need an order or a trade more, or a directory row.
+#[derive(Debug, Clone, Copy, PartialEq, Eq)]
+enum Kind {
+    Directory,
+    Add,
+    AddMpid,
+    Execute,
+    ExecutePrice,
+    Replace,
+    Trade,
+    Cross,
+}
+
+// The kinds, and whether their messages ever need memory: a machine has a place for its directory row.
+const KINDS: [(Kind, bool); 8] = [
+    (Kind::Directory, false),
+    (Kind::Add, true),
+    (Kind::AddMpid, true),
+    (Kind::Execute, true),
+    (Kind::ExecutePrice, true),
+    (Kind::Replace, true),
+    (Kind::Trade, true),
+    (Kind::Cross, true),
+];
+
+// Message `number` of a kind. The executions are of order 1, and a replacement is of the order with the number.
+fn message_of(kind: Kind, number: u8) -> Msg {
+    let reference = u64::from(number);
+    match kind {
+        Kind::Directory => AAPL.directory(),
+        Kind::Add => AAPL.add(reference, b'B', 10, 100),
+        Kind::AddMpid => AAPL.add_mpid(reference, b'S', 10, 200),
+        Kind::Execute => AAPL.execute(1, 0, reference),
+        Kind::ExecutePrice => AAPL.execute_price(1, 0, reference, b'Y', 5),
+        Kind::Replace => AAPL.replace(reference, 1_000 + reference, 10, 300),
+        Kind::Trade => AAPL.trade(b'B', 1, 1, reference),
+        Kind::Cross => AAPL.cross(1, 1, reference),
+    }
+}
+
+// Hands a machine a message with memory, which is applied.
+fn apply<'h, A: Allocator + Copy>(
     heap: &'h Refusing<A>,
     stock: &mut Stock<&'h Refusing<A>>,
+    msg: &Msg,
+) -> Result<(), Fail> {
+    heap.restart(Refusal::Never);
+    let payload = payload_of(heap, msg)?;
+    take(stock, &payload, Outcome::Applied)
+}
+
+// Hands two machines message `number` of a kind: one with each growth refused in turn, the other with memory. Answers how
+// many growths there are.
+fn grow_both<'h, A: Allocator + Copy>(
+    heap: &'h Refusing<A>,
+    stock: &mut Stock<&'h Refusing<A>>,
+    twin: &mut Stock<&'h Refusing<A>>,
+    kind: Kind,
     number: u8,
 ) -> Result<u64, Fail> {
-    let reference = u64::from(number);
-    let mut growths = 0u64;
-    for msg in &[
-        AAPL.add(reference, b'B', 10, 100),
-        AAPL.add_mpid(100 + reference, b'S', 10, 200),
-        AAPL.execute(reference, 1, reference),
-        AAPL.execute_price(reference, 1, reference, b'N', 5),
-        AAPL.replace(reference, 200 + reference, 7, 150),
-        AAPL.trade(b'B', 1, 1, reference),
-        AAPL.cross(9, 2, reference),
-    ] {
-        growths = growths.saturating_add(grow(heap, stock, msg)?);
+    if kind == Kind::Replace {
+        let original = AAPL.add(u64::from(number), b'B', 10, 100);
+        apply(heap, stock, &original)?;
+        apply(heap, twin, &original)?;
     }
+    let msg = message_of(kind, number);
+    apply(heap, twin, &msg)?;
+    grow(heap, stock, &msg)
+}
+
+// Hands two machines 99 messages of a kind. Answers how many growths there are; in the end both machines say the same.
+fn grow_by<A: Allocator + Copy>(heap: &Refusing<A>, kind: Kind) -> Result<u64, Fail> {
+    let mut stock = one_bid(heap)?;
+    let mut twin = one_bid(heap)?;
+    let mut growths = 0u64;
+    for number in 2..=100 {
+        let more = grow_both(heap, &mut stock, &mut twin, kind, number)?;
+        growths = growths.saturating_add(more);
+    }
+    same_machines(heap, &stock, &twin)?;
     Ok(growths)
 }
 
 #[test]
 fn a_step_without_memory_changes_nothing(rt: HostRuntime) -> Result<(), Fail> {
     let heap = Refusing::new(rt.alloc(), Refusal::Never);
-    let mut stock = Stock::new(&heap, 1);
-    same(
-        "a directory",
-        &grow(&heap, &mut stock, &AAPL.directory())?,
-        &0,
-    )?;
-    let mut growths = 0u64;
-    for number in 1..=40 {
-        growths = growths.saturating_add(grow_all(&heap, &mut stock, number)?);
+    for (kind, grows) in KINDS {
+        let growths = grow_by(&heap, kind)?;
+        same(
+            "whether steps needed memory",
+            &(kind, growths > 0),
+            &(kind, grows),
+        )?;
     }
-    same(
-        "the end",
-        &(growths > 4, stock.steps(), stock.totals().trades),
-        &(true, 281, 120),
-    )
+    Ok(())
 }
 
 // A call that makes a list or a copy.
@@ -135,13 +190,19 @@ fn refuse_call<'h, A: Allocator + Copy>(
     Ok(())
 }
 
+// A machine with bid 1.
+fn one_bid<'h, A: Allocator + Copy>(heap: &'h Refusing<A>) -> Result<Stock<&'h Refusing<A>>, Fail> {
+    let mut stock = Stock::new(heap, 1);
+    grow(heap, &mut stock, &AAPL.directory())?;
+    grow(heap, &mut stock, &AAPL.add(1, b'B', 10, 100))?;
+    Ok(stock)
+}
+
 // A machine with two bids and a trade.
 fn two_bids<'h, A: Allocator + Copy>(
     heap: &'h Refusing<A>,
 ) -> Result<Stock<&'h Refusing<A>>, Fail> {
-    let mut stock = Stock::new(heap, 1);
-    grow(heap, &mut stock, &AAPL.directory())?;
-    grow(heap, &mut stock, &AAPL.add(1, b'B', 10, 100))?;
+    let mut stock = one_bid(heap)?;
     grow(heap, &mut stock, &AAPL.add(2, b'B', 10, 200))?;
     grow(heap, &mut stock, &AAPL.trade(b'B', 1, 1, 3))?;
     Ok(stock)
@@ -165,6 +226,24 @@ fn steps_without_a_new_row_take_no_memory(rt: HostRuntime) -> Result<(), Fail> {
     heap.restart(Refusal::From(1));
     for (msg, outcome) in &[
         (AAPL.directory(), Outcome::Applied),
+        (AAPL.participant(), Outcome::Applied),
+        (AAPL.collar(), Outcome::Applied),
+        (AAPL.operational(), Outcome::Applied),
+        (AAPL.imbalance(), Outcome::Applied),
+        (AAPL.retail(), Outcome::Applied),
+        (
+            AAPL.add(1, b'B', 1, 1),
+            Outcome::Refused(Fault::ReferenceInUse),
+        ),
+        (
+            AAPL.add_mpid(3, b'B', 0, 1),
+            Outcome::Refused(Fault::ZeroShares),
+        ),
+        (
+            AAPL.replace(1, 2, 1, 1),
+            Outcome::Refused(Fault::ReferenceInUse),
+        ),
+        (AAPL.trade(b'Z', 1, 1, 1), Outcome::Refused(Fault::BadSide)),
         (AAPL.trading(b'H', *b"T1  "), Outcome::Applied),
         (AAPL.regsho(b'1'), Outcome::Applied),
         (

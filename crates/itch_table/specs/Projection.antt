@@ -54,7 +54,7 @@ SystemSetsEvent =
 
 -- ---- a day
 
--- the payload of message n of a day
+-- the payload of message n of a day, for n from 1
 abbrev pub payload_at : List (List ℕ) → ℕ → List ℕ
 payload_at day n = slice_index_or day (n - 1) []
 

@@ -11,7 +11,7 @@ use crate::order::{OrderRow, Side};
 use crate::status::{StockRow, Trading};
 use crate::store::Store;
 use crate::trades::TradeRow;
-use itch_layouts::{Directory, Msg};
+use itch_layouts::{Add, AddMpid, Directory, Msg, TradingAction};
 use std::alloc::AllocError;
 
 // The side that a byte of a message says, which is `B` or `S` where the checks pass.
@@ -51,6 +51,22 @@ fn with_directory(known: Option<StockRow>, directory: &Directory) -> StockRow
     }
 }
 
+// The trading state that a message says.
+fn state_of(action: &TradingAction) -> Trading
+    ensures { result ≡ record {
+      state = action.now.state;
+      reserved = action.now.reserved;
+      reason = action.now.reason;
+    } }
+{
+    let reason = action.reason;
+    Trading {
+        state: action.state,
+        reserved: action.reserved,
+        reason,
+    }
+}
+
 // Sets a stock's trading state.
 fn set_trading<S: Store>(store: &mut S, locate: u16, state: Trading)
     requires { Holds (S.held store.old) locate }
@@ -81,6 +97,41 @@ fn set_regsho<S: Store>(store: &mut S, locate: u16, action: u8)
     }
 }
 
+// The row of a new order without attribution.
+fn row_of_add(add: &Add) -> OrderRow
+    ensures { result ≡ record {
+      side = side_of add.now.side;
+      shares = add.now.shares;
+      price = add.now.price;
+      attribution = None;
+    } }
+{
+    OrderRow {
+        side: side_from(add.side),
+        shares: add.shares,
+        price: add.price,
+        attribution: None,
+    }
+}
+
+// The row of a new order with attribution.
+fn row_of_add_mpid(add: &AddMpid) -> OrderRow
+    ensures { result ≡ record {
+      side = side_of add.now.side;
+      shares = add.now.shares;
+      price = add.now.price;
+      attribution = Some add.now.attribution;
+    } }
+{
+    let attribution = add.attribution;
+    OrderRow {
+        side: side_from(add.side),
+        shares: add.shares,
+        price: add.price,
+        attribution: Some(attribution),
+    }
+}
+
 // The order that the checks of a message have found.
 fn order_found(named: Option<OrderRow>) -> OrderRow
     requires { IsSome named }
@@ -103,8 +154,8 @@ fn execute<S: Store>(
     requires room { S.has_room store.old }
     requires live { live (S.held store.old).world locate reference ≡ Some row }
     requires enough { shares ≤ row.shares }
-    ensures ok { OnOk result (S.held store.new ≡
-        on_world (λ w. with_trade (less_shares w locate reference row shares) locate trade) (S.held store.old)) }
+    ensures ok { OnOk result (S.held store.new ≡ on_world
+        (λ w. with_trade (less_shares w locate reference row shares) locate trade) (S.held store.old)) }
     ensures err { OnErr result (S.held store.new ≡ S.held store.old) }
 {
     store.add_trade(locate, trade)?;
@@ -134,34 +185,11 @@ pub(crate) fn apply<S: Store>(
             let row = with_directory(store.stock(head.locate), m);
             return store.set_stock(head.locate, row);
         }
-        Msg::Trading(head, m) => {
-            let reason = m.reason;
-            let state = Trading {
-                state: m.state,
-                reserved: m.reserved,
-                reason,
-            };
-            set_trading(store, head.locate, state);
-        }
+        Msg::Trading(head, m) => set_trading(store, head.locate, state_of(m)),
         Msg::Regsho(head, m) => set_regsho(store, head.locate, m.action),
-        Msg::Add(head, m) => {
-            let row = OrderRow {
-                side: side_from(m.side),
-                shares: m.shares,
-                price: m.price,
-                attribution: None,
-            };
-            return store.add_order(head.locate, m.reference, row);
-        }
+        Msg::Add(head, m) => return store.add_order(head.locate, m.reference, row_of_add(m)),
         Msg::AddMpid(head, m) => {
-            let attribution = m.attribution;
-            let row = OrderRow {
-                side: side_from(m.side),
-                shares: m.shares,
-                price: m.price,
-                attribution: Some(attribution),
-            };
-            return store.add_order(head.locate, m.reference, row);
+            return store.add_order(head.locate, m.reference, row_of_add_mpid(m));
         }
         Msg::Execute(head, m) => {
             let row = order_found(named);

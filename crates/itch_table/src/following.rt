@@ -36,7 +36,7 @@ fn follow_message<S: Store>(store: &mut S, msg: &Msg) -> Result<Outcome, AllocEr
 /// A message that is refused or passed over changes nothing. An error says that memory was refused: it comes only where
 /// the message would be applied and is one that may need a new row, and it leaves the rows as they were.
 ///
-/// Of this project; the effects are those of Nasdaq TotalView-ITCH 5.0.
+/// The rows have room for an order and a trade more. Of this project; the effects are those of Nasdaq TotalView-ITCH 5.0.
 pub fn follow<S: Store>(store: &mut S, payload: &[u8]) -> Result<Outcome, AllocError>
     requires here { HoldsPart (S.held store.old) (part payload.now) }
     requires room { S.has_room store.old }

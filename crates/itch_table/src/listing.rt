@@ -86,13 +86,6 @@ impl<A: Allocator + Copy> Rows<A> {
         requires { length (orders_of self.now locate) < 2 ^ 32 }
         ensures { result ≡ top (orders_of self.now locate) }
     {
-        let bid = self.best(locate, Side::Buy);
-        let ask = self.best(locate, Side::Sell);
-        Top {
-            bid_price: bid.price,
-            bid_shares: bid.shares,
-            ask_price: ask.price,
-            ask_shares: ask.shares,
-        }
+        Top::of(self.best(locate, Side::Buy), self.best(locate, Side::Sell))
     }
 }

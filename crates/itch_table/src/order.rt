@@ -1,5 +1,6 @@
 //! Orders, and what a book shows of them.
 ghost use Rattle.std.specs.Prelude.{◌≡◌};
+ghost use Rattle.itch_table.specs.Levels.{top_from};
 ghost use Rattle.itch_table.specs.World.{order_under, row_of};
 
 /// Which side of the book an order is on.
@@ -64,6 +65,20 @@ pub struct Top {
     pub ask_price: u32,
     /// The shares at that ask.
     pub ask_shares: u64,
+}
+
+impl Top {
+    /// The top that these best levels make.
+    pub fn of(bid: Level, ask: Level) -> Top
+        ensures { result ≡ top_from bid ask }
+    {
+        Top {
+            bid_price: bid.price,
+            bid_shares: bid.shares,
+            ask_price: ask.price,
+            ask_shares: ask.shares,
+        }
+    }
 }
 
 /// Where an order stands among the orders of all stocks.

@@ -19,7 +19,7 @@ pub trait Store {
     /// The rows as a world, and whose they are.
     ghost held: { Self → Held };
 
-    /// There may be an order and a trade more.
+    /// There may be an order and a trade more, so that no count of them wraps.
     ghost has_room: { Self → Type 0 };
 
     /// What is known of a stock that has a directory row.
@@ -61,10 +61,11 @@ pub trait Store {
         requires new { live (held self.old).world locate reference ≡ None }
         requires some { 0 < row.shares }
         requires room { has_room self.old }
-        ensures ok { OnOk result (held self.new ≡ on_world (λ w. with_order w locate reference row) (held self.old)) }
+        ensures ok { OnOk result (
+            held self.new ≡ on_world (λ w. with_order w locate reference row) (held self.old)) }
         ensures err { OnErr result (held self.new ≡ held self.old) };
 
-    /// Takes shares off an order, given with what a check found of it; it is gone where none are left.
+    /// Takes shares off an order, given with its row, which a check has found. The order is gone where none are left.
     fn reduce_order(&mut self, locate: u16, reference: u64, row: OrderRow, shares: u32)
         requires here { Holds (held self.old) locate }
         requires live { live (held self.old).world locate reference ≡ Some row }
@@ -90,7 +91,6 @@ pub trait Store {
         requires live { IsSome (live (held self.old).world locate old) }
         requires new { live (held self.old).world locate new ≡ None }
         requires some { 0 < shares }
-        requires room { has_room self.old }
         ensures ok { OnOk result (
             held self.new ≡ on_world (λ w. with_replaced w locate old new shares price) (held self.old)) }
         ensures err { OnErr result (held self.new ≡ held self.old) };
@@ -104,8 +104,7 @@ pub trait Store {
 
     /// Breaks all trades of a stock with this match number.
     fn break_trades(&mut self, locate: u16, match_no: u64)
-        requires here { Holds (held self.old) locate }
-        requires room { has_room self.old }
+        requires { Holds (held self.old) locate }
         ensures { held self.new ≡
             on_world (λ w. record w { trades = map (broken_at locate match_no) w.trades }) (held self.old) };
 }

@@ -95,7 +95,7 @@ fn with_trade(totals: Totals, trade: &TradeRow) -> Totals
     }
 }
 
-/// The totals of a stock's trades.
+/// The totals of a stock's trades, in shares and in 1/10,000 of a currency unit, of fewer than 2^32 rows.
 pub fn totals_under(rows: &[(u16, TradeRow)], locate: u16) -> Totals
     requires { length rows.now < 2 ^ 32 }
     ensures { result ≡ totals_of (trades_under locate rows.now) }

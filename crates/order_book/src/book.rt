@@ -165,14 +165,7 @@ impl<A: Allocator + Copy> Book<A> {
     pub fn top(&self) -> Top
         ensures { result ≡ top (orders_in self.now) }
     {
-        let bid = self.best(Side::Buy);
-        let ask = self.best(Side::Sell);
-        Top {
-            bid_price: bid.price,
-            bid_shares: bid.shares,
-            ask_price: ask.price,
-            ask_shares: ask.shares,
-        }
+        Top::of(self.best(Side::Buy), self.best(Side::Sell))
     }
 
     /// A side's levels: bids by falling price, asks by rising price. An error says that memory was refused.

@@ -13,7 +13,7 @@ use Rattle.itch_table.specs.declared.order.OrderKey.{OrderKey}
 use Rattle.itch_table.specs.declared.order.OrderRow.{OrderRow}
 use Rattle.itch_table.proofs.Keys.{key_total, key_exact}
 use Rattle.order_book.specs.Orders.{Orders}
-use Rattle.stock_machine.specs.Own.{keyed}
+use Rattle.stock_machine.specs.StockRows.{keyed}
 
 -- rows under their keys
 abbrev pub at : ℕ → List (ℕ × OrderRow) → List (OrderKey × OrderRow)

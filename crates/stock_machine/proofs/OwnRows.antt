@@ -14,7 +14,7 @@ use Rattle.itch_table.specs.declared.status.StockRow.{StockRow}
 use Rattle.itch_table.specs.declared.trades.TradeRow.{TradeRow}
 use Rattle.itch_table.proofs.Keys.{key_total, key_exact}
 use Rattle.order_book.specs.Orders.{Orders, order_in, orders_in}
-use Rattle.stock_machine.specs.Own.{own, keyed, stocks_of}
+use Rattle.stock_machine.specs.StockRows.{stock_rows, keyed, stocks_of}
 use Rattle.stock_machine.proofs.Keyed.{at, entries_keyed, get_keyed, live_keyed, is_self}
 
 pub stock_own : (l : ℕ) (known : Option StockRow) → get (stocks_of l known) l ≡ known
@@ -39,8 +39,8 @@ listed_at l [] = refl
 listed_at l (e ∷ rows) = rw (is_self l) (ap (λ orders. order_under e.0 e.1 ∷ orders) (listed_at l rows))
 
 module _ (l : ℕ) (b : Orders) (ts : List (ℕ × TradeRow)) (known : Option StockRow) where
-  pub orders_own : orders_of (own l b ts known).world l ≡ orders_in b
+  pub orders_own : orders_of (stock_rows l b ts known).world l ≡ orders_in b
   orders_own = ap (λ (rows : List (OrderKey × OrderRow)). map (λ e. order_of e.0 e.1) (filter (λ e. is_under l e.0) rows)) (entries_keyed l b) ∙ listed_at l (entries b)
 
-  pub order_own : (reference : ℕ) → order (own l b ts known).world l reference ≡ order_in b reference
+  pub order_own : (reference : ℕ) → order (stock_rows l b ts known).world l reference ≡ order_in b reference
   order_own reference = ap (option_map (order_under reference)) (live_keyed l reference b)

@@ -10,7 +10,7 @@ use Rattle.itch_table.specs.declared.order.OrderRow.{OrderRow}
 use Rattle.itch_table.specs.declared.status.StockRow.{StockRow}
 use Rattle.itch_table.specs.declared.trades.TradeRow.{TradeRow}
 use Rattle.order_book.specs.Orders.{Orders, reduced_by, replaced, row_in}
-use Rattle.stock_machine.specs.Own.{own, held_by_one, keyed}
+use Rattle.stock_machine.specs.StockRows.{stock_rows, held_by_one, keyed}
 use Rattle.stock_machine.proofs.Keyed.{live_keyed, keyed_insert, keyed_remove}
 use Rattle.stock_machine.proofs.OwnRows.{stock_set}
 
@@ -26,39 +26,39 @@ less_by l k n b row w false e = ap (with_orders w) (keyed_insert l k _ b ∙ ap 
 
 module _ (l : ℕ) (b : Orders) (ts : List (ℕ × TradeRow)) (known : Option StockRow) where
   world : World
-  world = (own l b ts known).world
+  world = (stock_rows l b ts known).world
 
-  row_own : (k : ℕ) → order_row (own l b ts known).world l k ≡ row_in b k
+  row_own : (k : ℕ) → order_row (stock_rows l b ts known).world l k ≡ row_in b k
   row_own k = ap (λ (o : Option OrderRow). unwrap_or o no_order) (live_keyed l k b)
 
-  replaced_own : (old new shares price : ℕ) → (own l (replaced b old new shares price) ts known).world ≡ with_replaced (own l b ts known).world l old new shares price
-  replaced_own old new shares price = ap (with_orders (own l b ts known).world)
+  replaced_own : (old new shares price : ℕ) → (stock_rows l (replaced b old new shares price) ts known).world ≡ with_replaced (stock_rows l b ts known).world l old new shares price
+  replaced_own old new shares price = ap (with_orders (stock_rows l b ts known).world)
       (keyed_insert l new _ (remove b old)
       ∙ ap (λ (m : FinMap key_cmp OrderRow). insert m (key l new) (record (row_in b old) { shares = shares; price = price })) (keyed_remove l old b)
       ∙ ap (λ (row : OrderRow). insert (remove (keyed l b) (key l old)) (key l new) (record row { shares = shares; price = price })) (sym (row_own old)))
 
   -- rows with another book
-  held_book : (new : Orders) (orders : FinMap key_cmp OrderRow) → keyed l new ≡ orders → held_by_one (own l new ts known) ≡ one_stock l (with_orders (own l b ts known).world orders)
-  held_book new orders e = ap (λ (m : FinMap key_cmp OrderRow). one_stock l (with_orders (own l b ts known).world m)) e
+  held_book : (new : Orders) (orders : FinMap key_cmp OrderRow) → keyed l new ≡ orders → held_by_one (stock_rows l new ts known) ≡ one_stock l (with_orders (stock_rows l b ts known).world orders)
+  held_book new orders e = ap (λ (m : FinMap key_cmp OrderRow). one_stock l (with_orders (stock_rows l b ts known).world m)) e
 
-  pub held_insert : (k : ℕ) (v : OrderRow) (new : Orders) → new ≡ insert b k v → held_by_one (own l new ts known) ≡ on_world (λ w. with_order w l k v) (held_by_one (own l b ts known))
+  pub held_insert : (k : ℕ) (v : OrderRow) (new : Orders) → new ≡ insert b k v → held_by_one (stock_rows l new ts known) ≡ on_world (λ w. with_order w l k v) (held_by_one (stock_rows l b ts known))
   held_insert k v new e = held_book new _ (ap (keyed l) e ∙ keyed_insert l k v b)
 
-  pub held_remove : (k : ℕ) (new : Orders) → new ≡ remove b k → held_by_one (own l new ts known) ≡ on_world (λ w. without_order w l k) (held_by_one (own l b ts known))
+  pub held_remove : (k : ℕ) (new : Orders) → new ≡ remove b k → held_by_one (stock_rows l new ts known) ≡ on_world (λ w. without_order w l k) (held_by_one (stock_rows l b ts known))
   held_remove k new e = held_book new _ (ap (keyed l) e ∙ keyed_remove l k b)
 
   pub held_reduce : (k n : ℕ) (row : OrderRow) (new : Orders) → row_in b k ≡ row → new ≡ reduced_by b k (row_in b k) n
-      → held_by_one (own l new ts known) ≡ on_world (λ w. less_shares w l k row n) (held_by_one (own l b ts known))
+      → held_by_one (stock_rows l new ts known) ≡ on_world (λ w. less_shares w l k row n) (held_by_one (stock_rows l b ts known))
   held_reduce k n row new r e =
-      ap (λ (m : Orders). held_by_one (own l m ts known)) (e ∙ ap (λ (row : OrderRow). reduced_by b k row n) r)
-      ∙ ap (one_stock l) (less_by l k n b row (own l b ts known).world (row.shares == n) refl)
+      ap (λ (m : Orders). held_by_one (stock_rows l m ts known)) (e ∙ ap (λ (row : OrderRow). reduced_by b k row n) r)
+      ∙ ap (one_stock l) (less_by l k n b row (stock_rows l b ts known).world (row.shares == n) refl)
 
   pub held_replace : (old next shares price : ℕ) (new : Orders) → new ≡ replaced b old next shares price
-      → held_by_one (own l new ts known) ≡ on_world (λ w. with_replaced w l old next shares price) (held_by_one (own l b ts known))
-  held_replace old next shares price new e = ap (λ (m : Orders). held_by_one (own l m ts known)) e ∙ ap (one_stock l) (replaced_own old next shares price)
+      → held_by_one (stock_rows l new ts known) ≡ on_world (λ w. with_replaced w l old next shares price) (held_by_one (stock_rows l b ts known))
+  held_replace old next shares price new e = ap (λ (m : Orders). held_by_one (stock_rows l m ts known)) e ∙ ap (one_stock l) (replaced_own old next shares price)
 
-  pub held_stock : (row : StockRow) → held_by_one (own l b ts (Some row)) ≡ on_world (λ w. with_stock w l row) (held_by_one (own l b ts known))
+  pub held_stock : (row : StockRow) → held_by_one (stock_rows l b ts (Some row)) ≡ on_world (λ w. with_stock w l row) (held_by_one (stock_rows l b ts known))
   held_stock row = ap (λ (m : FinMap nat_cmp StockRow). in_one m) (stock_set l known row)
     where
       in_one : FinMap nat_cmp StockRow → Held
-      in_one m = one_stock l (record (own l b ts known).world { stocks = m })
+      in_one m = one_stock l (record (stock_rows l b ts known).world { stocks = m })

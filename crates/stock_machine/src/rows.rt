@@ -28,9 +28,9 @@ impl<A: Allocator> Model for Rows<A> {
     ghost use Rattle.itch_table.specs.contracts.order.OrderRow as order_row;
     ghost use Rattle.itch_table.specs.contracts.status.StockRow as stock_row;
     ghost use Rattle.itch_table.specs.contracts.trades.TradeRow as trade_row;
-    ghost use Rattle.stock_machine.specs.Own.{Own, own};
+    ghost use Rattle.stock_machine.specs.StockRows.{StockRows, stock_rows};
 
-    ghost Value = { Own };
+    ghost Value = { StockRows };
 
     ghost coded = { Prim.hlevel (
       codes,
@@ -39,7 +39,7 @@ impl<A: Allocator> Model for Rows<A> {
       trade_row.the_row.coded,
     ) };
 
-    ghost view = { λ r. own r.locate r.book r.trades.items r.known };
+    ghost view = { λ r. stock_rows r.locate r.book r.trades.items r.known };
 }
 
 impl<A: Allocator + Copy> Rows<A> {
@@ -131,11 +131,11 @@ impl<A: Allocator + Copy> Rows<A> {
 }
 
 impl<A: Allocator + Copy> Store for Rows<A> {
-    ghost use Rattle.stock_machine.specs.Own.{HasRoom, held_by_one};
+    ghost use Rattle.stock_machine.specs.StockRows.{HasRoomForRows, held_by_one};
 
     ghost held = { held_by_one };
 
-    ghost has_room = { λ r. HasRoom r.world };
+    ghost has_room = { λ r. HasRoomForRows r.world };
 
     fn stock(&self, _locate: u16) -> Option<StockRow> {
         self.known

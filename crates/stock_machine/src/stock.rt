@@ -16,7 +16,10 @@ use std::marker::Model;
 /// A machine that takes the messages of one stock and follows the table of instructions over that stock's rows.
 ///
 /// What a day does to a stock depends on that stock's messages alone, so this machine holds after them what a machine
-/// for all stocks holds of that stock after the whole day.
+/// for all stocks holds of that stock after the whole day. Prices are in 1/10,000 of a currency unit.
+///
+/// The effects of messages are those of Nasdaq TotalView-ITCH 5.0, "Stock Related Messages", "Add Order Message", "Modify
+/// Order Messages" and "Trade Messages"; the faults, and that a machine is of one stock, are of this project.
 #[derive(Drop)]
 pub struct Stock<A: Allocator> {
     rows: Rows<A>,
@@ -32,7 +35,7 @@ impl<A: Allocator> Model for Stock<A> {
     ghost use Rattle.itch_table.specs.contracts.order.OrderRow as order_row;
     ghost use Rattle.itch_table.specs.contracts.status.StockRow as stock_row;
     ghost use Rattle.itch_table.specs.contracts.trades.TradeRow as trade_row;
-    ghost use Rattle.stock_machine.specs.Own.{StockMachine};
+    ghost use Rattle.stock_machine.specs.StockRows.{StockMachine};
 
     ghost Value = { StockMachine };
 
@@ -98,7 +101,7 @@ impl<A: Allocator + Copy> Stock<A> {
         self.rows.top()
     }
 
-    /// The sums over the stock's trades that no later message broke.
+    /// The sums over the stock's trades that no later message broke, in shares and in 1/10,000 of a currency unit.
     pub fn totals(&self) -> Totals
         ensures { result ≡ totals self.now.world self.now.locate }
     {

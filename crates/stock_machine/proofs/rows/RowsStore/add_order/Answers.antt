@@ -6,7 +6,7 @@ use Rattle.itch_table.specs.declared.order.Order.{Order}
 use Rattle.itch_table.specs.declared.order.OrderRow.{OrderRow}
 use Rattle.itch_table.specs.World.{order_under}
 use Rattle.order_book.specs.Orders.{added, order_in}
-use Rattle.stock_machine.specs.Own.{Own}
+use Rattle.stock_machine.specs.StockRows.{StockRows}
 use Rattle.stock_machine.proofs.Keyed.{live_keyed, len_keyed}
 use Rattle.stock_machine.proofs.Owned.{held_insert}
 use Rattle.stock_machine.proofs.rows.RowsStore.add_order.Goals as goal
@@ -19,7 +19,7 @@ add-requires-clause-new g c =
     ∙ ap (λ (o : Option OrderRow). option_map (order_under c.args.reference) o) (sym (live_keyed i.locate c.args.reference i.book) ∙ (rw (here, ← c.self.view_is) at c.requires.new))
 
 pub add-requires-clause-few : goal.add-requires-clause-few
-add-requires-clause-few g c = omega (arith, len_keyed c.self.inside.locate c.self.inside.book, ap (λ (o : Own). maps.len o.world.orders) c.self.view_is, c.requires.room.orders)
+add-requires-clause-few g c = omega (arith, len_keyed c.self.inside.locate c.self.inside.book, ap (λ (o : StockRows). maps.len o.world.orders) c.self.view_is, c.requires.room.orders)
 
 pub returns-clause-ok : goal.returns-clause-ok
 returns-clause-ok g c =

@@ -2,7 +2,7 @@ use Rattle.std.proofs.Common.{ap, length, arith}
 use Rattle.itch_table.specs.declared.outcome.Outcome.{Outcome}
 use Rattle.itch_table.specs.World.{World}
 use Rattle.itch_table.proofs.Counts.{count, step_few}
-use Rattle.stock_machine.specs.Own.{StockMachine}
+use Rattle.stock_machine.specs.StockRows.{StockMachine}
 use Rattle.stock_machine.proofs.stock.Stock.step.Goals as goal
 
 pub invariant_of-self-2 : goal.invariant_of-self-2

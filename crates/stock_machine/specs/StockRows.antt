@@ -11,7 +11,7 @@ use Rattle.itch_table.specs.declared.trades.TradeRow.{TradeRow}
 use Rattle.order_book.specs.Orders.{Orders}
 
 -- a stock's locate code, and its rows of the world
-pub record Own : Type 0 where
+pub record StockRows : Type 0 where
   pub locate : ℕ
   pub world : World
 
@@ -25,8 +25,8 @@ stocks_of locate None = maps.empty
 stocks_of locate (Some row) = maps.insert maps.empty locate row
 
 -- the rows that a stock's orders, its trades and what is known of it stand for
-abbrev pub own : ℕ → Orders → List (ℕ × TradeRow) → Option StockRow → Own
-own locate orders trades known = record {
+abbrev pub stock_rows : ℕ → Orders → List (ℕ × TradeRow) → Option StockRow → StockRows
+stock_rows locate orders trades known = record {
   locate = locate;
   world = record {
     orders = keyed locate orders;
@@ -37,11 +37,11 @@ own locate orders trades known = record {
 }
 
 -- the rows of the one stock
-abbrev pub held_by_one : Own → Held
+abbrev pub held_by_one : StockRows → Held
 held_by_one o = one_stock o.locate o.world
 
 -- there may be an order and a trade more
-pub record HasRoom (w : World) : Type 0 where
+pub record HasRoomForRows (w : World) : Type 0 where
   pub orders : maps.len w.orders < 2 ^ 32 - 1
   pub trades : length w.trades < 2 ^ 32 - 1
 
