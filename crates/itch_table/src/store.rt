@@ -37,10 +37,11 @@ pub trait Store {
         requires { Holds (held self.now) locate }
         ensures { result ≡ list_any (is_unbroken locate match_no) (held self.now).world.trades };
 
-    /// Sets the last event, which the rows of all stocks alone have.
+    /// Sets the last event among the rows of all stocks. Those of one stock have none, and stay.
     fn set_event(&mut self, event: u8)
-        requires { (held self.old).own ≡ None }
-        ensures { held self.new ≡ on_world (λ w. record w { event = Some event }) (held self.old) };
+        ensures all { (held self.old).own ≡ None →
+            held self.new ≡ on_world (λ w. record w { event = Some event }) (held self.old) }
+        ensures one { IsSome (held self.old).own → held self.new ≡ held self.old };
 
     /// Sets what is known of a stock, which may need a new row among those of all stocks.
     fn set_stock(&mut self, locate: u16, row: StockRow) -> Result<(), AllocError>

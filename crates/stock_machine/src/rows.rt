@@ -149,9 +149,7 @@ impl<A: Allocator + Copy> Store for Rows<A> {
         has_unbroken(&self.trades, locate, match_no)
     }
 
-    fn set_event(&mut self, _event: u8) {
-        unreachable!();
-    }
+    fn set_event(&mut self, _event: u8) {}
 
     fn set_stock(&mut self, _locate: u16, row: StockRow) -> Result<(), AllocError> {
         self.known = Some(row);
