@@ -26,7 +26,7 @@ fn keep_digits<A: Allocator>(input: &mut Vec<u8, A>)
 ///
 /// `BadHex` where what is left isn't an even number of hexadecimal digits; `Memory` where memory was refused, which
 /// says nothing of the input.
-#[tactic(auto, using(crate::proofs::HexDigits::fails_at_digits))]
+#[tactic(auto, using(crate::proofs::DigitPairs::fails_at_digits))]
 pub(crate) fn decode_digits<A: Allocator + Copy>(
     alloc: A,
     input: Vec<u8, A>,

@@ -3,9 +3,25 @@ use Rattle.std.specs.Prelude.{ℕ, ◌+◌, ◌==◌, ◌&&◌, ◌||◌, leb, B
 use Rattle.std.specs.List.{list_all}
 use Rattle.itch_layouts.specs.Layouts.{Field, Form, Integer, Alpha, Layout, fields}
 
+-- bytes by name
+abbrev small_a : ℕ
+small_a = 97
+
+abbrev small_z : ℕ
+small_z = 122
+
+abbrev digit_0 : ℕ
+digit_0 = 48
+
+abbrev digit_9 : ℕ
+digit_9 = 57
+
+abbrev underscore : ℕ
+underscore = 95
+
 -- whether it is a small letter, a digit or an underscore
 abbrev pub is_word_byte : ℕ → Bool
-is_word_byte b = (leb 97 b && leb b 122) || (leb 48 b && leb b 57) || (b == 95)
+is_word_byte b = (leb small_a b && leb b small_z) || (leb digit_0 b && leb b digit_9) || (b == underscore)
 
 -- whether there is a byte, and each is one of a word
 abbrev pub is_word : List ℕ → Bool

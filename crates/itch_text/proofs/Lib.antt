@@ -6,7 +6,7 @@ pub mod FirstLine
 pub mod Widths
 pub mod Numerals
 pub mod Escapes
-pub mod Prefixes
+pub mod AfterPrefixes
 pub mod FieldBytes
 pub mod MessageBytes
 pub mod HexLines

@@ -46,7 +46,7 @@ fn read_value(field: &Field, text: &[u8]) -> Option<ParsedValue>
 }
 
 // The value of a word in a field: the field's name, `=`, and the text of the value.
-#[tactic(auto, using(crate::proofs::Prefixes::naming))]
+#[tactic(auto, using(crate::proofs::AfterPrefixes::naming))]
 fn read_field(field: &Field, word: &[u8]) -> Option<ParsedValue>
     requires { IsTrue (is_sound_field (as_field field.now)) }
     ensures value { option_map (as_value field.now.width) result ≡ field_in (as_field field.now) word.now }

@@ -1,4 +1,4 @@
-use Rattle.itch_text.proofs.Prefixes.{stripped_by}
+use Rattle.itch_text.proofs.AfterPrefixes.{stripped_by}
 use Rattle.itch_text.proofs.fields.after_prefix.Goals as goal
 
 pub returns : goal.returns
