@@ -4,7 +4,7 @@ use itch_table::{Level, Order, Outcome, Plain, Side};
 use refusing::{Refusal, Refusing};
 use std::alloc::{AllocError, Allocator};
 use std::test::Fail;
-use support::{AAPL, Known, Ticker, known_of, payload_of, same, same_list, take};
+use support::{AAPL, GROWING, Growing, Known, Ticker, known_of, payload_of, same, same_list, take};
 
 // All that a machine knows of the stock of locate code 1, and all lists that it makes.
 #[derive(Drop)]
@@ -77,50 +77,6 @@ fn growths_of<'h, A: Allocator + Copy>(
     Err(Fail::new("a step takes four growths at most"))
 }
 
-// A kind of message that may need a new row.
-#[derive(Debug, Clone, Copy, PartialEq, Eq)]
-enum Kind {
-    Directory,
-    Add,
-    AddMpid,
-    Execute,
-    ExecutePrice,
-    Replace,
-    Trade,
-    Cross,
-}
-
-const KINDS: [Kind; 8] = [
-    Kind::Directory,
-    Kind::Add,
-    Kind::AddMpid,
-    Kind::Execute,
-    Kind::ExecutePrice,
-    Kind::Replace,
-    Kind::Trade,
-    Kind::Cross,
-];
-
-// The message of a kind that adds row `number`. The executions are of order 1, and the replacements of an order with
-// the row's number.
-fn message_of(kind: Kind, number: u8) -> Msg {
-    let reference = u64::from(number);
-    match kind {
-        Kind::Directory => Ticker {
-            locate: u16::from(number),
-            ..AAPL
-        }
-        .directory(),
-        Kind::Add => AAPL.add(reference, b'B', 10, 100),
-        Kind::AddMpid => AAPL.add_mpid(reference, b'S', 10, 200),
-        Kind::Execute => AAPL.execute(1, 0, reference),
-        Kind::ExecutePrice => AAPL.execute_price(1, 0, reference, b'Y', 5),
-        Kind::Replace => AAPL.replace(reference, 1_000 + reference, 10, 300),
-        Kind::Trade => AAPL.trade(b'B', 1, 1, reference),
-        Kind::Cross => AAPL.cross(1, 1, reference),
-    }
-}
-
 // Hands a machine a message with memory, which is applied.
 fn apply<'h, A: Allocator + Copy>(
     heap: &'h Refusing<A>,
@@ -132,45 +88,61 @@ fn apply<'h, A: Allocator + Copy>(
     take("a message with memory", machine, &payload, Outcome::Applied)
 }
 
-// Adds row `number` of a kind, and answers how many growths there are.
-fn add_row<'h, A: Allocator + Copy>(
+// Hands a machine message `number` of a kind, and answers how many growths there are.
+fn grow<'h, A: Allocator + Copy>(
     heap: &'h Refusing<A>,
     machine: &mut Plain<&'h Refusing<A>>,
-    kind: Kind,
+    kind: Growing,
     number: u8,
 ) -> Result<u64, Fail> {
-    if kind == Kind::Replace {
+    if kind == Growing::Replace {
         apply(heap, machine, &AAPL.add(u64::from(number), b'B', 10, 100))?;
     }
-    let payload = payload_of(heap, &message_of(kind, number))?;
+    let payload = payload_of(heap, &kind.message(number))?;
     growths_of(heap, machine, &payload)
 }
 
-// Adds rows of a kind to a machine with order 1, and answers how many growths there are.
-fn add_rows<A: Allocator + Copy>(heap: &Refusing<A>, kind: Kind) -> Result<u64, Fail> {
+// Hands 99 messages of a kind to a machine with order 1, and answers how many growths there are.
+fn grow_by<A: Allocator + Copy>(heap: &Refusing<A>, kind: Growing) -> Result<u64, Fail> {
     let mut machine = Plain::new(heap);
     apply(heap, &mut machine, &AAPL.directory())?;
     apply(heap, &mut machine, &AAPL.add(1, b'B', 10, 100))?;
     let mut growths = 0u64;
     for number in 2..=100 {
-        growths = growths.saturating_add(add_row(heap, &mut machine, kind, number)?);
+        growths = growths.saturating_add(grow(heap, &mut machine, kind, number)?);
     }
     Ok(growths)
 }
 
-// Some of 99 rows need memory, and some find room.
+// Hands the directory messages of 100 stocks to a machine, and answers how many growths there are.
+fn grow_by_stocks<A: Allocator + Copy>(heap: &Refusing<A>) -> Result<u64, Fail> {
+    let mut machine = Plain::new(heap);
+    let mut growths = 0u64;
+    for locate in 1..=100 {
+        let payload = payload_of(heap, &Ticker { locate, ..AAPL }.directory())?;
+        growths = growths.saturating_add(growths_of(heap, &mut machine, &payload)?);
+    }
+    Ok(growths)
+}
+
+// Some of 99 messages need memory, and some find room.
 #[test]
 fn a_step_without_memory_changes_nothing(rt: HostRuntime) -> Result<(), Fail> {
     let heap = Refusing::new(rt.alloc(), Refusal::Never);
-    for kind in KINDS {
-        let growths = add_rows(&heap, kind)?;
+    for kind in GROWING {
+        let growths = grow_by(&heap, kind)?;
         same(
-            "how many rows needed memory",
+            "how many messages needed memory",
             &(kind, growths > 0 && growths < 99),
             &(kind, true),
         )?;
     }
-    Ok(())
+    let growths = grow_by_stocks(&heap)?;
+    same(
+        "how many stocks needed memory",
+        &(growths > 0 && growths < 100),
+        &true,
+    )
 }
 
 // How long each list of the stock of locate code 1 is: its bids, its orders and all locate codes.

@@ -6,6 +6,7 @@
 
 mod comparing;
 mod devices;
+mod growing;
 mod machine;
 mod messages;
 mod script;
@@ -13,6 +14,7 @@ mod worked;
 
 pub use comparing::{same, same_bytes, same_list};
 pub use devices::{Failure, Narrow, Pieces};
+pub use growing::{GROWING, Growing};
 pub use machine::{Known, known_of, take};
 pub use messages::{AAPL, MSFT, Ticker, head, payload_of, system};
 pub use script::{Line, follow};
