@@ -1,41 +1,78 @@
 -- The moments of a stock, one message on.
-use Rattle.std.proofs.Common.{◌≡◌, ℕ, ◌+◌, ◌-◌, ◌<◌, Bool, true, false, cond, List, [], ◌∷◌, ◌++◌, length, drop, get_or, refl, ap, sym, ◌∙◌, arith}
+use Rattle.std.proofs.Common.{◌≡◌, ◌≢◌, ℕ, ◌+◌, ◌-◌, ◌<◌, ◌≤◌, Bool, true, false, cond, List, [], ◌∷◌, ◌++◌, length, drop, get_or, refl, ap, sym, ◌∙◌, arith}
 use Rattle.std.proofs.lemmas.List.{append-nil, drop_more, length-drop}
 use Rattle.std.proofs.lemmas.List.FromFn.{filter_of_map_range_with_len_more}
+use Rattle.itch_table.specs.declared.outcome.Outcome.{Outcome}
+use Rattle.itch_table.specs.declared.outcome.Part.TheVariants.{Locate}
+use Rattle.itch_table.specs.declared.order.Order.{Order}
 use Rattle.itch_table.specs.declared.order.Top.{Top}
 use Rattle.itch_table.specs.After.{after}
 use Rattle.itch_table.specs.Levels.{top}
 use Rattle.itch_table.specs.Parts.{part}
+use Rattle.itch_table.specs.Projection.{only, is_of_stock, StepsAreOwn, OthersStay}
+use Rattle.itch_table.specs.Shows.{top_after}
+use Rattle.itch_table.specs.Table.{step}
 use Rattle.itch_table.specs.World.{World, orders_of}
+use Rattle.itch_table.proofs.Days.{after-next}
 use Rattle.uses.specs.declared.moments.Moment.{Moment}
-use Rattle.uses.specs.Tops.{is_part, is_own, moment, tops_until}
+use Rattle.uses.specs.Tops.{is_own, moment, tops_until}
 
--- the payload that a day goes on with is that of the next message
-here : (day rest : List (List ℕ)) (n : ℕ) (payload : List ℕ) → drop n day ≡ payload ∷ rest → get_or day (n + 1 - 1) [] ≡ payload
-here day rest n payload goes_on =
-    let within : n < length day = omega (arith, ap length goes_on, length-drop n day) in
-    let next : get_or day n [] ∷ drop (n + 1) day ≡ payload ∷ rest = sym (drop_more day n [] within) ∙ goes_on in
-    let is : get_or day n [] ≡ payload = cc in
-    let same : n + 1 - 1 ≡ n = omega arith in
-    ap (λ (k : ℕ). get_or day k []) same ∙ is
+-- where a day goes on with a payload after n messages
+module _ (day rest : List (List ℕ)) (n : ℕ) (payload : List ℕ) (goes_on : drop n day ≡ payload ∷ rest) where
+  here_within : n < length day
+  here_within = omega (arith, ap length goes_on, length-drop n day)
 
--- the next message is a moment where it is of the stock
-next-moment : (day rest : List (List ℕ)) (locate n : ℕ) (payload : List ℕ) (own : Bool) → drop n day ≡ payload ∷ rest → is_part locate (part payload) ≡ own
-    → tops_until day locate (n + 1) ≡ tops_until day locate n ++ cond own (moment day locate (n + 1) ∷ []) []
-next-moment day rest locate n payload own goes_on is =
-    let seam : 1 + n ≡ n + 1 = omega arith in
-    filter_of_map_range_with_len_more (is_own day locate) (moment day locate) 1 n (n + 1) seam
-    ∙ ap (λ (b : Bool). tops_until day locate n ++ cond b (moment day locate (n + 1) ∷ []) []) (ap (λ (p : List ℕ). is_part locate (part p)) (here day rest n payload goes_on) ∙ is)
+  pub one_more : n + 1 ≤ length day
+  one_more = omega (arith, here_within)
 
-pub next-is : (day rest : List (List ℕ)) (locate n : ℕ) (payload : List ℕ) → drop n day ≡ payload ∷ rest → is_part locate (part payload) ≡ true
-    → tops_until day locate (n + 1) ≡ tops_until day locate n ++ moment day locate (n + 1) ∷ []
-next-is day rest locate n payload goes_on is = next-moment day rest locate n payload true goes_on is
+  next : get_or day n [] ∷ drop (n + 1) day ≡ payload ∷ rest
+  next = sym (drop_more day n [] here_within) ∙ goes_on
 
-pub next-is-not : (day rest : List (List ℕ)) (locate n : ℕ) (payload : List ℕ) → drop n day ≡ payload ∷ rest → is_part locate (part payload) ≡ false
-    → tops_until day locate (n + 1) ≡ tops_until day locate n
-next-is-not day rest locate n payload goes_on is = next-moment day rest locate n payload false goes_on is ∙ append-nil (tops_until day locate n)
+  pub left_then : rest ≡ drop (n + 1) day
+  left_then = let e = next in cc
+
+  here : get_or day n [] ≡ payload
+  here = let e = next in cc
+
+  -- the next message is a moment where it is of the stock
+  next-moment : (locate : ℕ) (own : Bool) → is_of_stock locate payload ≡ own
+      → tops_until day locate (n + 1) ≡ tops_until day locate n ++ cond own (moment day locate (n + 1) ∷ []) []
+  next-moment locate own is =
+      let seam : 1 + n ≡ n + 1 = omega arith in
+      let same : n + 1 - 1 ≡ n = omega arith in
+      let at : get_or day (n + 1 - 1) [] ≡ payload = ap (λ (k : ℕ). get_or day k []) same ∙ here in
+      filter_of_map_range_with_len_more (is_own day locate) (moment day locate) 1 n (n + 1) seam
+      ∙ ap (λ (b : Bool). tops_until day locate n ++ cond b (moment day locate (n + 1) ∷ []) []) (ap (λ (p : List ℕ). is_of_stock locate p) at ∙ is)
+
+  pub next-is : (locate : ℕ) → is_of_stock locate payload ≡ true
+      → tops_until day locate (n + 1) ≡ tops_until day locate n ++ moment day locate (n + 1) ∷ []
+  next-is locate is = next-moment locate true is
+
+  pub next-is-not : (locate : ℕ) → is_of_stock locate payload ≡ false → tops_until day locate (n + 1) ≡ tops_until day locate n
+  next-is-not locate is = next-moment locate false is ∙ append-nil (tops_until day locate n)
+
+  -- the rows of a machine of one stock, after a message of this stock
+  pub own_rows : (locate : ℕ) (world new : World) (found : Outcome) → StepsAreOwn → part payload ≡ Locate locate
+      → world ≡ only locate (after day n) → (found, new) ≡ step world payload → new ≡ only locate (after day (n + 1))
+  own_rows locate world new found own is stands took =
+      ap (λ (r : Outcome × World). r.1) (took ∙ ap (λ (w : World). step w payload) stands ∙ own (after day n) payload locate is)
+      ∙ ap (λ (p : List ℕ). only locate (step (after day n) p).1) (sym here)
+      ∙ ap (only locate) (sym (after-next day n))
+
+  -- and after another one
+  pub other_rows : (locate : ℕ) (world : World) → OthersStay → part payload ≢ Locate locate
+      → world ≡ only locate (after day n) → world ≡ only locate (after day (n + 1))
+  other_rows locate world others is stands =
+      stands ∙ sym (others (after day n) payload locate is)
+      ∙ ap (λ (p : List ℕ). only locate (step (after day n) p).1) (sym here)
+      ∙ ap (only locate) (sym (after-next day n))
 
 -- what the machine shows after message n is the moment of message n
-pub moment-is : (day : List (List ℕ)) (locate n message : ℕ) (shown : Top) (world : World) → message ≡ n → shown ≡ top (orders_of world locate) → world ≡ after day n
-    → record { message = message; top = shown } ≡ moment day locate n
-moment-is day locate n message shown world counted is stands = rw counted (rw is (rw stands refl))
+pub moment-is : (day : List (List ℕ)) (locate n : ℕ) (shown : Top) (world : World)
+    → ((w : World) (l : ℕ) → orders_of (only l w) l ≡ orders_of w l) → world ≡ only locate (after day n) → shown ≡ top (orders_of world locate)
+    → record { message = n; top = shown } ≡ moment day locate n
+unfolding top_after
+moment-is day locate n shown world suffice stands is =
+    ap (λ (t : Top). record { message = n; top = t }) (
+    is ∙ ap (λ (w : World). top (orders_of w locate)) stands ∙ ap (λ (orders : List Order). top orders) (suffice (after day n) locate)
+    )

@@ -1,26 +1,17 @@
 -- The top of one stock after each of its messages.
-use Rattle.std.specs.Prelude.{ℕ, ◌==◌, ◌-◌, Bool, false, List, [], length, map, filter, slice_index_or}
+use Rattle.std.specs.Prelude.{ℕ, Bool, List, length, map, filter}
 use Rattle.std.specs.List.{range_with_len}
-use Rattle.itch_table.specs.After.{after}
-use Rattle.itch_table.specs.Levels.{top}
-use Rattle.itch_table.specs.Parts.{part}
-use Rattle.itch_table.specs.World.{orders_of}
-use Rattle.itch_table.specs.declared.outcome.Part.{Part}
-use Rattle.itch_table.specs.declared.outcome.Part.TheVariants.{Locate, Nowhere}
+use Rattle.itch_table.specs.Projection.{is_of_stock, payload_at}
+use Rattle.itch_table.specs.Shows.{top_after}
 use Rattle.uses.specs.declared.moments.Moment.{Moment}
-
--- whether a part is the stock of a locate code
-abbrev pub is_part : ℕ → Part → Bool
-is_part locate (Locate code) = code == locate
-is_part locate (Nowhere outcome) = false
 
 -- the stock's top after message n of the day
 abbrev pub moment : List (List ℕ) → ℕ → ℕ → Moment
-moment day locate n = record { message = n; top = top (orders_of (after day n) locate) }
+moment day locate n = record { message = n; top = top_after day locate n }
 
 -- whether the message of a moment is of the stock
 abbrev pub is_own : List (List ℕ) → ℕ → Moment → Bool
-is_own day locate at = is_part locate (part (slice_index_or day (at.message - 1) []))
+is_own day locate at = is_of_stock locate (payload_at day at.message)
 
 -- the moments of the stock among the first n messages
 abbrev pub tops_until : List (List ℕ) → ℕ → ℕ → List Moment

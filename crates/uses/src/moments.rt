@@ -1,11 +1,12 @@
 //! The top of one stock's book after each of its messages.
 ghost use Rattle.std.specs.Prelude.{◌≡◌, IfOk};
-ghost use Rattle.itch_table.specs.Parts.{part};
-ghost use Rattle.uses.specs.Tops.{is_part, tops_of};
+ghost use Rattle.itch_table.specs.Projection.{is_of_stock};
+ghost use Rattle.uses.specs.Tops.{tops_of};
 
 use binaryfile::Day;
-use itch_table::{Part, Plain, Top, part};
+use itch_table::{Part, Top, own_rows_suffice, part, stocks_are_independent};
 use std::alloc::{AllocError, Allocator};
+use stock_machine::Stock;
 
 /// The best bid and ask of a stock after one of its messages.
 #[derive(Debug, Clone, Copy, PartialEq, Eq)]
@@ -18,7 +19,7 @@ pub struct Moment {
 
 // Whether a payload is of the stock of a locate code.
 fn is_of_stock(payload: &[u8], locate: u16) -> bool
-    ensures { result ≡ is_part locate (part payload.now) }
+    ensures { result ≡ is_of_stock locate payload.now }
 {
     match part(payload) {
         Part::Locate(code) => code == locate,
@@ -28,8 +29,8 @@ fn is_of_stock(payload: &[u8], locate: u16) -> bool
 
 /// The top of a stock after each of its messages, in the order of the day.
 ///
-/// A machine steps through the whole day, since it refuses messages by what came before. An error says that memory was
-/// refused.
+/// A machine takes the messages of this stock alone, since no other message changes its rows. An error says that memory
+/// was refused.
 pub fn tops<A: Allocator + Copy>(
     alloc: A,
     day: &Day<A>,
@@ -38,14 +39,19 @@ pub fn tops<A: Allocator + Copy>(
     // Each moment is the top of the table's world after that message.
     ensures { IfOk result (λ tops. tops.items ≡ tops_of day.now.payloads locate) }
 {
-    let mut plain = Plain::new(alloc);
+    // Laws that the proof cites: they do nothing.
+    stocks_are_independent();
+    own_rows_suffice();
+    let mut stock = Stock::new(alloc, locate);
     let mut tops = Vec::new(alloc);
+    let mut message = 0;
     for payload in day.payloads() {
-        plain.step(payload)?;
+        message += 1;
         if is_of_stock(payload, locate) {
+            stock.step(payload)?;
             tops.push(Moment {
-                message: plain.steps(),
-                top: plain.top(locate),
+                message,
+                top: stock.top(),
             })?;
         }
     }

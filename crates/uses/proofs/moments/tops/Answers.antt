@@ -1,60 +1,72 @@
-use Rattle.std.proofs.Common.{◌≡◌, ℕ, ◌+◌, ◌≤◌, List, [], ◌∷◌, ◌++◌, drop, length, ap, sym, ◌∙◌, arith}
+use Rattle.std.proofs.Common.{◌≡◌, ◌≢◌, ℕ, ◌+◌, ◌≤◌, List, [], ◌∷◌, ◌++◌, drop, length, ap, sym, ◌∙◌, arith}
 use Rattle.std.proofs.lemmas.List.{length-drop}
-use Rattle.itch_table.specs.World.{World}
-use Rattle.itch_table.specs.Table.{step}
+use Rattle.itch_table.specs.declared.outcome.Part.TheVariants.{Locate}
 use Rattle.itch_table.specs.After.{after}
-use Rattle.itch_table.proofs.Days.{Stepped, stepped, after-none}
+use Rattle.itch_table.specs.Parts.{part}
+use Rattle.itch_table.specs.Projection.{only}
+use Rattle.itch_table.specs.Levels.{top}
+use Rattle.itch_table.specs.World.{orders_of}
+use Rattle.itch_table.proofs.Days.{after-none}
+use Rattle.itch_table.proofs.StockDays.{only-empty, other_part, own_part}
 use Rattle.uses.specs.declared.moments.Moment.{Moment}
 use Rattle.uses.specs.Tops.{tops_until, moment}
-use Rattle.uses.proofs.NextMoment.{next-is, next-is-not, moment-is}
+use Rattle.uses.proofs.NextMoment.{left_then, moment-is, next-is, next-is-not, one_more, other_rows, own_rows}
 use Rattle.uses.proofs.moments.tops.Goals as goal
 
 pub loop-payload-init : goal.loop-payload-init
 loop-payload-init g c =
-    rw c.new-plain.ensures.steps (record {
+    record {
       within = omega arith;
       left = c.into_iter-payload-iterator.ensures.into_iter_gives ∙ c.payloads-payload-items.ensures.payloads;
       tops = c.new-tops.ensures.items;
-      world = c.new-plain.ensures.world ∙ sym (after-none c.args.day.now.payloads);
-    })
+      locate = c.new-stock.ensures.locate;
+      world = c.new-stock.ensures.world ∙ sym (only-empty c.args.locate) ∙ ap (only c.args.locate) (sym (after-none c.args.day.now.payloads));
+      steps = omega (arith, c.new-stock.ensures.steps);
+    }
 
 pub loop-payload-preserved-in-Continue-branch-2 : goal.loop-payload-preserved-in-Continue-branch-2
 loop-payload-preserved-in-Continue-branch-2 g c =
     let day = c.args.day.now.payloads in
+    let locate = c.args.locate in
     let before = c.loop-payload.invariant in
-    let n : ℕ = c.loop-payload.plain.steps in
-    let goes_on : drop n day ≡ c.in-Some.payload.now ∷ c.next.new.self = sym before.left ∙ (c.in-Some.ensures {u = tt}).steps in
+    let n : ℕ = c.loop-payload.message in
+    let payload = c.in-Some.payload.now in
+    let goes_on : drop n day ≡ payload ∷ c.next.new.self = sym before.left ∙ (c.in-Some.ensures {u = tt}).steps in
+    let is_own = sym c.is_of_stock.ensures ∙ c.if-is_of_stock.true in
     let took = c.in_ok-step.ensures {u = tt} in
-    let gives : (c.in_ok-step.field-0, c.step.new.self.world) ≡ step (after day n) c.in-Some.payload.now = took.ok ∙ ap (λ (w : World). step w c.in-Some.payload.now) before.world in
-    let on : Stepped day n c.next.new.self c.in_ok-step.field-0 c.step.new.self.world = stepped day n c.in-Some.payload.now c.next.new.self _ _ goes_on gives in
-    let pushed = c.in_ok-push.ensures {u = tt} in
-    let shown = moment-is day c.args.locate (n + 1) _ _ _ (c.steps.ensures ∙ took.steps) c.top.ensures on.worlds in
-    rw took.steps (record {
-      within = omega (arith, on.within);
-      left = on.left;
+    let world = own_rows day c.next.new.self n payload goes_on locate _ _ _ c.stocks_are_independent.ensures.own (own_part locate (part payload) is_own) before.world took.ok in
+    let stays : c.step.new.self.locate ≡ locate = c.step.ensures.locate ∙ before.locate in
+    let shown = moment-is day locate (n + 1) _ _ c.own_rows_suffice.ensures.orders world (c.top.ensures ∙ ap (λ (l : ℕ). top (orders_of c.step.new.self.world l)) stays) in
+    record {
+      within = one_more day c.next.new.self n payload goes_on;
+      left = left_then day c.next.new.self n payload goes_on;
       tops =
-          pushed.items
+          (c.in_ok-push.ensures {u = tt}).items
           ∙ ap (λ (m : Moment). c.loop-payload.tops.items ++ m ∷ []) shown
-          ∙ ap (λ (ms : List Moment). ms ++ moment day c.args.locate (n + 1) ∷ []) before.tops
-          ∙ sym (next-is day c.next.new.self c.args.locate n c.in-Some.payload.now goes_on (sym c.is_of_stock.ensures ∙ c.if-is_of_stock.true));
-      world = on.worlds;
-    })
+          ∙ ap (λ (ms : List Moment). ms ++ moment day locate (n + 1) ∷ []) before.tops
+          ∙ sym (next-is day c.next.new.self n payload goes_on locate is_own);
+      locate = stays;
+      world = world;
+      steps = omega (arith, took.steps, before.steps);
+    }
 
 pub loop-payload-preserved : goal.loop-payload-preserved
 loop-payload-preserved g c =
     let day = c.args.day.now.payloads in
+    let locate = c.args.locate in
     let before = c.loop-payload.invariant in
-    let n : ℕ = c.loop-payload.plain.steps in
-    let goes_on : drop n day ≡ c.in-Some.payload.now ∷ c.next.new.self = sym before.left ∙ (c.in-Some.ensures {u = tt}).steps in
-    let took = c.in_ok-step.ensures {u = tt} in
-    let gives : (c.in_ok-step.field-0, c.step.new.self.world) ≡ step (after day n) c.in-Some.payload.now = took.ok ∙ ap (λ (w : World). step w c.in-Some.payload.now) before.world in
-    let on : Stepped day n c.next.new.self c.in_ok-step.field-0 c.step.new.self.world = stepped day n c.in-Some.payload.now c.next.new.self _ _ goes_on gives in
-    rw took.steps (record {
-      within = omega (arith, on.within);
-      left = on.left;
-      tops = before.tops ∙ sym (next-is-not day c.next.new.self c.args.locate n c.in-Some.payload.now goes_on (sym c.is_of_stock.ensures ∙ c.if-is_of_stock.false));
-      world = on.worlds;
-    })
+    let n : ℕ = c.loop-payload.message in
+    let payload = c.in-Some.payload.now in
+    let goes_on : drop n day ≡ payload ∷ c.next.new.self = sym before.left ∙ (c.in-Some.ensures {u = tt}).steps in
+    let is_other = sym c.is_of_stock.ensures ∙ c.if-is_of_stock.false in
+    record {
+      within = one_more day c.next.new.self n payload goes_on;
+      left = left_then day c.next.new.self n payload goes_on;
+      tops = before.tops ∙ sym (next-is-not day c.next.new.self n payload goes_on locate is_other);
+      locate = before.locate;
+      world = other_rows day c.next.new.self n payload goes_on locate _ c.stocks_are_independent.ensures.others (other_part locate (part payload) is_other) before.world;
+      steps = omega (arith, before.steps);
+    }
 
 -- no payload is left after as many as there are
 all_of : (day rest : List (List ℕ)) (n : ℕ) → n ≤ length day → rest ≡ drop n day → rest ≡ [] → n ≡ length day
