@@ -1,12 +1,15 @@
 -- Orders that live, and what becomes of one that shares come off.
-use Rattle.std.proofs.Common.{◌≡◌, ℕ, ◌-◌, ◌≤◌, ◌==◌, Bool, true, false, Option, Some, None, refl, ap, ◌∙◌, arith}
+use Rattle.std.proofs.Common.{◌≡◌, ℕ, ◌-◌, ◌≤◌, ◌==◌, Bool, true, false, Option, Some, None, cond, refl, ap, ◌∙◌, arith}
 use Rattle.std.specs.Prelude.{if◌then◌else◌}
 use Rattle.std.specs.Option.{option_map, unwrap_or, IsSome, IsSomeAnd}
+use Rattle.std.specs.Ordering.{eq_by_cmp, nat_cmp}
+use Rattle.std.specs.Cmp.{nat_cmp_total}
 use Rattle.std.specs.FinMap as maps
+use Rattle.std.specs.FinMap.{get-insert, nat_cmp-IsAntisymmetric}
 use Rattle.std.proofs.lemmas.Bool.Decides.{nat_tests}
-use Rattle.itch_table.specs.Table.{no_order}
 use Rattle.itch_table.specs.declared.order.OrderRow.{OrderRow}
-use Rattle.order_book.specs.Orders.{Orders, reduced_by, order_in, reduced}
+use Rattle.itch_table.proofs.MapViews.{apart_by_get}
+use Rattle.order_book.specs.Orders.{Orders, reduced_by}
 
 pub some_of : {X Y : Type 0} (f : X → Y) (o : Option X) → IsSome (option_map f o) → IsSome o
 some_of f None some = some
@@ -23,19 +26,28 @@ none_of f (Some x) none = absurd (some_none none)
     some_none : Some (f x) ≡ None → ⊥
     some_none e = cc
 
-module _ (orders : Orders) (reference shares : ℕ) (row : OrderRow) (there : maps.get orders reference ≡ Some row) where
-  pub enough_in : IsSomeAnd (order_in orders reference) (λ order. shares ≤ order.shares) → shares ≤ row.shares
-  enough_in enough = rw there at enough
+pub and_of : {X Y : Type 0} (f : X → Y) (o : Option X) (P : Y → Type 0) → IsSomeAnd (option_map f o) P → IsSomeAnd o (λ x. P (f x))
+and_of f None P some = some
+and_of f (Some x) P some = some
 
-  row_reduced : (b : Bool) → (row.shares == shares) ≡ b → reduced orders reference shares
+module _ (orders : Orders) (reference : ℕ) (row : OrderRow) (shares : ℕ) where
+  reduced_if : (b : Bool) → (row.shares == shares) ≡ b → reduced_by orders reference row shares
       ≡ (if b then maps.remove orders reference else maps.insert orders reference (record row { shares = row.shares - shares }))
-  row_reduced b is =
-      ap (λ (o : Option OrderRow). reduced_by orders reference (unwrap_or o no_order) shares) there
-      ∙ ap (λ (b : Bool). if b then maps.remove orders reference else maps.insert orders reference (record row { shares = row.shares - shares })) is
+  reduced_if b is =
+      ap (λ (b : Bool). if b then maps.remove orders reference else maps.insert orders reference (record row { shares = row.shares - shares })) is
 
   pub reduced_part : (row.shares ≡ shares → ⊥)
-      → reduced orders reference shares ≡ maps.insert orders reference (record row { shares = row.shares - shares })
-  reduced_part apart = row_reduced false (grind (arith, nat_tests))
+      → reduced_by orders reference row shares ≡ maps.insert orders reference (record row { shares = row.shares - shares })
+  reduced_part apart = reduced_if false (grind (arith, nat_tests))
 
-  pub reduced_whole : row.shares ≡ shares → reduced orders reference shares ≡ maps.remove orders reference
-  reduced_whole same = row_reduced true (grind (arith, nat_tests))
+  pub reduced_whole : row.shares ≡ shares → reduced_by orders reference row shares ≡ maps.remove orders reference
+  reduced_whole same = reduced_if true (grind (arith, nat_tests))
+
+-- a reference that is live is another than one that isn't, and stays live where that one comes
+module _ (orders : Orders) (old new : ℕ) (row : OrderRow) (there : maps.get orders old ≡ Some row) (free : maps.get orders new ≡ None) where
+  pub apart_from_live : eq_by_cmp nat_cmp old new ≡ false
+  apart_from_live = apart_by_get nat_cmp_total nat_cmp-IsAntisymmetric orders old new row there free
+
+  pub still_live : (placed : OrderRow) → maps.get (maps.insert orders new placed) old ≡ Some row
+  still_live placed =
+      get-insert nat_cmp_total orders new placed old ∙ ap (λ b. cond b (Some placed) (maps.get orders old)) apart_from_live ∙ there

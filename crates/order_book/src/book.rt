@@ -1,16 +1,19 @@
 //! The book of one stock.
 ghost use Rattle.std.specs.Prelude.{◌≡◌, ◌-◌, ◌<◌, ◌≤◌, ◌^◌, Some, None, length, IfOk, OnOk, OnErr, IsSome, IsSomeAnd};
 ghost use Rattle.std.specs.FinMap as maps;
-ghost use Rattle.itch_table.specs.Levels.{best, levels, shares_at, top};
+ghost use Rattle.itch_table.specs.Levels.{levels, shares_at, top};
 ghost use Rattle.order_book.specs.Orders.{order_in, orders_in, reduced, replaced, added};
 
-use crate::rows::{copied, listed, shares_among};
-use itch_table::{Level, Order, OrderRow, Side, Top, best_with, levels_of};
+use crate::levels::Levels;
+use crate::rows::{copied, listed, reduce_row};
+use itch_table::{Level, Order, OrderRow, Side, Top};
 use std::alloc::{AllocError, Allocator};
 use std::collections::BTreeMap;
 use std::marker::Model;
 
 /// The live orders of one stock, each under its reference, and the levels that they make.
+///
+/// The levels are kept beside the orders, so that no call but [`Book::orders`] and [`Book::copy`] walks all orders.
 ///
 /// What the calls do is of Nasdaq TotalView-ITCH 5.0, "Add Order Message" and "Modify Order Messages"; levels are of
 /// this project. A book refuses nothing: its caller sees by [`Book::order`] that a reference is live, or isn't. Prices
@@ -28,6 +31,7 @@ use std::marker::Model;
 #[derive(Drop)]
 pub struct Book<A: Allocator> {
     orders: BTreeMap<u64, OrderRow, A>,
+    levels: Levels<A>,
 }
 
 impl<A: Allocator> Model for Book<A> {
@@ -37,6 +41,7 @@ impl<A: Allocator> Model for Book<A> {
     ghost use Rattle.std.specs.FinMap as maps;
     ghost use Rattle.std.specs.Ordering.{nat_cmp};
     ghost use Rattle.itch_table.specs.contracts.order.OrderRow as order_row;
+    ghost use Rattle.order_book.specs.Kept.{AreKept};
     ghost use Rattle.order_book.specs.Orders.{Orders};
 
     ghost Value = { Orders };
@@ -45,8 +50,10 @@ impl<A: Allocator> Model for Book<A> {
 
     ghost view = { λ b. maps.from_entries b.orders.entries };
 
-    // So a `u32` counts the orders, and the shares of a level fit a `u64`.
-    ghost invariant = { λ b. btree_map_len b.orders < 2 ^ 32 };
+    // The orders are few enough that a `u32` counts them, and that the shares of a level fit a `u64`.
+    ghost invariant = {
+        λ b. (btree_map_len b.orders < 2 ^ 32) × AreKept (maps.from_entries b.orders.entries) b.levels
+    };
 }
 
 impl<A: Allocator + Copy> Book<A> {
@@ -56,6 +63,7 @@ impl<A: Allocator + Copy> Book<A> {
     {
         Book {
             orders: BTreeMap::new(alloc),
+            levels: Levels::new(alloc),
         }
     }
 
@@ -91,7 +99,9 @@ impl<A: Allocator + Copy> Book<A> {
         ensures ok { OnOk result (self.new ≡ added self.old order) }
         ensures err { OnErr result (self.new ≡ self.old) }
     {
+        self.levels.reserve(order.side)?;
         self.orders.insert(order.reference, order.row())?;
+        self.levels.raise(order.side, order.price, order.shares);
         Ok(())
     }
 
@@ -112,8 +122,11 @@ impl<A: Allocator + Copy> Book<A> {
             price,
             ..row
         };
+        self.levels.reserve(row.side)?;
         self.orders.insert(new, placed)?;
         self.orders.remove(&old);
+        self.levels.raise(row.side, price, shares);
+        self.levels.lower(row.side, row.price, row.shares);
         Ok(())
     }
 
@@ -122,12 +135,8 @@ impl<A: Allocator + Copy> Book<A> {
         requires { IsSomeAnd (order_in self.old reference) (λ order. shares ≤ order.shares) }
         ensures { self.new ≡ reduced self.old reference shares }
     {
-        let row = self.orders.get_mut(&reference).unwrap();
-        if row.shares == shares {
-            self.orders.remove(&reference);
-        } else {
-            row.shares -= shares;
-        }
+        let row = reduce_row(&mut self.orders, reference, shares);
+        self.levels.lower(row.side, row.price, shares);
     }
 
     /// Removes a live order, and answers what it was.
@@ -137,6 +146,7 @@ impl<A: Allocator + Copy> Book<A> {
         ensures gone { self.new ≡ maps.remove self.old reference }
     {
         let row = self.orders.remove(&reference).unwrap();
+        self.levels.lower(row.side, row.price, row.shares);
         row.under(reference)
     }
 
@@ -144,36 +154,21 @@ impl<A: Allocator + Copy> Book<A> {
     pub fn level(&self, side: Side, price: u32) -> u64
         ensures { result ≡ shares_at (orders_in self.now) side price }
     {
-        shares_among(&self.orders, side, price)
-    }
-
-    // The best level of a side, or zeros.
-    fn best(&self, side: Side) -> Level
-        ensures { result ≡ best (orders_in self.now) side }
-    {
-        let mut best = Level {
-            price: 0,
-            shares: 0,
-        };
-        for (reference, row) in &self.orders {
-            best = best_with(best, side, &row.under(*reference));
-        }
-        best
+        self.levels.shares(side, price)
     }
 
     /// The best bid and the best ask, with the shares there; zeros where a side is empty.
     pub fn top(&self) -> Top
         ensures { result ≡ top (orders_in self.now) }
     {
-        Top::of(self.best(Side::Buy), self.best(Side::Sell))
+        Top::of(self.levels.best(Side::Buy), self.levels.best(Side::Sell))
     }
 
     /// A side's levels: bids by falling price, asks by rising price. An error says that memory was refused.
     pub fn levels(&self, alloc: A, side: Side) -> Result<Vec<Level, A>, AllocError>
         ensures { IfOk result (λ list. list.items ≡ levels (orders_in self.now) side) }
     {
-        let orders = self.orders(alloc)?;
-        levels_of(alloc, &orders, side)
+        self.levels.list(alloc, side)
     }
 
     /// The live orders, by rising reference. An error says that memory was refused.
@@ -191,6 +186,7 @@ impl<A: Allocator + Copy> Book<A> {
     {
         Ok(Book {
             orders: copied(alloc, &self.orders)?,
+            levels: self.levels.copy(alloc)?,
         })
     }
 }

@@ -2,6 +2,8 @@
 #![tactic(auto)]
 
 mod book;
+mod ladder;
+mod levels;
 mod rows;
 
 pub use book::Book;

@@ -1,11 +1,12 @@
 //! What the order rows of a book amount to.
-ghost use Rattle.std.specs.Prelude.{◌≡◌, ◌<◌, ◌^◌, ◌==◌, ◌&&◌, sum, map, filter, IfOk};
-ghost use Rattle.std.specs.BTreeMap.{btree_map_len, values, IsOrdered};
+ghost use Rattle.std.specs.Prelude.{◌≡◌, ◌≤◌, Some, map, IfOk, IsSomeAnd};
+ghost use Rattle.std.specs.BTreeMap.{btree_map_len, get, IsOrdered};
+ghost use Rattle.std.specs.FinMap as maps;
 ghost use Rattle.std.specs.Ordering.{nat_cmp};
-ghost use Rattle.itch_table.specs.Levels.{same_side};
 ghost use Rattle.itch_table.specs.World.{order_under};
+ghost use Rattle.order_book.specs.Orders.{reduced_by};
 
-use itch_table::{Order, OrderRow, Side};
+use itch_table::{Order, OrderRow};
 use std::alloc::{AllocError, Allocator};
 use std::collections::BTreeMap;
 
@@ -22,21 +23,26 @@ pub fn listed<A: Allocator + Copy>(
         .collect(alloc)
 }
 
-/// The shares of the rows at a side and a price.
-pub fn shares_among<A: Allocator + Copy>(
-    rows: &BTreeMap<u64, OrderRow, A>,
-    side: Side,
-    price: u32,
-) -> u64
-    requires { btree_map_len rows.now < 2 ^ 32 }
-    ensures sum { result ≡ sum (map (λ row. row.shares) (filter
-        (λ row. same_side row.side side && (row.price == price)) (values rows.now))) }
-    ensures ordered { IsOrdered nat_cmp rows.now }
+/// Takes shares off the row under a reference, which is gone where none are left: the row as it was.
+pub fn reduce_row<A: Allocator + Copy>(
+    rows: &mut BTreeMap<u64, OrderRow, A>,
+    reference: u64,
+    shares: u32,
+) -> OrderRow
+    requires { IsSomeAnd (get nat_cmp rows.old reference) (λ row. shares ≤ row.shares) }
+    ensures row { get nat_cmp rows.old reference ≡ Some result }
+    ensures left { maps.from_entries rows.new.entries ≡
+        reduced_by (maps.from_entries rows.old.entries) reference result shares }
+    ensures len { btree_map_len rows.new ≤ btree_map_len rows.old }
 {
-    rows.values()
-        .filter(|row| row.side == side && row.price == price)
-        .map(|row| u64::from(row.shares))
-        .sum()
+    let row = rows.get_mut(&reference).unwrap();
+    let before = *row;
+    if row.shares == shares {
+        rows.remove(&reference);
+    } else {
+        row.shares -= shares;
+    }
+    before
 }
 
 /// The same rows, in memory of `alloc`.

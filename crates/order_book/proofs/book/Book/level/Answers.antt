@@ -1,11 +1,8 @@
-use Rattle.std.proofs.Common.{List, ap, sym, ◌∙◌}
-use Rattle.itch_table.specs.Levels.{shares_at}
-use Rattle.itch_table.specs.declared.order.Order.{Order}
-use Rattle.order_book.proofs.RowViews.{list_rows, shares_of_rows}
+use Rattle.std.proofs.Common.{◌∙◌}
+use Rattle.order_book.proofs.Keeps.{shares_are}
 use Rattle.order_book.proofs.book.Book.level.Goals as goal
 
 pub returns : goal.returns
 returns g c =
-    let rows = c.self.inside.orders.entries in
-    c.shares_among.ensures.sum ∙ shares_of_rows c.args.side c.args.price rows
-    ∙ ap (λ (orders : List Order). shares_at orders c.args.side c.args.price) (sym (list_rows rows c.args.self.now c.self.view_is c.shares_among.ensures.ordered))
+    let kept = rw c.self.view_is at c.self.invariant.1 in
+    c.shares.ensures ∙ shares_are kept c.args.side c.args.price

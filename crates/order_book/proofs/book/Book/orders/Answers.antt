@@ -11,4 +11,4 @@ returns-clause-list g c =
 
 pub returns-clause-few : goal.returns-clause-few
 returns-clause-few g c =
-    few_orders c.self.inside.orders.entries c.args.self.now c.self.view_is c.listed.ensures.ordered c.self.invariant
+    few_orders c.self.inside.orders.entries c.args.self.now c.self.view_is c.listed.ensures.ordered c.self.invariant.0

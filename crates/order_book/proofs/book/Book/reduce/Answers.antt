@@ -1,50 +1,45 @@
-use Rattle.std.proofs.Common.{rules, ◌≡◌, ◌-◌, Some, ap, sym, ◌∙◌}
-use Rattle.std.specs.Option.{option_copied_mut}
-use Rattle.std.specs.FinMap as maps
-use Rattle.std.specs.FinMap.{from_entries}
-use Rattle.std.proofs.lemmas.Map.Steps.{set_value_same}
-use Rattle.itch_table.specs.declared.order.OrderRow.{OrderRow}
+use Rattle.std.proofs.Common.{◌≡◌, ◌≤◌, Option, ap, arith, subst, sym, ◌∙◌}
+use Rattle.std.specs.Option.{IsSomeAnd, unwrap_or}
+use Rattle.itch_table.specs.Table.{no_order}
 use Rattle.itch_table.specs.World.{order_under}
-use Rattle.order_book.specs.Orders.{order_in}
-use Rattle.order_book.proofs.Live.{enough_in, reduced_part, reduced_whole, some_and, some_of}
-use Rattle.order_book.proofs.RowViews.{Rows, get_row, row_at, with_row, without_row}
+use Rattle.itch_table.specs.declared.order.OrderRow.{OrderRow}
+use Rattle.order_book.specs.Orders.{Orders, reduced_by}
+use Rattle.order_book.proofs.Keeps.{kept_reduced, shares_among}
+use Rattle.order_book.proofs.Live.{and_of}
+use Rattle.order_book.proofs.RowViews.{get_row}
 use Rattle.order_book.proofs.book.Book.reduce.Goals as goal
 
-pub unwrap-row-requires : goal.unwrap-row-requires
-unwrap-row-requires g c =
+pub reduce_row-row-requires : goal.reduce_row-row-requires
+reduce_row-row-requires g c =
     let reference = c.args.reference in
-    let orders = c.args.self.now in
-    some_of (λ row. row.now) c.get_mut.result (
-    rw (c.get_mut.ensures.value, ← get_row c.self.inside.orders.entries orders c.self.view_is reference) (
-    some_of (order_under reference) (maps.get orders reference) (some_and (order_in orders reference) _ c.requires)
-    )
+    subst (λ (o : Option OrderRow). IsSomeAnd o (λ row. c.args.shares ≤ row.shares))
+    (get_row c.self.inside.orders.entries c.args.self.now c.self.view_is reference) (
+    and_of (order_under reference) _ (λ order. c.args.shares ≤ order.shares) c.requires
     )
 
-pub overflow_sub-row : goal.overflow_sub-row
-overflow_sub-row g c =
-    let there = sym c.get_mut.ensures.value ∙ ap option_copied_mut c.unwrap-row.ensures in
-    let is = get_row c.self.inside.orders.entries c.args.self.now c.self.view_is c.args.reference ∙ there in
-    enough_in c.args.self.now c.args.reference c.args.shares c.unwrap-row.result.now is c.requires
-
--- what was read, written back, leaves the rows as they were
-pub returns-then-row-shares : goal.returns-then-row-shares
-returns-then-row-shares g c =
-    let rows = c.self.inside.orders.entries in
-    let orders = c.args.self.now in
+pub lower-requires : goal.lower-requires
+lower-requires g c =
+    let kept = rw c.self.view_is at c.self.invariant.1 in
     let reference = c.args.reference in
-    let row = c.unwrap-row.result.now in
-    let there : row_at rows reference ≡ Some row = sym c.get_mut.ensures.value ∙ ap option_copied_mut c.unwrap-row.ensures in
-    let same = (c.get_mut.follows.holds row).0 ∙ set_value_same _ rows row there in
-    without_row (c.get_mut.follows.lender row).entries orders (ap (λ (rows : Rows). from_entries rows) same ∙ c.self.view_is) c.remove.new.self.entries reference c.remove.ensures.updates.0
-    ∙ sym (reduced_whole orders reference c.args.shares row (get_row rows orders c.self.view_is reference ∙ there) c.if-row-shares.true)
+    let row = c.reduce_row-row.result in
+    let there = get_row c.self.inside.orders.entries c.args.self.now c.self.view_is reference ∙ c.reduce_row-row.ensures.row in
+    let enough : c.args.shares ≤ row.shares = rw there at c.requires in
+    omega (arith, enough, shares_among kept reference row there)
 
-pub returns-else-row-shares : goal.returns-else-row-shares
-returns-else-row-shares g c =
-    let rows = c.self.inside.orders.entries in
-    let orders = c.args.self.now in
+pub invariant_of-self : goal.invariant_of-self
+invariant_of-self g c =
+    let kept = rw c.self.view_is at c.self.invariant.1 in
     let reference = c.args.reference in
-    let row = c.unwrap-row.result.now in
-    let left : OrderRow = record row { shares = row.shares - c.args.shares } in
-    let there : row_at rows reference ≡ Some row = sym c.get_mut.ensures.value ∙ ap option_copied_mut c.unwrap-row.ensures in
-    with_row rows orders c.self.view_is (c.get_mut.follows.lender left).entries reference left (((c.get_mut.follows.holds left).3 (search rules)).0)
-    ∙ sym (reduced_part orders reference c.args.shares row (get_row rows orders c.self.view_is reference ∙ there) c.if-row-shares.false)
+    let row = c.reduce_row-row.result in
+    let there = get_row c.self.inside.orders.entries c.args.self.now c.self.view_is reference ∙ c.reduce_row-row.ensures.row in
+    let enough : c.args.shares ≤ row.shares = rw there at c.requires in
+    (omega (arith, c.reduce_row-row.ensures.len, c.self.invariant.0),
+    rw (c.reduce_row-row.ensures.left, c.self.view_is) (kept_reduced kept reference row there c.args.shares enough c.lower.ensures))
+
+pub returns : goal.returns
+returns g c =
+    let reference = c.args.reference in
+    let there = get_row c.self.inside.orders.entries c.args.self.now c.self.view_is reference ∙ c.reduce_row-row.ensures.row in
+    c.reduce_row-row.ensures.left
+    ∙ ap (λ (o : Orders). reduced_by o reference c.reduce_row-row.result c.args.shares) c.self.view_is
+    ∙ ap (λ (o : Option OrderRow). reduced_by c.args.self.now reference (unwrap_or o no_order) c.args.shares) (sym there)
