@@ -1,5 +1,5 @@
 -- The levels that are kept stay those of the orders, from change to change.
-use Rattle.std.proofs.Common.{◌≡◌, ℕ, ◌+◌, ◌-◌, ◌*◌, ◌<◌, ◌≤◌, ◌^◌, ◌==◌, List, [], ◌∷◌, Option, Some, None, Bool, true, false, cond, length, map, refl, subst, ap, sym, ◌∙◌, arith}
+use Rattle.std.proofs.Common.{◌≡◌, ℕ, ◌+◌, ◌-◌, ◌<◌, ◌≤◌, ◌^◌, ◌==◌, List, [], ◌∷◌, Option, Some, None, Bool, true, false, cond, length, refl, subst, ap, sym, ◌∙◌, arith}
 use Rattle.std.specs.Prelude.{if◌then◌else◌}
 use Rattle.std.specs.Ordering.{eq_by_cmp, nat_cmp}
 use Rattle.std.specs.Cmp.{nat_cmp_total}
@@ -7,7 +7,7 @@ use Rattle.std.specs.Option.{IfSome, unwrap_or}
 use Rattle.std.specs.FinMap.{empty, entries, get, get-empty, get-insert, get-remove, insert, len, len-empty, len-entries, remove, same_map, nat_cmp-IsAntisymmetric}
 use Rattle.std.proofs.lemmas.Bool.Decides.{nat_tests}
 use Rattle.std.proofs.lemmas.Grind.{common_steps}
-use Rattle.itch_table.specs.Levels.{level_map, positive, same_side, share_at, shares_at}
+use Rattle.itch_table.specs.Levels.{level_map, positive, same_side, shares_at}
 use Rattle.itch_table.specs.declared.order.Order.{Order}
 use Rattle.itch_table.specs.declared.order.OrderRow.{OrderRow}
 use Rattle.itch_table.specs.declared.order.Side.{Side}
@@ -35,8 +35,15 @@ module _ (old new : List Order) (side : Side) (price shares : ℕ) where
   levels_raised : 1 ≤ shares → ((q : ℕ) → shares_at new side q ≡ (if price == q then shares else 0) + shares_at old side q)
       → level_map new side ≡ raised (level_map old side) price shares
   levels_raised some more = same_map nat_cmp_total nat_cmp-IsAntisymmetric _ _ (λ q.
-      grind (arith, common_steps, get_level_map new side q, get_level_map old side q, shares_of_levels old side price, raised_at q (shares_at new side q) some (more q),
-      get-insert nat_cmp_total (level_map old side) price (shares_on (level_map old side) price + shares) q))
+      grind (
+        arith,
+        common_steps,
+        get_level_map new side q,
+        get_level_map old side q,
+        shares_of_levels old side price,
+        raised_at q (shares_at new side q) some (more q),
+        get-insert nat_cmp_total (level_map old side) price (shares_on (level_map old side) price + shares) q,
+      ))
 
   lowered_at : (q all : ℕ) → (if price == q then shares else 0) + all ≡ shares_at old side q
       → positive all ≡ cond (eq_by_cmp nat_cmp q price) (positive (shares_at old side price - shares)) (positive (shares_at old side q))
@@ -116,9 +123,9 @@ module _ {orders : Orders} {old : BothSides} (kept : AreKept orders old) where
     unfolding share
     kept_insert none some fits changed = record {
       levels_are = λ s.
-        changed_levels row.side (λ levels. raised levels row.price row.shares) s changed
-        ∙ sym (raised_if (same_side row.side s) (orders_in orders) (orders_in (insert orders k row)) s row.price row.shares some
-        (λ q. shares-insert s q orders k row none));
+          changed_levels row.side (λ levels. raised levels row.price row.shares) s changed
+          ∙ sym (raised_if (same_side row.side s) (orders_in orders) (orders_in (insert orders k row)) s row.price row.shares some
+          (λ q. shares-insert s q orders k row none));
       shares_fit = fit_insert orders k row kept.shares_fit fits;
     }
 
@@ -127,9 +134,9 @@ module _ {orders : Orders} {old : BothSides} (kept : AreKept orders old) where
       unfolding share
       kept_remove changed = record {
         levels_are = λ s.
-          changed_levels row.side (λ levels. lowered levels row.price row.shares) s changed
-          ∙ sym (lowered_if (same_side row.side s) (orders_in orders) (orders_in (remove orders k)) s row.price row.shares
-          (λ q. shares-remove s q orders k row there));
+            changed_levels row.side (λ levels. lowered levels row.price row.shares) s changed
+            ∙ sym (lowered_if (same_side row.side s) (orders_in orders) (orders_in (remove orders k)) s row.price row.shares
+            (λ q. shares-remove s q orders k row there));
         shares_fit = fit_remove orders k kept.shares_fit;
       }
 
@@ -153,9 +160,9 @@ module _ {orders : Orders} {old : BothSides} (kept : AreKept orders old) where
           let left : OrderRow = record row { shares = row.shares - shares } in
           record {
             levels_are = λ s.
-              changed_levels row.side (λ levels. lowered levels row.price shares) s changed
-              ∙ sym (lowered_if (same_side row.side s) (orders_in orders) (orders_in (insert orders k left)) s row.price shares
-              (λ q. less (same_side row.side s) (row.price == q) row.shares shares _ _ enough (shares-update s q orders k row there left)));
+                changed_levels row.side (λ levels. lowered levels row.price shares) s changed
+                ∙ sym (lowered_if (same_side row.side s) (orders_in orders) (orders_in (insert orders k left)) s row.price shares
+                (λ q. less (same_side row.side s) (row.price == q) row.shares shares _ _ enough (shares-update s q orders k row there left)));
             shares_fit = fit_insert orders k left kept.shares_fit (let fits = row_fits in omega arith);
           }
         where

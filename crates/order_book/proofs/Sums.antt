@@ -1,5 +1,5 @@
 -- The shares at a price, summed over a book's orders, after one change of the orders.
-use Rattle.std.proofs.Common.{◌≡◌, ℕ, suc, ◌+◌, ◌*◌, ◌-◌, ◌<◌, ◌≤◌, ◌^◌, List, [], ◌∷◌, length, map, Option, Some, None, Bool, true, false, cond, refl, subst, ap, sym, ◌∙◌, arith}
+use Rattle.std.proofs.Common.{◌≡◌, ℕ, ◌+◌, ◌*◌, ◌-◌, ◌<◌, ◌≤◌, ◌^◌, [], ◌∷◌, length, map, Option, Some, None, Bool, true, false, cond, refl, subst, ap, sym, ◌∙◌, arith}
 use Rattle.std.specs.Prelude.{T}
 use Rattle.std.specs.declared.cmp.Ordering.{Ordering}
 use Rattle.std.specs.declared.cmp.Ordering.TheVariants.{Less, Equal, Greater}
@@ -11,7 +11,6 @@ use Rattle.std.specs.FinMap.Entries.{put, by_order, is_sorted, below_all}
 use Rattle.std.proofs.lemmas.Bool.Decides.{nat_tests}
 use Rattle.std.proofs.lemmas.Grind.{common_steps}
 use Rattle.std.proofs.lemmas.List.Sums.{sum_by-cons}
-use Rattle.itch_table.specs.declared.order.Order.{Order}
 use Rattle.itch_table.specs.declared.order.OrderRow.{OrderRow}
 use Rattle.itch_table.specs.declared.order.Side.{Side}
 use Rattle.itch_table.specs.Levels.{share_at, shares_at}
@@ -40,9 +39,9 @@ module _ (side : Side) (price : ℕ) where
         | Equal ↦ λ n. absurd (some_none n)
         | Greater ↦ λ n. omega (arith, total-put k row rows n, total-cons e rows, total-cons e (put nat_cmp k row rows))
       ] none
-      where
-        some_none : Some e.1 ≡ None → ⊥
-        some_none e = cc
+    where
+      some_none : Some e.1 ≡ None → ⊥
+      some_none e = cc
 
   module _ (orders : Orders) (k : ℕ) where
     pub shares-insert : (row : OrderRow) → get orders k ≡ None

@@ -51,9 +51,7 @@ impl<A: Allocator> Model for Book<A> {
     ghost view = { λ b. maps.from_entries b.orders.entries };
 
     // The orders are few enough that a `u32` counts them, and that the shares of a level fit a `u64`.
-    ghost invariant = {
-        λ b. (btree_map_len b.orders < 2 ^ 32) × AreKept (maps.from_entries b.orders.entries) b.levels
-    };
+    ghost invariant = { λ b. (btree_map_len b.orders < 2 ^ 32) × AreKept (maps.from_entries b.orders.entries) b.levels };
 }
 
 impl<A: Allocator + Copy> Book<A> {

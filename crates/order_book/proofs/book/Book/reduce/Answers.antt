@@ -1,4 +1,4 @@
-use Rattle.std.proofs.Common.{◌≡◌, ◌≤◌, Option, ap, arith, subst, sym, ◌∙◌}
+use Rattle.std.proofs.Common.{◌≤◌, Option, ap, arith, subst, sym, ◌∙◌}
 use Rattle.std.specs.Option.{IsSomeAnd, unwrap_or}
 use Rattle.itch_table.specs.Table.{no_order}
 use Rattle.itch_table.specs.World.{order_under}
@@ -32,9 +32,10 @@ invariant_of-self g c =
     let reference = c.args.reference in
     let row = c.reduce_row-row.result in
     let there = get_row c.self.inside.orders.entries c.args.self.now c.self.view_is reference ∙ c.reduce_row-row.ensures.row in
-    let enough : c.args.shares ≤ row.shares = rw there at c.requires in
-    (omega (arith, c.reduce_row-row.ensures.len, c.self.invariant.0),
-    rw (c.reduce_row-row.ensures.left, c.self.view_is) (kept_reduced kept reference row there c.args.shares enough c.lower.ensures))
+    let enough : c.args.shares ≤ row.shares = rw there at c.requires in (
+      omega (arith, c.reduce_row-row.ensures.len, c.self.invariant.0),
+      rw (c.reduce_row-row.ensures.left, c.self.view_is) (kept_reduced kept reference row there c.args.shares enough c.lower.ensures),
+    )
 
 pub returns : goal.returns
 returns g c =

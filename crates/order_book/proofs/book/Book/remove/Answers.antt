@@ -1,4 +1,4 @@
-use Rattle.std.proofs.Common.{◌≡◌, Some, ap, arith, sym, ◌∙◌}
+use Rattle.std.proofs.Common.{ap, arith, sym, ◌∙◌}
 use Rattle.std.specs.FinMap as maps
 use Rattle.std.specs.Option.{option_map}
 use Rattle.std.proofs.lemmas.Grind.{common_steps}
@@ -31,9 +31,10 @@ invariant_of-self g c =
     let orders = c.args.self.now in
     let reference = c.args.reference in
     let there = get_row rows orders c.self.view_is reference ∙ sym c.remove.ensures.value ∙ c.unwrap-row.ensures in
-    let gone = without_row rows orders c.self.view_is c.remove.new.self.entries reference c.remove.ensures.updates.0 in
-    (grind (arith, common_steps, c.remove.ensures.len, c.self.invariant.0),
-    rw gone (kept_remove kept reference c.unwrap-row.result there c.lower.ensures))
+    let gone = without_row rows orders c.self.view_is c.remove.new.self.entries reference c.remove.ensures.updates.0 in (
+      grind (arith, common_steps, c.remove.ensures.len, c.self.invariant.0),
+      rw gone (kept_remove kept reference c.unwrap-row.result there c.lower.ensures),
+    )
 
 pub returns-clause-order : goal.returns-clause-order
 returns-clause-order g c =

@@ -1,4 +1,4 @@
-use Rattle.std.proofs.Common.{◌≡◌, ◌<◌, ◌^◌, Option, Some, None, ap, arith, sym, ◌∙◌}
+use Rattle.std.proofs.Common.{◌≡◌, Option, Some, None, ap, arith, sym, ◌∙◌}
 use Rattle.std.specs.Cmp.{nat_cmp_total}
 use Rattle.std.specs.Option.{unwrap_or}
 use Rattle.std.specs.FinMap as maps
@@ -50,9 +50,10 @@ invariant_of-self-2 g c =
     let rows = c.self.inside.orders.entries in
     let was : row_at rows old ≡ Some row = sym (get_row rows orders c.self.view_is old) ∙ there in
     let came = with_row rows orders c.self.view_is c.insert.new.self.entries new placed c.in_ok-insert.ensures.updates.0 in
-    let went = without_row c.insert.new.self.entries (maps.insert orders new placed) came c.remove.new.self.entries old c.remove.ensures.updates.0 in
-    (grind (arith, common_steps, was, c.in_ok-insert.ensures.len, c.in_ok-insert.ensures.updates.0 old, c.remove.ensures.value, c.remove.ensures.len, c.self.invariant.0),
-    rw went (kept_remove raised old row (still_live orders old new row there free placed) c.lower.ensures))
+    let went = without_row c.insert.new.self.entries (maps.insert orders new placed) came c.remove.new.self.entries old c.remove.ensures.updates.0 in (
+      grind (arith, common_steps, was, c.in_ok-insert.ensures.len, c.in_ok-insert.ensures.updates.0 old, c.remove.ensures.value, c.remove.ensures.len, c.self.invariant.0),
+      rw went (kept_remove raised old row (still_live orders old new row there free placed) c.lower.ensures),
+    )
 
 pub returns-clause-ok : goal.returns-clause-ok
 returns-clause-ok g c =

@@ -1,4 +1,4 @@
-use Rattle.std.proofs.Common.{◌≡◌, ◌+◌, ◌<◌, ◌^◌, ap, arith, ◌∙◌}
+use Rattle.std.proofs.Common.{◌+◌, arith}
 use Rattle.order_book.proofs.LevelLists.{found_raised, in_order-insert, in_order-set, missing_raised, shares_found}
 use Rattle.order_book.proofs.ladder.Ladder.raise.Goals as goal
 

@@ -1,5 +1,4 @@
 use Rattle.std.proofs.Common.{sym}
-use Rattle.order_book.specs.Kept.{IsFound, IsGap}
 use Rattle.order_book.proofs.LevelLists.{shares_found, shares_missing}
 use Rattle.order_book.proofs.ladder.Ladder.shares.Goals as goal
 
