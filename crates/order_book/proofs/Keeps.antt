@@ -1,104 +1,19 @@
 -- The levels that are kept stay those of the orders, from change to change.
-use Rattle.std.proofs.Common.{◌≡◌, ℕ, ◌+◌, ◌-◌, ◌<◌, ◌≤◌, ◌^◌, ◌==◌, List, [], ◌∷◌, Option, Some, None, Bool, true, false, cond, length, refl, subst, ap, sym, ◌∙◌, arith}
+use Rattle.std.proofs.Common.{◌≡◌, ℕ, ◌+◌, ◌-◌, ◌<◌, ◌≤◌, ◌^◌, ◌==◌, [], Some, None, Bool, true, false, refl, subst, ap, sym, ◌∙◌, arith}
 use Rattle.std.specs.Prelude.{if◌then◌else◌}
-use Rattle.std.specs.Ordering.{eq_by_cmp, nat_cmp}
-use Rattle.std.specs.Cmp.{nat_cmp_total}
-use Rattle.std.specs.Option.{IfSome, unwrap_or}
-use Rattle.std.specs.FinMap.{empty, entries, get, get-empty, get-insert, get-remove, insert, len, len-empty, len-entries, remove, same_map, nat_cmp-IsAntisymmetric}
+use Rattle.std.specs.Ordering.{nat_cmp}
+use Rattle.std.specs.FinMap.{empty, entries, get, get-empty, insert, len, len-empty, len-entries, remove}
 use Rattle.std.proofs.lemmas.Bool.Decides.{nat_tests}
-use Rattle.std.proofs.lemmas.Grind.{common_steps}
-use Rattle.itch_table.specs.Levels.{level_map, positive, same_side, shares_at}
-use Rattle.itch_table.specs.declared.order.Order.{Order}
+use Rattle.std.proofs.lemmas.List.{nil_from_length}
+use Rattle.itch_table.specs.Levels.{level_map, same_side, shares_at}
 use Rattle.itch_table.specs.declared.order.OrderRow.{OrderRow}
 use Rattle.itch_table.specs.declared.order.Side.{Side}
 use Rattle.itch_table.specs.declared.order.Side.TheVariants.{Buy, Sell}
-use Rattle.itch_table.proofs.LevelSums.{get_level_map}
 use Rattle.order_book.specs.Orders.{Orders, orders_in, reduced_by}
-use Rattle.order_book.specs.Kept.{AreChanged, AreKept, BothSides, LevelMap, SameLevels, levels_on, lowered, raised, shares_on, with_shares}
-use Rattle.order_book.proofs.Sums.{shares_at-le, shares-insert, shares-remove, shares-update}
-
--- ---- the levels of two lists of orders, by what is found at each price
-
-unwrap_positive : (n : ℕ) → unwrap_or (positive n) 0 ≡ n
-unwrap_positive n = grind (arith, nat_tests)
-
--- the shares at a price in the levels of a side are those of the orders
-pub shares_of_levels : (orders : List Order) (side : Side) (price : ℕ) → shares_on (level_map orders side) price ≡ shares_at orders side price
-shares_of_levels orders side price =
-    ap (λ o. unwrap_or o 0) (get_level_map orders side price) ∙ unwrap_positive (shares_at orders side price)
-
-module _ (old new : List Order) (side : Side) (price shares : ℕ) where
-  raised_at : (q all : ℕ) → 1 ≤ shares → all ≡ (if price == q then shares else 0) + shares_at old side q
-      → positive all ≡ cond (eq_by_cmp nat_cmp q price) (Some (shares_at old side price + shares)) (positive (shares_at old side q))
-  raised_at q all some more = grind (arith, common_steps, nat_tests)
-
-  levels_raised : 1 ≤ shares → ((q : ℕ) → shares_at new side q ≡ (if price == q then shares else 0) + shares_at old side q)
-      → level_map new side ≡ raised (level_map old side) price shares
-  levels_raised some more = same_map nat_cmp_total nat_cmp-IsAntisymmetric _ _ (λ q.
-      grind (
-        arith,
-        common_steps,
-        get_level_map new side q,
-        get_level_map old side q,
-        shares_of_levels old side price,
-        raised_at q (shares_at new side q) some (more q),
-        get-insert nat_cmp_total (level_map old side) price (shares_on (level_map old side) price + shares) q,
-      ))
-
-  lowered_at : (q all : ℕ) → (if price == q then shares else 0) + all ≡ shares_at old side q
-      → positive all ≡ cond (eq_by_cmp nat_cmp q price) (positive (shares_at old side price - shares)) (positive (shares_at old side q))
-  lowered_at q all less = grind (arith, common_steps, nat_tests)
-
-  get-with_shares : (levels : LevelMap) (n q : ℕ) → get (with_shares levels price n) q ≡ cond (eq_by_cmp nat_cmp q price) (positive n) (get levels q)
-  get-with_shares levels n q = grind (arith, common_steps, nat_tests, get-insert nat_cmp_total levels price n q, get-remove nat_cmp_total levels price q)
-
-  levels_lowered : ((q : ℕ) → (if price == q then shares else 0) + shares_at new side q ≡ shares_at old side q)
-      → level_map new side ≡ lowered (level_map old side) price shares
-  levels_lowered less = same_map nat_cmp_total nat_cmp-IsAntisymmetric _ _ (λ q.
-      get_level_map new side q ∙ lowered_at q (shares_at new side q) (less q)
-      ∙ ap (λ n. cond (eq_by_cmp nat_cmp q price) (positive (n - shares)) (positive (shares_at old side q))) (sym (shares_of_levels old side price))
-      ∙ ap (cond (eq_by_cmp nat_cmp q price) _) (sym (get_level_map old side q))
-      ∙ sym (get-with_shares (level_map old side) (shares_on (level_map old side) price - shares) q))
-
-  levels_same : ((q : ℕ) → shares_at new side q ≡ shares_at old side q) → level_map new side ≡ level_map old side
-  levels_same same = same_map nat_cmp_total nat_cmp-IsAntisymmetric _ _ (λ q.
-      get_level_map new side q ∙ ap positive (same q) ∙ sym (get_level_map old side q))
-
--- what a change of one side's shares at a price makes of the levels of a side, which may be the other one
-share : Bool → ℕ → ℕ → ℕ → ℕ
-share same price shares q = if same then (if price == q then shares else 0) else 0
-
-raised_if : (same : Bool) (old new : List Order) (side : Side) (price shares : ℕ) → 1 ≤ shares
-    → ((q : ℕ) → shares_at new side q ≡ share same price shares q + shares_at old side q)
-    → level_map new side ≡ (if same then raised (level_map old side) price shares else level_map old side)
-unfolding share
-raised_if true old new side price shares some more = levels_raised old new side price shares some more
-raised_if false old new side price shares some more = levels_same old new side price shares (λ q. omega (arith, more q))
-
-lowered_if : (same : Bool) (old new : List Order) (side : Side) (price shares : ℕ)
-    → ((q : ℕ) → share same price shares q + shares_at new side q ≡ shares_at old side q)
-    → level_map new side ≡ (if same then lowered (level_map old side) price shares else level_map old side)
-unfolding share
-lowered_if true old new side price shares less = levels_lowered old new side price shares less
-lowered_if false old new side price shares less = levels_same old new side price shares (λ q. omega (arith, less q))
-
--- ---- a book's changes
-
-fit_insert : (orders : Orders) (k : ℕ) (row : OrderRow) → ((q : ℕ) → IfSome (get orders q) (λ row. row.shares < 2 ^ 32)) → row.shares < 2 ^ 32
-    → (q : ℕ) → IfSome (get (insert orders k row) q) (λ row. row.shares < 2 ^ 32)
-fit_insert orders k row fit fits q = rw (get-insert nat_cmp_total orders k row q) (by_test (eq_by_cmp nat_cmp q k))
-  where
-    by_test : (b : Bool) → IfSome (cond b (Some row) (get orders q)) (λ row. row.shares < 2 ^ 32)
-    by_test true = fits
-    by_test false = fit q
-
-fit_remove : (orders : Orders) (k : ℕ) → ((q : ℕ) → IfSome (get orders q) (λ row. row.shares < 2 ^ 32))
-    → (q : ℕ) → IfSome (get (remove orders k) q) (λ row. row.shares < 2 ^ 32)
-fit_remove orders k fit q = rw (get-remove nat_cmp_total orders k q) (by_test (eq_by_cmp nat_cmp q k))
-  where
-    by_test : (b : Bool) → IfSome (cond b None (get orders q)) (λ row. row.shares < 2 ^ 32)
-    by_test true = tt
-    by_test false = fit q
+use Rattle.order_book.specs.Kept.{AreChanged, AreKept, BothSides, LevelMap, SameLevels, levels_on, lowered, raised, shares_on}
+use Rattle.order_book.proofs.LevelChanges.{lowered_if, raised_if, shares_of_levels}
+use Rattle.order_book.proofs.SharesFit.{fit_insert, fit_remove, row_fits, shares_at-le}
+use Rattle.order_book.proofs.Sums.{shares-insert, shares-remove, shares-update}
 
 module _ {orders : Orders} {old : BothSides} (kept : AreKept orders old) where
   pub kept_same : {new : BothSides} → SameLevels old new → AreKept orders new
@@ -120,7 +35,6 @@ module _ {orders : Orders} {old : BothSides} (kept : AreKept orders old) where
   module _ (k : ℕ) (row : OrderRow) where
     pub kept_insert : {new : BothSides} → get orders k ≡ None → 1 ≤ row.shares → row.shares < 2 ^ 32
         → AreChanged old new row.side (λ levels. raised levels row.price row.shares) → AreKept (insert orders k row) new
-    unfolding share
     kept_insert none some fits changed = record {
       levels_are = λ s.
           changed_levels row.side (λ levels. raised levels row.price row.shares) s changed
@@ -131,7 +45,6 @@ module _ {orders : Orders} {old : BothSides} (kept : AreKept orders old) where
 
     module _ (there : get orders k ≡ Some row) where
       pub kept_remove : {new : BothSides} → AreChanged old new row.side (λ levels. lowered levels row.price row.shares) → AreKept (remove orders k) new
-      unfolding share
       kept_remove changed = record {
         levels_are = λ s.
             changed_levels row.side (λ levels. lowered levels row.price row.shares) s changed
@@ -150,12 +63,8 @@ module _ {orders : Orders} {old : BothSides} (kept : AreKept orders old) where
           own_side Buy = refl
           own_side Sell = refl
 
-      pub row_fits : row.shares < 2 ^ 32
-      row_fits = subst (λ (o : Option OrderRow). IfSome o (λ row. row.shares < 2 ^ 32)) there (kept.shares_fit k)
-
       kept_reduce : {new : BothSides} (shares : ℕ) → shares ≤ row.shares → AreChanged old new row.side (λ levels. lowered levels row.price shares)
           → AreKept (insert orders k (record row { shares = row.shares - shares })) new
-      unfolding share
       kept_reduce shares enough changed =
           let left : OrderRow = record row { shares = row.shares - shares } in
           record {
@@ -163,7 +72,7 @@ module _ {orders : Orders} {old : BothSides} (kept : AreKept orders old) where
                 changed_levels row.side (λ levels. lowered levels row.price shares) s changed
                 ∙ sym (lowered_if (same_side row.side s) (orders_in orders) (orders_in (insert orders k left)) s row.price shares
                 (λ q. less (same_side row.side s) (row.price == q) row.shares shares _ _ enough (shares-update s q orders k row there left)));
-            shares_fit = fit_insert orders k left kept.shares_fit (let fits = row_fits in omega arith);
+            shares_fit = fit_insert orders k left kept.shares_fit (omega (arith, row_fits orders k row kept.shares_fit there));
           }
         where
           less : (b c : Bool) (n m all have : ℕ) → m ≤ n
@@ -192,12 +101,8 @@ kept_empty both none = record {
   shares_fit = λ q. rw (get-empty {X = OrderRow} nat_cmp q) tt;
 }
   where
-    none_long : (es : List (ℕ × OrderRow)) → length es ≡ 0 → es ≡ []
-    none_long [] e = refl
-    none_long (e ∷ es) h = absurd (omega arith)
-
     no_entries : entries (empty {X = OrderRow} {R = nat_cmp}) ≡ []
-    no_entries = none_long _ (sym (len-entries (empty {X = OrderRow} {R = nat_cmp})) ∙ len-empty nat_cmp OrderRow)
+    no_entries = nil_from_length _ (sym (len-entries (empty {X = OrderRow} {R = nat_cmp})) ∙ len-empty nat_cmp OrderRow)
 
     no_levels : (side : Side) → level_map (orders_in empty) side ≡ empty
     no_levels side = rw no_entries refl

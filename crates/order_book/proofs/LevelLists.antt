@@ -1,7 +1,7 @@
 -- A side's levels in a list, and the same by their prices, before and after an edit of the list.
 use Rattle.std.proofs.Common.{◌≡◌, ℕ, suc, ◌+◌, ◌-◌, ◌<◌, ◌≤◌, ◌==◌, List, [], ◌∷◌, ◌++◌, take, drop, set, get_or, length, length-drop, map, None, Some, cond, true, false, refl, ap, sym, ◌∙◌, subst, arith}
 use Rattle.std.specs.declared.cmp.Ordering.{Ordering}
-use Rattle.std.specs.declared.cmp.Ordering.TheVariants.{Less, Equal, Greater}
+use Rattle.std.specs.declared.cmp.Ordering.TheVariants.{Less, Equal}
 use Rattle.std.specs.Ordering.{eq_by_cmp, is_lt, nat_cmp, ordering_index, ordering_reverse}
 use Rattle.std.specs.Cmp.{IsTotalOrder, nat_cmp_total}
 use Rattle.std.specs.Option.{unwrap_or}
@@ -22,7 +22,7 @@ use Rattle.std.proofs.lemmas.Map.Keys.{Less-from_sorted}
 use Rattle.itch_table.specs.declared.order.Level.{Level}
 use Rattle.itch_table.specs.declared.order.Side.{Side}
 use Rattle.itch_table.specs.declared.order.Side.TheVariants.{Buy, Sell}
-use Rattle.order_book.specs.Kept.{AreInOrder, IsFound, IsGap, LevelMap, by_price, lowered, price_cmp, raised, shares_on, with_shares}
+use Rattle.order_book.specs.Kept.{AreInOrder, IsBetter, IsFound, IsGap, IsWorse, LevelMap, by_price, lowered, price_cmp, raised, shares_on, with_shares}
 use Rattle.order_book.proofs.InOrder.{IsSplit, all_joined, all_weaker, sorted_with, split_at}
 use Rattle.order_book.proofs.Maps.{get_inserted, insert_again, remove_absent, remove_inserted}
 
@@ -201,11 +201,11 @@ module _ (side : Side) (levels : List Level) (price index : ℕ) (sorted : AreIn
   gap_split : (shares : ℕ) → IsSplit (side_cmp side) (take index levels) (record { price = price; shares = shares }) (drop index levels)
   gap_split shares = record {
     sorted = subst (AreInOrder side) (sym joined) sorted;
-    below = all_before (λ other. price_cmp side other.price price ≡ Less) levels index gap.1.0;
+    below = all_before (IsWorse side price) levels index gap.1.0;
     above =
-        all_weaker (λ other. price_cmp side other.price price ≡ Greater) (λ other. price_cmp side price other.price ≡ Less)
-        (λ other greater. (price_total side).antisymm price other.price ∙ ap ordering_reverse greater) (drop index levels)
-        (all_from (λ other. price_cmp side other.price price ≡ Greater) levels index gap.1.1);
+        all_weaker (IsBetter side price) (λ level. price_cmp side price level.price ≡ Less)
+        (λ level better. (price_total side).antisymm price level.price ∙ ap ordering_reverse better) (drop index levels)
+        (all_from (IsBetter side price) levels index gap.1.1);
   }
 
   none_there : maps.get (by_price levels) price ≡ None

@@ -15,10 +15,6 @@ pub some_of : {X Y : Type 0} (f : X → Y) (o : Option X) → IsSome (option_map
 some_of f None some = some
 some_of f (Some x) some = refl
 
-pub some_and : {X : Type 0} (o : Option X) (P : X → Type 0) → IsSomeAnd o P → IsSome o
-some_and None P some = absurd some
-some_and (Some x) P some = refl
-
 pub none_of : {X Y : Type 0} (f : X → Y) (o : Option X) → option_map f o ≡ None → o ≡ None
 none_of f None none = refl
 none_of f (Some x) none = absurd (some_none none)

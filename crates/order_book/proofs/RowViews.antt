@@ -1,6 +1,5 @@
 -- The rows of a tree map as a book's orders.
-use Rattle.std.proofs.Common.{◌≡◌, ℕ, ◌^◌, ◌<◌, ◌==◌, List, [], ◌∷◌, Option, Some, None, cond, length, map, refl, ap, sym, ◌∙◌, arith}
-use Rattle.std.specs.Prelude.{◌&&◌, filter, sum}
+use Rattle.std.proofs.Common.{◌≡◌, ℕ, ◌^◌, ◌<◌, List, Option, Some, None, cond, length, map, refl, ap, sym, ◌∙◌, arith}
 use Rattle.std.specs.Ordering.{eq_by_cmp, nat_cmp}
 use Rattle.std.specs.Cmp.{eq_by_cmp_equiv, nat_cmp_total}
 use Rattle.std.specs.Map.{keys_of, lookup, update_all}
@@ -9,17 +8,12 @@ use Rattle.std.specs.List.{IsDistinct}
 use Rattle.std.specs.List.Sorted.{IsStrictlySortedBy}
 use Rattle.std.specs.FinMap as maps
 use Rattle.std.specs.FinMap.{from_entries, nat_cmp-IsAntisymmetric}
-use Rattle.std.proofs.lemmas.Bool.Decides.{nat_tests}
-use Rattle.std.proofs.lemmas.Grind.{common_steps}
 use Rattle.std.proofs.lemmas.List.{length-map, map-id}
-use Rattle.std.proofs.lemmas.List.Sums.{sum_by-cons}
 use Rattle.std.proofs.lemmas.Map.Keys.{IsDistinct-from_sorted}
 use Rattle.std.proofs.lemmas.Map.Lookups.{btree_map_from_get, exact_unsigned}
 use Rattle.std.proofs.lemmas.Map.Made.{update_all_none}
 use Rattle.itch_table.specs.declared.order.Order.{Order}
 use Rattle.itch_table.specs.declared.order.OrderRow.{OrderRow}
-use Rattle.itch_table.specs.declared.order.Side.{Side}
-use Rattle.itch_table.specs.Levels.{same_side, share_at, shares_at}
 use Rattle.itch_table.specs.World.{order_under}
 use Rattle.itch_table.proofs.MapViews.{get_view, ordered_entries, view_insert, view_remove}
 use Rattle.order_book.specs.Orders.{Orders, orders_in}
@@ -67,14 +61,6 @@ module _ (rows : Rows) (orders : Orders) (view : from_entries rows ≡ orders) w
 
     pub few_orders : length rows < 2 ^ 32 → length (orders_in orders) < 2 ^ 32
     few_orders few = omega (arith, ap length list_rows, length-map rows under)
-
--- the shares at a side and a price, over the rows alone
-pub shares_of_rows : (side : Side) (price : ℕ) (rows : Rows)
-    → sum (map (λ row. row.shares) (filter (λ row. same_side row.side side && (row.price == price)) (map (λ e. e.1) rows)))
-    ≡ shares_at (map under rows) side price
-shares_of_rows side price [] = refl
-shares_of_rows side price (e ∷ rows) =
-    grind (arith, common_steps, nat_tests, shares_of_rows side price rows, sum_by-cons (share_at side price) (under e) (map under rows))
 
 -- all rows collected into a map are the same rows
 pub collected : (m n : BTreeMap ℕ OrderRow) → IsOrdered nat_cmp m → IsFromIterResult nat_cmp (map (λ e. (e.0, e.1)) m.entries) n

@@ -59,11 +59,16 @@ by_price levels = maps.from_entries (map (λ level. (level.price, level.shares))
 abbrev pub IsFound : List Level → ℕ → ℕ → Type 0
 IsFound levels price index = (index < length levels) × HoldsAt (λ level. level.price ≡ price) levels index
 
+abbrev pub IsWorse : Side → ℕ → Level → Type 0
+IsWorse side price level = price_cmp side level.price price ≡ Less
+
+abbrev pub IsBetter : Side → ℕ → Level → Type 0
+IsBetter side price level = price_cmp side level.price price ≡ Greater
+
 -- the levels before this index are worse than a price, and those from it on are better
 abbrev pub IsGap : Side → List Level → ℕ → ℕ → Type 0
 IsGap side levels price index =
-    (index ≤ length levels)
-    × IsPartitionPoint (λ level. price_cmp side level.price price ≡ Less) (λ level. price_cmp side level.price price ≡ Greater) levels index
+    (index ≤ length levels) × IsPartitionPoint (IsWorse side price) (IsBetter side price) levels index
 
 -- one side's levels, and for how many more there is room
 pub record SideLevels : Type 0 where
@@ -77,7 +82,7 @@ pub record BothSides : Type 0 where
   pub bids : SideLevels
   pub asks : SideLevels
 
--- those of one side
+-- the levels of one side
 abbrev pub on_side : BothSides → Side → SideLevels
 on_side both Buy = both.bids
 on_side both Sell = both.asks
@@ -99,7 +104,11 @@ AreChanged old new side change =
 
 -- ---- a book
 
--- the levels that are kept are those of the orders, whose shares fit 32 bits
+-- each order's shares fit 32 bits
+abbrev pub SharesFit : Orders → Type 0
+SharesFit orders = (reference : ℕ) → IfSome (maps.get orders reference) (λ row. row.shares < 2 ^ 32)
+
+-- the levels that are kept are those of the orders
 pub record AreKept (orders : Orders) (both : BothSides) : Type 0 where
   pub levels_are : (side : Side) → levels_on both side ≡ level_map (orders_in orders) side
-  pub shares_fit : (reference : ℕ) → IfSome (maps.get orders reference) (λ row. row.shares < 2 ^ 32)
+  pub shares_fit : SharesFit orders

@@ -23,7 +23,7 @@ pub fn listed<A: Allocator + Copy>(
         .collect(alloc)
 }
 
-/// Takes shares off the row under a reference, which is gone where none are left: the row as it was.
+/// Takes shares off a row that has at least so many, and answers the row as it was. A row with none left is gone.
 pub fn reduce_row<A: Allocator + Copy>(
     rows: &mut BTreeMap<u64, OrderRow, A>,
     reference: u64,
