@@ -1,8 +1,8 @@
 -- A book's orders under their locate code, looked up and changed.
 use Rattle.std.proofs.Common.{suc, ◌≡◌, ℕ, ◌==◌, ◌&&◌, List, [], ◌∷◌, map, length, Option, None, cond, Bool, true, false, refl, ap, sym, ◌∙◌, arith, subst}
 use Rattle.std.specs.Prelude.{T}
-use Rattle.std.specs.declared.cmp.Ordering.TheVariants.{Less, Equal, Greater}
-use Rattle.std.specs.Ordering.{is_eq, is_lt, eq_by_cmp, nat_cmp, ordering_then}
+use Rattle.std.specs.declared.cmp.Ordering.TheVariants.{Equal}
+use Rattle.std.specs.Ordering.{is_lt, eq_by_cmp, nat_cmp, ordering_then}
 use Rattle.std.specs.Cmp.{nat_cmp_total, eq_by_cmp_equiv}
 use Rattle.std.specs.FinMap.{entries, entries_sorted, find, get, get-entries, insert, remove, len, len-entries, get-from_sorted, entries-from_sorted, get-insert, get-remove, same_map}
 use Rattle.std.specs.FinMap.Entries.{is_sorted, below_all}
@@ -12,6 +12,8 @@ use Rattle.itch_table.specs.World.{key, key_cmp}
 use Rattle.itch_table.specs.declared.order.OrderKey.{OrderKey}
 use Rattle.itch_table.specs.declared.order.OrderRow.{OrderRow}
 use Rattle.itch_table.proofs.Keys.{key_total, key_exact}
+use Rattle.itch_table.proofs.MapViews.{tied}
+use Rattle.itch_table.proofs.OneStock.{same_code}
 use Rattle.order_book.specs.Orders.{Orders}
 use Rattle.stock_machine.specs.StockRows.{keyed}
 
@@ -20,10 +22,7 @@ abbrev pub at : ℕ → List (ℕ × OrderRow) → List (OrderKey × OrderRow)
 at locate rows = map (λ e. (key locate e.0, e.1)) rows
 
 self_equal : (n : ℕ) → nat_cmp n n ≡ Equal
-self_equal n = elim (nat_cmp n n) as (λ r. is_eq r ≡ true → r ≡ Equal) [ Less ↦ λ h. absurd (no h) | Equal ↦ λ h. refl | Greater ↦ λ h. absurd (no h) ] ((eq_by_cmp_equiv nat_cmp_total).refl n)
-  where
-    no : false ≡ true → ⊥
-    no e = cc
+self_equal n = tied nat_cmp n n ((eq_by_cmp_equiv nat_cmp_total).refl n)
 
 same_order : (l a b : ℕ) → key_cmp (key l a) (key l b) ≡ nat_cmp a b
 same_order l a b = ap (λ r. ordering_then r (nat_cmp a b)) (self_equal l)
@@ -59,12 +58,9 @@ find_at h l r (e ∷ es) = grind (arith, common_steps, same_key h l r e.0, find_
 pub get_keyed : (h l r : ℕ) (m : Orders) → get (keyed l m) (key h r) ≡ cond (h == l) (get m r) None
 get_keyed h l r m = get-from_sorted key_cmp (at l (entries m)) (key h r) (keyed_sorted l m) ∙ find_at h l r (entries m) ∙ ap (λ o. cond (h == l) o None) (sym (get-entries m r))
 
-pub is_self : (l : ℕ) → (l == l) ≡ true
-is_self l = grind (arith, nat_tests)
-
 -- what lives in the book lives under the locate code
 pub live_keyed : (l r : ℕ) (m : Orders) → get (keyed l m) (key l r) ≡ get m r
-live_keyed l r m = get_keyed l l r m ∙ ap (λ b. cond b (get m r) None) (is_self l)
+live_keyed l r m = get_keyed l l r m ∙ ap (λ b. cond b (get m r) None) (same_code l)
 
 pub keyed_insert : (l k : ℕ) (v : OrderRow) (m : Orders) → keyed l (insert m k v) ≡ insert (keyed l m) (key l k) v
 keyed_insert l k v m = same_map key_total key_exact _ _ (λ q.

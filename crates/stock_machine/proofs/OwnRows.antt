@@ -13,9 +13,10 @@ use Rattle.itch_table.specs.declared.order.OrderRow.{OrderRow}
 use Rattle.itch_table.specs.declared.status.StockRow.{StockRow}
 use Rattle.itch_table.specs.declared.trades.TradeRow.{TradeRow}
 use Rattle.itch_table.proofs.Keys.{key_total, key_exact}
+use Rattle.itch_table.proofs.OneStock.{same_code}
 use Rattle.order_book.specs.Orders.{Orders, order_in, orders_in}
 use Rattle.stock_machine.specs.StockRows.{stock_rows, keyed, stocks_of}
-use Rattle.stock_machine.proofs.Keyed.{at, entries_keyed, get_keyed, live_keyed, is_self}
+use Rattle.stock_machine.proofs.Keyed.{at, entries_keyed, get_keyed, live_keyed}
 
 pub stock_own : (l : ℕ) (known : Option StockRow) → get (stocks_of l known) l ≡ known
 stock_own l None = get-empty nat_cmp l
@@ -36,7 +37,7 @@ some_mapped f (Some x) some = refl
 -- all rows of the one stock are under its locate code
 listed_at : (l : ℕ) (rows : List (ℕ × OrderRow)) → map (λ e. order_of e.0 e.1) (filter (λ e. is_under l e.0) (at l rows)) ≡ map (λ e. order_under e.0 e.1) rows
 listed_at l [] = refl
-listed_at l (e ∷ rows) = rw (is_self l) (ap (λ orders. order_under e.0 e.1 ∷ orders) (listed_at l rows))
+listed_at l (e ∷ rows) = rw (same_code l) (ap (λ orders. order_under e.0 e.1 ∷ orders) (listed_at l rows))
 
 module _ (l : ℕ) (b : Orders) (ts : List (ℕ × TradeRow)) (known : Option StockRow) where
   pub orders_own : orders_of (stock_rows l b ts known).world l ≡ orders_in b
