@@ -25,9 +25,6 @@ less_by l k n b row w true e = ap (with_orders w) (keyed_remove l k b ∙ ap (λ
 less_by l k n b row w false e = ap (with_orders w) (keyed_insert l k _ b ∙ ap (λ (m : FinMap key_cmp OrderRow). insert m (key l k) (record row { shares = row.shares - n })) (sym e))
 
 module _ (l : ℕ) (b : Orders) (ts : List (ℕ × TradeRow)) (known : Option StockRow) where
-  world : World
-  world = (stock_rows l b ts known).world
-
   row_own : (k : ℕ) → order_row (stock_rows l b ts known).world l k ≡ row_in b k
   row_own k = ap (λ (o : Option OrderRow). unwrap_or o no_order) (live_keyed l k b)
 
