@@ -24,23 +24,13 @@ pub struct Plain<A: Allocator> {
 }
 
 impl<A: Allocator> Model for Plain<A> {
-    ghost use Rattle.std.specs.Coded.{codes, coded_ℕ};
-    ghost use Rattle.std.specs.FinMap as maps;
-    ghost use Rattle.std.specs.Ordering.{nat_cmp};
-    ghost use Rattle.itch_table.specs.World.{coded_key, key_cmp};
+    ghost use Rattle.std.specs.Coded.{codes};
+    ghost use Rattle.itch_table.specs.CodedWorld.{coded_world};
     ghost use Rattle.itch_table.specs.Machine.{Machine, IsWithin};
-    ghost use Rattle.itch_table.specs.contracts.order.OrderRow as order_row;
-    ghost use Rattle.itch_table.specs.contracts.status.StockRow as stock_row;
-    ghost use Rattle.itch_table.specs.contracts.trades.TradeRow as trade_row;
 
     ghost Value = { Machine };
 
-    ghost coded = { Prim.hlevel (
-      codes,
-      maps.code {R = key_cmp} coded_key order_row.the_row.coded,
-      maps.code {R = nat_cmp} coded_ℕ stock_row.the_row.coded,
-      trade_row.the_row.coded,
-    ) };
+    ghost coded = { Prim.hlevel (codes, coded_world) };
 
     ghost view = { λ p. record { world = p.rows; steps = p.steps } };
 
