@@ -28,4 +28,4 @@ pub use parts::part;
 pub use plain::Plain;
 pub use status::{Status, StockRow, Totals, Trading};
 pub use store::Store;
-pub use trades::{TradeRow, break_trades, has_unbroken, totals_under};
+pub use trades::TradeRow;

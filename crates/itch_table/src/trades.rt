@@ -1,7 +1,7 @@
 //! Trades, and the sums over them.
 ghost use Rattle.std.specs.Prelude.{◌≡◌, ◌+◌, ◌<◌, ◌^◌, ℕ, length, map};
 ghost use Rattle.std.specs.List.{list_any};
-ghost use Rattle.itch_table.specs.RunningTotals.{Within, HasRoom, plus_trade};
+ghost use Rattle.itch_table.specs.RunningTotals.{Within, HasRoom, Includes, plus_trade, totals_alone};
 ghost use Rattle.itch_table.specs.Trades.{broken_at, is_unbroken, totals_of, trades_under};
 
 use crate::status::Totals;
@@ -31,7 +31,7 @@ fn is_unbroken(row: &(u16, TradeRow), locate: u16, match_no: u64) -> bool
 }
 
 /// Whether a stock has an unbroken trade with this match number.
-pub fn has_unbroken(rows: &[(u16, TradeRow)], locate: u16, match_no: u64) -> bool
+pub(crate) fn has_unbroken(rows: &[(u16, TradeRow)], locate: u16, match_no: u64) -> bool
     ensures { result ≡ list_any (is_unbroken locate match_no) rows.now }
 {
     rows.iter().any(|row| is_unbroken(row, locate, match_no))
@@ -55,7 +55,7 @@ fn broken_row(row: (u16, TradeRow), locate: u16, match_no: u64) -> (u16, TradeRo
 }
 
 /// Breaks all trades of a stock with this match number.
-pub fn break_trades(rows: &mut [(u16, TradeRow)], locate: u16, match_no: u64)
+pub(crate) fn break_trades(rows: &mut [(u16, TradeRow)], locate: u16, match_no: u64)
     ensures { rows.new ≡ map (broken_at locate match_no) rows.old }
 {
     for row in rows.iter_mut() {
@@ -63,47 +63,79 @@ pub fn break_trades(rows: &mut [(u16, TradeRow)], locate: u16, match_no: u64)
     }
 }
 
-// The totals of no trades.
-const NO_TOTALS: Totals = Totals {
-    trades: 0,
-    shares: 0,
-    notional: 0,
-    unprinted: 0,
-};
-
-// The totals with one trade more.
-fn with_trade(totals: Totals, trade: &TradeRow) -> Totals
-    requires { HasRoom totals }
-    ensures plus { result ≡ plus_trade totals trade.now }
-    ensures within { (count : ℕ) → Within totals count → Within result (count + 1) }
-{
-    if trade.broken {
-        return totals;
-    }
-    let shares = u128::from(trade.shares);
-    if !trade.printed {
-        return Totals {
-            unprinted: totals.unprinted + shares,
-            ..totals
-        };
-    }
-    Totals {
-        trades: totals.trades + 1,
-        shares: totals.shares + shares,
-        notional: totals.notional + shares * u128::from(trade.price),
-        ..totals
+impl TradeRow {
+    // The totals of this trade alone.
+    fn totals(&self) -> Totals
+        ensures alone { result ≡ totals_alone self.now }
+        ensures within { Within result 1 }
+    {
+        let shares = u128::from(self.shares);
+        if self.broken {
+            Totals::NONE
+        } else if self.printed {
+            Totals {
+                trades: 1,
+                shares,
+                notional: shares * u128::from(self.price),
+                unprinted: 0,
+            }
+        } else {
+            Totals {
+                unprinted: shares,
+                ..Totals::NONE
+            }
+        }
     }
 }
 
-/// The totals of a stock's trades, in shares and in 1/10,000 of a currency unit, of fewer than 2^32 rows.
-pub fn totals_under(rows: &[(u16, TradeRow)], locate: u16) -> Totals
+impl Totals {
+    /// The totals of no trades.
+    pub const NONE: Totals = Totals {
+        trades: 0,
+        shares: 0,
+        notional: 0,
+        unprinted: 0,
+    };
+
+    /// The totals with one trade more, which adds nothing where it is broken.
+    pub fn with_trade(self, trade: &TradeRow) -> Totals
+        requires { HasRoom self }
+        ensures plus { result ≡ plus_trade self trade.now }
+        ensures within { (count : ℕ) → Within self count → Within result (count + 1) }
+    {
+        let alone = trade.totals();
+        Totals {
+            trades: self.trades + alone.trades,
+            shares: self.shares + alone.shares,
+            notional: self.notional + alone.notional,
+            unprinted: self.unprinted + alone.unprinted,
+        }
+    }
+
+    /// The totals without one of their trades: those that make these again with the trade.
+    pub fn without_trade(self, trade: &TradeRow) -> Totals
+        requires { Includes self trade.now }
+        ensures { plus_trade result trade.now ≡ self }
+    {
+        let alone = trade.totals();
+        Totals {
+            trades: self.trades - alone.trades,
+            shares: self.shares - alone.shares,
+            notional: self.notional - alone.notional,
+            unprinted: self.unprinted - alone.unprinted,
+        }
+    }
+}
+
+/// The totals of a stock's trades, of fewer than 2^32 rows.
+pub(crate) fn totals_under(rows: &[(u16, TradeRow)], locate: u16) -> Totals
     requires { length rows.now < 2 ^ 32 }
     ensures { result ≡ totals_of (trades_under locate rows.now) }
 {
-    let mut totals = NO_TOTALS;
+    let mut totals = Totals::NONE;
     for (under, trade) in rows {
         if *under == locate {
-            totals = with_trade(totals, trade);
+            totals = totals.with_trade(trade);
         }
     }
     totals

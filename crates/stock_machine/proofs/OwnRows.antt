@@ -39,7 +39,7 @@ listed_at : (l : ℕ) (rows : List (ℕ × OrderRow)) → map (λ e. order_of e.
 listed_at l [] = refl
 listed_at l (e ∷ rows) = rw (same_code l) (ap (λ orders. order_under e.0 e.1 ∷ orders) (listed_at l rows))
 
-module _ (l : ℕ) (b : Orders) (ts : List (ℕ × TradeRow)) (known : Option StockRow) where
+module _ (l : ℕ) (b : Orders) (ts : List TradeRow) (known : Option StockRow) where
   pub orders_own : orders_of (stock_rows l b ts known).world l ≡ orders_in b
   orders_own = ap (λ (rows : List (OrderKey × OrderRow)). map (λ e. order_of e.0 e.1) (filter (λ e. is_under l e.0) rows)) (entries_keyed l b) ∙ listed_at l (entries b)
 

@@ -1,18 +1,21 @@
 -- What each change of a part does to a stock's rows of the world.
-use Rattle.std.proofs.Common.{◌≡◌, ℕ, ◌-◌, ◌==◌, List, Option, Some, cond, Bool, true, false, refl, ap, sym, ◌∙◌}
+use Rattle.std.proofs.Common.{◌≡◌, ℕ, ◌-◌, ◌==◌, List, [], ◌∷◌, ◌++◌, map, Option, Some, cond, Bool, true, false, refl, ap, sym, ◌∙◌}
 use Rattle.std.specs.Option.{unwrap_or}
 use Rattle.std.specs.Ordering.{nat_cmp}
 use Rattle.std.specs.FinMap.{FinMap, insert, remove}
 use Rattle.itch_table.specs.World.{World, key, key_cmp}
 use Rattle.itch_table.specs.Held.{Held, one_stock, on_world}
-use Rattle.itch_table.specs.Table.{less_shares, order_row, with_order, without_order, with_replaced, with_stock, no_order}
+use Rattle.itch_table.specs.Table.{less_shares, order_row, with_order, without_order, with_replaced, with_stock, with_trade, no_order}
+use Rattle.itch_table.specs.Trades.{broken_at}
 use Rattle.itch_table.specs.declared.order.OrderRow.{OrderRow}
 use Rattle.itch_table.specs.declared.status.StockRow.{StockRow}
 use Rattle.itch_table.specs.declared.trades.TradeRow.{TradeRow}
 use Rattle.order_book.specs.Orders.{Orders, reduced_by, replaced, row_in}
-use Rattle.stock_machine.specs.StockRows.{stock_rows, held_by_one, keyed}
+use Rattle.stock_machine.specs.StockRows.{stock_rows, held_by_one, keyed, trades_at}
+use Rattle.stock_machine.specs.StockTrades.{broken_trade}
 use Rattle.stock_machine.proofs.Keyed.{live_keyed, keyed_insert, keyed_remove}
 use Rattle.stock_machine.proofs.OwnRows.{stock_set}
+use Rattle.stock_machine.proofs.TradesAt.{push_at, broken_trades_at}
 
 -- a world with other orders
 abbrev with_orders : World → FinMap key_cmp OrderRow → World
@@ -24,7 +27,7 @@ less_by : (l k n : ℕ) (b : Orders) (row : OrderRow) (w : World) (all : Bool) �
 less_by l k n b row w true e = ap (with_orders w) (keyed_remove l k b ∙ ap (λ (m : FinMap key_cmp OrderRow). remove m (key l k)) (sym e))
 less_by l k n b row w false e = ap (with_orders w) (keyed_insert l k _ b ∙ ap (λ (m : FinMap key_cmp OrderRow). insert m (key l k) (record row { shares = row.shares - n })) (sym e))
 
-module _ (l : ℕ) (b : Orders) (ts : List (ℕ × TradeRow)) (known : Option StockRow) where
+module _ (l : ℕ) (b : Orders) (ts : List TradeRow) (known : Option StockRow) where
   row_own : (k : ℕ) → order_row (stock_rows l b ts known).world l k ≡ row_in b k
   row_own k = ap (λ (o : Option OrderRow). unwrap_or o no_order) (live_keyed l k b)
 
@@ -53,6 +56,17 @@ module _ (l : ℕ) (b : Orders) (ts : List (ℕ × TradeRow)) (known : Option St
   pub held_replace : (old next shares price : ℕ) (new : Orders) → new ≡ replaced b old next shares price
       → held_by_one (stock_rows l new ts known) ≡ on_world (λ w. with_replaced w l old next shares price) (held_by_one (stock_rows l b ts known))
   held_replace old next shares price new e = ap (λ (m : Orders). held_by_one (stock_rows l m ts known)) e ∙ ap (one_stock l) (replaced_own old next shares price)
+
+  -- rows with other trades
+  held_trades : (new : List TradeRow) (trades : List (ℕ × TradeRow)) → trades_at l new ≡ trades → held_by_one (stock_rows l b new known) ≡ one_stock l (record (stock_rows l b ts known).world { trades = trades })
+  held_trades new trades e = ap (λ (rows : List (ℕ × TradeRow)). one_stock l (record (stock_rows l b ts known).world { trades = rows })) e
+
+  pub held_push : (t : TradeRow) (new : List TradeRow) → new ≡ ts ++ t ∷ [] → held_by_one (stock_rows l b new known) ≡ on_world (λ w. with_trade w l t) (held_by_one (stock_rows l b ts known))
+  held_push t new e = held_trades new _ (ap (trades_at l) e ∙ push_at l ts t)
+
+  pub held_broken : (m : ℕ) (new : List TradeRow) → new ≡ map (broken_trade m) ts
+      → held_by_one (stock_rows l b new known) ≡ on_world (λ w. record w { trades = map (broken_at l m) w.trades }) (held_by_one (stock_rows l b ts known))
+  held_broken m new e = held_trades new _ (ap (trades_at l) e ∙ sym (broken_trades_at l m ts))
 
   pub held_stock : (row : StockRow) → held_by_one (stock_rows l b ts (Some row)) ≡ on_world (λ w. with_stock w l row) (held_by_one (stock_rows l b ts known))
   held_stock row = ap (λ (m : FinMap nat_cmp StockRow). in_one m) (stock_set l known row)

@@ -24,13 +24,17 @@ abbrev pub stocks_of : ℕ → Option StockRow → FinMap nat_cmp StockRow
 stocks_of locate None = maps.empty
 stocks_of locate (Some row) = maps.insert maps.empty locate row
 
+-- a stock's trades, each with the locate code
+abbrev pub trades_at : ℕ → List TradeRow → List (ℕ × TradeRow)
+trades_at locate trades = map (λ t. (locate, t)) trades
+
 -- the rows that a stock's orders, its trades and what is known of it stand for
-abbrev pub stock_rows : ℕ → Orders → List (ℕ × TradeRow) → Option StockRow → StockRows
+abbrev pub stock_rows : ℕ → Orders → List TradeRow → Option StockRow → StockRows
 stock_rows locate orders trades known = record {
   locate = locate;
   world = record {
     orders = keyed locate orders;
-    trades = trades;
+    trades = trades_at locate trades;
     stocks = stocks_of locate known;
     event = None;
   };

@@ -3,5 +3,6 @@
 
 mod rows;
 mod stock;
+mod trades;
 
 pub use stock::Stock;

@@ -3,10 +3,8 @@ ghost use Rattle.std.specs.Prelude.{◌≡◌, ◌<◌, ◌^◌, Some, None, IfO
 ghost use Rattle.itch_table.specs.World.{empty_world, order, orders_of, status, totals};
 ghost use Rattle.itch_table.specs.Levels.{levels, shares_at, top};
 
-use itch_table::{
-    Level, Order, OrderRow, Side, Status, StockRow, Store, Top, Totals, TradeRow, break_trades,
-    has_unbroken, totals_under,
-};
+use crate::trades::Trades;
+use itch_table::{Level, Order, OrderRow, Side, Status, StockRow, Store, Top, Totals, TradeRow};
 use order_book::Book;
 use std::alloc::{AllocError, Allocator};
 use std::marker::Model;
@@ -16,7 +14,7 @@ use std::marker::Model;
 pub(crate) struct Rows<A: Allocator> {
     locate: u16,
     book: Book<A>,
-    trades: Vec<(u16, TradeRow), A>,
+    trades: Trades<A>,
     known: Option<StockRow>,
 }
 
@@ -29,7 +27,7 @@ impl<A: Allocator> Model for Rows<A> {
 
     ghost coded = { Prim.hlevel (codes, coded_world) };
 
-    ghost view = { λ r. stock_rows r.locate r.book r.trades.items r.known };
+    ghost view = { λ r. stock_rows r.locate r.book r.trades r.known };
 }
 
 impl<A: Allocator + Copy> Rows<A> {
@@ -41,7 +39,7 @@ impl<A: Allocator + Copy> Rows<A> {
         Rows {
             locate,
             book: Book::new(alloc),
-            trades: Vec::new(alloc),
+            trades: Trades::new(alloc),
             known: None,
         }
     }
@@ -76,10 +74,9 @@ impl<A: Allocator + Copy> Rows<A> {
 
     /// The totals over the trades.
     pub fn totals(&self) -> Totals
-        requires { length self.now.world.trades < 2 ^ 32 }
         ensures { result ≡ totals self.now.world self.now.locate }
     {
-        totals_under(&self.trades, self.locate)
+        self.trades.totals()
     }
 
     /// What is known of the stock beside its book.
@@ -110,7 +107,7 @@ impl<A: Allocator + Copy> Rows<A> {
         ensures { IfOk result (λ rows. rows ≡ self.now) }
     {
         let book = self.book.copy(alloc)?;
-        let trades = self.trades.iter().copied().collect(alloc)?;
+        let trades = self.trades.copy(alloc)?;
         Ok(Rows {
             locate: self.locate,
             book,
@@ -135,8 +132,8 @@ impl<A: Allocator + Copy> Store for Rows<A> {
         self.book.row(reference)
     }
 
-    fn has_unbroken(&self, locate: u16, match_no: u64) -> bool {
-        has_unbroken(&self.trades, locate, match_no)
+    fn has_unbroken(&self, _locate: u16, match_no: u64) -> bool {
+        self.trades.has_unbroken(match_no)
     }
 
     fn set_event(&mut self, _event: u8) {}
@@ -173,12 +170,11 @@ impl<A: Allocator + Copy> Store for Rows<A> {
         self.book.replace(old, new, shares, price)
     }
 
-    fn add_trade(&mut self, locate: u16, trade: TradeRow) -> Result<(), AllocError> {
-        self.trades.push((locate, trade))?;
-        Ok(())
+    fn add_trade(&mut self, _locate: u16, trade: TradeRow) -> Result<(), AllocError> {
+        self.trades.push(trade)
     }
 
-    fn break_trades(&mut self, locate: u16, match_no: u64) {
-        break_trades(&mut self.trades, locate, match_no);
+    fn break_trades(&mut self, _locate: u16, match_no: u64) {
+        self.trades.break_all(match_no);
     }
 }

@@ -6,4 +6,4 @@ use Rattle.stock_machine.proofs.OwnRows.{keyed_empty}
 use Rattle.stock_machine.proofs.rows.Rows.new.Goals as goal
 
 pub returns-clause-world : goal.returns-clause-world
-returns-clause-world g c = rw (c.new.ensures, c.new-2.ensures.items) (ap (λ (m : FinMap key_cmp OrderRow). record { orders = m; trades = []; stocks = empty; event = None }) (keyed_empty c.args.locate))
+returns-clause-world g c = rw (c.new.ensures, c.new-2.ensures) (ap (λ (m : FinMap key_cmp OrderRow). record { orders = m; trades = []; stocks = empty; event = None }) (keyed_empty c.args.locate))

@@ -26,5 +26,5 @@ returns-clause-ok g c =
     let here : c.args._locate ≡ c.args.self.now.locate = c.requires.here in
     let i = c.self.inside in
     on_ok_weaker c.add.result (λ is. rw (here, ← c.self.view_is) (
-    held_insert i.locate i.book i.trades.items i.known c.args.reference c.args.row _ (is ∙ ap (λ (order : Order). added i.book order) c.under.ensures)
+    held_insert i.locate i.book i.trades i.known c.args.reference c.args.row _ (is ∙ ap (λ (order : Order). added i.book order) c.under.ensures)
     )) c.add.ensures.ok

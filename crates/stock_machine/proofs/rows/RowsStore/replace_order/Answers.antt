@@ -24,5 +24,5 @@ returns-clause-ok g c =
     let here : c.args._locate ≡ c.args.self.now.locate = c.requires.here in
     let i = c.self.inside in
     on_ok_weaker c.replace.result (λ is. rw (here, ← c.self.view_is) (
-    held_replace i.locate i.book i.trades.items i.known c.args.old c.args.new c.args.shares c.args.price _ is
+    held_replace i.locate i.book i.trades i.known c.args.old c.args.new c.args.shares c.args.price _ is
     )) c.replace.ensures.ok
