@@ -112,7 +112,7 @@ impl Totals {
         }
     }
 
-    /// The totals without one of their trades: those that make these again with the trade.
+    /// The totals without one of the trades that they are over.
     pub fn without_trade(self, trade: &TradeRow) -> Totals
         requires { Includes self trade.now }
         ensures { plus_trade result trade.now ≡ self }
