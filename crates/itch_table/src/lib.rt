@@ -21,7 +21,7 @@ pub use laws::{
     days_split_by_stock, levels_are_sums, locates_are_parts, one_row_of_words, own_rows_suffice,
     stocks_are_independent,
 };
-pub use levels::{best_with, levels_of};
+pub use levels::levels_of;
 pub use order::{Level, Order, OrderRow, Side, Top};
 pub use outcome::{Fault, Outcome, Part};
 pub use parts::part;
