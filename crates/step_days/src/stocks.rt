@@ -1,0 +1,73 @@
+//! A machine for each stock of a day.
+use anyhow::anyhow;
+use binaryfile::Day;
+use itch_table::{Outcome, Part, part};
+use std::alloc::{AllocError, Allocator};
+use stock_machine::Stock;
+
+/// How many messages had each outcome.
+#[derive(Debug, Clone, Copy, PartialEq, Eq)]
+pub struct Tally {
+    pub applied: u64,
+    pub passed: u64,
+    pub refused: u64,
+}
+
+impl Tally {
+    // One message more.
+    fn count(&mut self, outcome: Outcome) {
+        let of_outcome = match outcome {
+            Outcome::Applied => &mut self.applied,
+            Outcome::Passed => &mut self.passed,
+            Outcome::Refused(_) => &mut self.refused,
+        };
+        *of_outcome = of_outcome.saturating_add(1);
+    }
+}
+
+// A place for the machine of each locate code.
+fn places<A: Allocator + Copy>(alloc: A) -> Result<Vec<Option<Stock<A>>, A>, AllocError> {
+    let mut places = Vec::with_capacity(alloc, 1 << 16)?;
+    for _ in 0..=u16::MAX {
+        places.push(None)?;
+    }
+    Ok(places)
+}
+
+// Hands a payload to the machine of its stock, which is new at the stock's first message, and answers its outcome.
+fn take<A: Allocator + Copy>(
+    alloc: A,
+    places: &mut [Option<Stock<A>>],
+    payload: &[u8],
+) -> anyhow::Result<Outcome> {
+    let locate = match part(payload) {
+        Part::Nowhere(outcome) => return Ok(outcome),
+        Part::Locate(locate) => locate,
+    };
+    let Some(place) = places.get_mut(usize::from(locate)) else {
+        return Err(anyhow!("there is no place for the stock's machine"));
+    };
+    if place.is_none() {
+        *place = Some(Stock::new(alloc, locate));
+    }
+    match place {
+        Some(stock) if stock.locate() == locate && stock.steps() < u32::MAX => {
+            Ok(stock.step(payload)?)
+        }
+        _ => Err(anyhow!("a stock's machine isn't at its place")),
+    }
+}
+
+/// Steps the machines of all stocks over a day, and answers how many messages had each outcome.
+pub fn step_all<A: Allocator + Copy>(alloc: A, day: &Day<A>) -> anyhow::Result<Tally> {
+    let mut places = places(alloc)?;
+    let mut tally = Tally {
+        applied: 0,
+        passed: 0,
+        refused: 0,
+    };
+    for payload in day.payloads() {
+        tally.count(take(alloc, &mut places, payload)?);
+    }
+    Ok(tally)
+}
