@@ -1,0 +1,22 @@
+use Rattle.std.proofs.Common.{◌++◌, take, arith, rules}
+use Rattle.day_core.proofs.Merged.{found_at, holds_more, holds_all}
+use Rattle.day_core.proofs.merging.place_all.Goals as goal
+
+pub returns-in-Err-clause-placed : goal.returns-in-Err-clause-placed
+returns-in-Err-clause-placed g c = λ before holds.
+    let list = c.args.list.now in
+    let at = c.loop-piece.piece-index in
+    let placed = c.loop-piece.invariant.placed before holds in
+    found_at _ before list at _ c.loop-piece.slots.items c.in-Err.fault c.loop-piece.invariant.long (omega arith) placed (c.in-Err.ensures.placed (before ++ take at list) placed)
+
+pub loop-piece-preserved : goal.loop-piece-preserved
+loop-piece-preserved g c = record {
+  long = search rules;
+  placed = λ before holds.
+      let list = c.args.list.now in
+      let at = c.loop-piece.piece-index in
+      holds_more before list at _ c.place.new.slots.items (omega arith) (c.in_default.ensures.placed (before ++ take at list) (c.loop-piece.invariant.placed before holds));
+}
+
+pub returns-clause-placed : goal.returns-clause-placed
+returns-clause-placed g c = λ before holds. holds_all before c.args.list.now c.loop-piece.piece-index c.loop-piece.slots.items (omega arith) (c.loop-piece.invariant.placed before holds)

@@ -1,0 +1,121 @@
+//! The outcomes of a day, put together of pieces.
+ghost use Rattle.std.specs.Prelude.{◌≡◌, ◌++◌, ◌∷◌, ◌<◌, ◌^◌, List, [], IfErr, IfOk, MatchResult, length, map};
+ghost use Rattle.day_core.specs.Merging.{AreFilled, Found, Holds, IsEmptyAt, IsFaulty, IsMergeFault, IsMerged, joined};
+ghost use Rattle.day_core.specs.declared.merging.MergeFault.TheVariants.{Memory};
+ghost use Rattle.day_core.specs.declared.merging.Piece.{Piece};
+
+use itch_table::Outcome;
+use std::alloc::{AllocError, Allocator};
+
+/// What became of one message of a day.
+#[derive(Debug, Clone, Copy, PartialEq, Eq)]
+pub struct Piece {
+    /// The message's number in the day, counted from 1.
+    pub message: u32,
+    /// What became of it.
+    pub outcome: Outcome,
+}
+
+/// Why pieces don't make a day. The faults are of this project.
+#[derive(Debug, Clone, Copy, PartialEq, Eq)]
+pub enum MergeFault {
+    /// Memory was refused.
+    Memory,
+    /// A piece names this message, and so does a piece before it.
+    Double(u32),
+    /// A piece names this number, and the day has no such message.
+    Stranger(u32),
+    /// No piece names this message, and each one below it is named.
+    Missing(u32),
+}
+
+impl From<AllocError> for MergeFault {
+    ghost from_gives = { λ _ fault. fault ≡ Memory };
+
+    fn from(_error: AllocError) -> MergeFault {
+        MergeFault::Memory
+    }
+}
+
+// Puts a piece where the outcome of its message belongs.
+fn place<A: Allocator + Copy>(
+    slots: &mut Vec<Option<Outcome>, A>,
+    piece: Piece,
+) -> Result<(), MergeFault>
+    ensures long { length slots.new.items ≡ length slots.old.items }
+    ensures placed { (before : List Piece) → Holds before slots.old.items → MatchResult result
+        (λ _. Holds (before ++ piece ∷ []) slots.new.items)
+        (λ fault. IsFaulty (length slots.old.items) before piece fault) }
+{
+    let number = piece.message as usize;
+    if number == 0 || number > slots.len() {
+        return Err(MergeFault::Stranger(piece.message));
+    }
+    if slots[number - 1].is_some() {
+        return Err(MergeFault::Double(piece.message));
+    }
+    slots[number - 1] = Some(piece.outcome);
+    Ok(())
+}
+
+// Puts the pieces of a list where the outcomes of their messages belong, up to the first that is faulty.
+fn place_all<A: Allocator + Copy>(
+    slots: &mut Vec<Option<Outcome>, A>,
+    list: &[Piece],
+) -> Result<(), MergeFault>
+    ensures long { length slots.new.items ≡ length slots.old.items }
+    ensures placed { (before : List Piece) → Holds before slots.old.items → MatchResult result
+        (λ _. Holds (before ++ list.now) slots.new.items)
+        (λ fault. Found (length slots.old.items) before list.now fault) }
+{
+    for piece in list {
+        if let Err(fault) = place(slots, *piece) {
+            return Err(fault);
+        }
+    }
+    Ok(())
+}
+
+// The outcomes in the slots, where each has one.
+fn gathered<A: Allocator + Copy>(
+    alloc: A,
+    slots: &[Option<Outcome>],
+) -> Result<Vec<Outcome, A>, MergeFault>
+    requires { length slots.now < 2 ^ 32 }
+    ensures ok { IfOk result (λ outcomes. AreFilled slots.now outcomes.items) }
+    ensures missing { IfErr result (IsEmptyAt slots.now) }
+{
+    let mut outcomes = Vec::with_capacity(alloc, slots.len())?;
+    for (before, slot) in slots.iter().enumerate() {
+        let Some(outcome) = *slot else {
+            return Err(MergeFault::Missing(before as u32 + 1));
+        };
+        if outcomes.push(outcome).is_err() {
+            return Err(MergeFault::Memory);
+        }
+    }
+    Ok(outcomes)
+}
+
+/// The outcomes of all messages of a day, in order, of pieces in any order that name each message once.
+///
+/// The first faulty piece, in the order of the lists and in each of its own, is the fault: [`MergeFault::Double`] or
+/// [`MergeFault::Stranger`]. Where all pieces are sound and a message has none, the least such message is
+/// [`MergeFault::Missing`]. The order of the faults is of this project.
+pub fn merge<A: Allocator + Copy>(
+    alloc: A,
+    messages: u32,
+    pieces: Vec<Vec<Piece, A>, A>,
+) -> Result<Vec<Outcome, A>, MergeFault>
+    ensures merged { IfOk result (λ outcomes.
+        IsMerged messages (joined (map (λ list. list.items) pieces.items)) outcomes.items) }
+    ensures fault { IfErr result (IsMergeFault messages (joined (map (λ list. list.items) pieces.items))) }
+{
+    let mut slots = vec![in alloc; None; messages as usize]?;
+    for list in &pieces {
+        if let Err(fault) = place_all(&mut slots, list) {
+            return Err(fault);
+        }
+    }
+    gathered(alloc, &slots)
+}
