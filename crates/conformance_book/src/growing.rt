@@ -21,7 +21,8 @@ fn growths_of<'h, A: Allocator + Copy>(
         let asked = heap.asked();
         heap.restart(Refusal::Never);
         if answer.is_ok() {
-            same("the growths of a call", &asked, &(growth - 1))?;
+            // A refused try may have made room, which this one found.
+            same("that no growth was refused", &(asked < growth), &true)?;
             return Ok(growth - 1);
         }
         same_shown("after a refusal", &shown_by(heap, book)?, &before)?;
