@@ -35,13 +35,11 @@ pub struct Book<A: Allocator> {
 }
 
 impl<A: Allocator> Model for Book<A> {
-    ghost use Rattle.std.specs.Prelude.{◌<◌, ◌^◌};
-    ghost use Rattle.std.specs.BTreeMap.{btree_map_len};
     ghost use Rattle.std.specs.Coded.{coded_ℕ};
     ghost use Rattle.std.specs.FinMap as maps;
     ghost use Rattle.std.specs.Ordering.{nat_cmp};
     ghost use Rattle.itch_table.specs.contracts.order.OrderRow as order_row;
-    ghost use Rattle.order_book.specs.Kept.{AreKept};
+    ghost use Rattle.order_book.specs.Kept.{IsBook};
     ghost use Rattle.order_book.specs.Orders.{Orders};
 
     ghost Value = { Orders };
@@ -50,8 +48,7 @@ impl<A: Allocator> Model for Book<A> {
 
     ghost view = { λ b. maps.from_entries b.orders.entries };
 
-    // The orders are few enough that a `u32` counts them, and that the shares of a level fit a `u64`.
-    ghost invariant = { λ b. (btree_map_len b.orders < 2 ^ 32) × AreKept (maps.from_entries b.orders.entries) b.levels };
+    ghost invariant = { λ b. IsBook b.orders.entries b.levels };
 }
 
 impl<A: Allocator + Copy> Book<A> {
