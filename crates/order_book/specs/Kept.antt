@@ -109,7 +109,7 @@ AreChanged old new side change =
 abbrev pub SharesFit : Orders → Type 0
 SharesFit orders = (reference : ℕ) → IfSome (maps.get orders reference) (λ row. row.shares < 2 ^ 32)
 
--- the levels that are kept are those of the orders
+-- the levels that are kept are those of the orders, and no order has more shares than 32 bits hold
 pub record AreKept (orders : Orders) (both : BothSides) : Type 0 where
   pub levels_are : (side : Side) → levels_on both side ≡ level_map (orders_in orders) side
   pub shares_fit : SharesFit orders

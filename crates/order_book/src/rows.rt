@@ -1,4 +1,4 @@
-//! What the order rows of a book amount to.
+//! The order rows of a book.
 ghost use Rattle.std.specs.Prelude.{◌≡◌, ◌≤◌, Some, map, IfOk, IsSomeAnd};
 ghost use Rattle.std.specs.BTreeMap.{btree_map_len, get, IsOrdered};
 ghost use Rattle.std.specs.FinMap as maps;

@@ -16,7 +16,7 @@ use std::marker::Model;
 pub(crate) struct Trades<A: Allocator> {
     rows: Vec<TradeRow, A>,
     totals: Totals,
-    // Whether no match number is below one before it.
+    // True only where no match number is below one before it.
     rising: bool,
 }
 
@@ -90,7 +90,7 @@ impl<A: Allocator> Trades<A> {
         }
     }
 
-    /// The same trades, in memory of their own.
+    /// The same trades, in memory of `alloc`. An error says that memory was refused.
     pub fn copy(&self, alloc: A) -> Result<Trades<A>, AllocError>
         ensures { IfOk result (λ trades. trades ≡ self.now) }
     {
