@@ -27,7 +27,11 @@ fn growths_of<'h, A: Allocator + Copy>(
         heap.restart(Refusal::Never);
         if let Ok(outcome) = answer {
             // A refused try may have made room, which this one found.
-            same("a step", &(outcome, asked < growth), &(Outcome::Applied, true))?;
+            same(
+                "a step",
+                &(outcome, asked < growth),
+                &(Outcome::Applied, true),
+            )?;
             return Ok(growth - 1);
         }
         same_machines(heap, stock, &before)?;
