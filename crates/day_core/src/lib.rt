@@ -2,5 +2,7 @@
 #![tactic(auto)]
 
 mod merging;
+mod parts;
 
 pub use merging::{MergeFault, Piece, merge};
+pub use parts::Parts;
