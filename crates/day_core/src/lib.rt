@@ -3,6 +3,8 @@
 
 mod merging;
 mod parts;
+mod splitting;
 
 pub use merging::{MergeFault, Piece, merge};
 pub use parts::Parts;
+pub use splitting::{SplitFault, split};
