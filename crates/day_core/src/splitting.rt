@@ -1,9 +1,9 @@
 //! A day, split into the parts of its workers.
-ghost use Rattle.std.specs.Prelude.{ℕ, ◌≡◌, ◌++◌, ◌∷◌, ◌%◌, ◌<◌, ◌≤◌, ◌⊎◌, ◌↔◌, [], None, IfOk, IsErrOf, OnOk, filter, length, map, nat_lt, replicate, slice_index, slice_index_or, slice_set};
-ghost use Rattle.std.specs.List.{range_with_len};
+ghost use Rattle.std.specs.Prelude.{ℕ, ◌≡◌, ◌+◌, ◌^◌, ◌++◌, ◌∷◌, ◌%◌, ◌<◌, ◌≤◌, ◌⊎◌, ◌↔◌, [], None, IfOk, IsErrOf, OnOk, filter, length, map, nat_lt, replicate, slice_index, slice_index_or, slice_set};
+ghost use Rattle.std.specs.List.{AllZip, range_with_len};
 ghost use Rattle.itch_layouts.specs.Shapes.{shape_of};
 ghost use Rattle.itch_table.specs.Projection.{event_with};
-ghost use Rattle.day_core.specs.Dealing.{AreCounts, AreDealt};
+ghost use Rattle.day_core.specs.Dealing.{AreCounts, AreDealt, cut};
 ghost use Rattle.day_core.specs.declared.splitting.SplitFault.TheVariants.{Memory};
 
 use crate::merging::Piece;
@@ -11,6 +11,7 @@ use crate::parts::Parts;
 use binaryfile::Day;
 use itch_layouts::{Msg, Shape, read_msg};
 use itch_table::{Part, part};
+use rayon::prelude::*;
 use std::alloc::{AllocError, Allocator};
 use std::snapshot::Snapshot;
 use std::thread::Threads;
@@ -20,6 +21,12 @@ const MOST_WORKERS: u32 = 64;
 
 /// How many locate codes there are.
 const LOCATES: usize = 1 << 16;
+
+/// In how many pieces the messages of a long day are counted, each by one thread.
+const PIECES: u32 = 16;
+
+/// How many messages a day has at least to be counted in pieces.
+const MANY: u32 = 1 << 17;
 
 /// Why a day isn't split. The faults are of this project.
 #[derive(Debug, Clone, Copy, PartialEq, Eq)]
@@ -46,17 +53,95 @@ fn no_counts<A: Allocator + Copy>(alloc: A, count: usize) -> Result<Vec<u32, A>,
     vec![in alloc; 0; count]
 }
 
+// How many messages each stock has in a stretch of a day, by its locate code.
+fn counts_between<A: Allocator + Copy>(
+    alloc: A,
+    day: &Day<A>,
+    from: u32,
+    to: u32,
+) -> Result<Vec<u32, A>, AllocError>
+    requires order { from ≤ to }
+    requires within { to ≤ length day.now.payloads }
+    requires few { length day.now.payloads < 2 ^ 32 }
+    ensures { IfOk result (λ counts. AreCounts day.now.payloads from to counts.items) }
+{
+    let mut counts = no_counts(alloc, LOCATES)?;
+    for before in from..to {
+        if let Part::Locate(locate) = part(day.payload(before + 1)) {
+            counts[locate as usize] += 1;
+        }
+    }
+    Ok(counts)
+}
+
+// Where a piece of a day begins.
+fn start_of(messages: u32, piece: u32) -> u32
+    ensures { result ≡ cut messages piece }
+{
+    piece.saturating_mul(messages / PIECES + 1).min(messages)
+}
+
+// The counts of each piece of a day, by as many threads as there are processors.
+fn counts_by_piece<R: Threads + Sync, A: Allocator + Copy + Send + Sync>(
+    rt: &R,
+    alloc: A,
+    day: &Day<A>,
+) -> Result<Vec<Result<Vec<u32, A>, AllocError>, A>, AllocError>
+    ensures { IfOk result (λ pieces. AllZip (λ piece counts. IfOk counts (λ found. AreCounts day.now.payloads
+        (cut (length day.now.payloads) piece) (cut (length day.now.payloads) (piece + 1)) found.items))
+        (range_with_len 0 16) pieces.items) }
+{
+    (0..PIECES)
+        .into_par_iter()
+        .with_min_len(1)
+        .map(
+            |piece: u32| -> Result<Vec<u32, A>, AllocError>
+                requires { piece < 16 }
+                ensures { IfOk result (λ found. AreCounts day.entry.now.payloads
+                    (cut (length day.entry.now.payloads) piece) (cut (length day.entry.now.payloads) (piece + 1)) found.items) }
+            {
+                let messages = day.len();
+                counts_between(
+                    alloc,
+                    day,
+                    start_of(messages, piece),
+                    start_of(messages, piece + 1),
+                )
+            },
+        )
+        .collect(rt, alloc)
+}
+
+// Adds counts to others.
+fn add<A: Allocator + Copy>(counts: &mut Vec<u32, A>, more: &[u32])
+    requires long { length more.now ≡ length counts.old.items }
+    requires fits { (k : ℕ) → k < length more.now →
+        slice_index counts.old.items k + slice_index more.now k < 2 ^ 32 }
+    ensures long { length counts.new.items ≡ length counts.old.items }
+    ensures sums { (k : ℕ) → k < length more.now →
+        slice_index counts.new.items k ≡ slice_index counts.old.items k + slice_index more.now k }
+{
+    for (place, count) in more.iter().enumerate() {
+        counts[place] += *count;
+    }
+}
+
 // How many messages of a day each stock has, by its locate code.
-fn messages_by_locate<A: Allocator + Copy>(
+fn messages_by_locate<R: Threads + Sync, A: Allocator + Copy + Send + Sync>(
+    rt: &R,
     alloc: A,
     day: &Day<A>,
 ) -> Result<Vec<u32, A>, AllocError>
-    ensures { IfOk result (λ counts. AreCounts day.now.payloads counts.items) }
+    ensures { IfOk result (λ counts. AreCounts day.now.payloads 0 (length day.now.payloads) counts.items) }
 {
+    if day.len() < MANY {
+        return counts_between(alloc, day, 0, day.len());
+    }
     let mut counts = no_counts(alloc, LOCATES)?;
-    for payload in day.payloads() {
-        if let Part::Locate(locate) = part(payload) {
-            counts[locate as usize] += 1;
+    for piece in &counts_by_piece(rt, alloc, day)? {
+        match piece {
+            Ok(more) => add(&mut counts, more),
+            Err(_) => return Err(AllocError),
         }
     }
     Ok(counts)
@@ -161,7 +246,8 @@ fn deal<A: Allocator + Copy>(
 }
 
 // The parts of a day for some workers.
-fn parts_of<A: Allocator + Copy>(
+fn parts_of<R: Threads + Sync, A: Allocator + Copy + Send + Sync>(
+    rt: &R,
     alloc: A,
     day: &Day<A>,
     workers: u32,
@@ -170,7 +256,7 @@ fn parts_of<A: Allocator + Copy>(
     requires most { workers ≤ 64 }
     ensures { IfOk result (λ parts. parts ≡ record { day = day.now.payloads; workers = workers }) }
 {
-    let counts = messages_by_locate(alloc, day)?;
+    let counts = messages_by_locate(rt, alloc, day)?;
     let locates = locates_counted(alloc, &counts)?;
     let mut own = empty_lists(alloc, &counts, workers)?;
     let elsewhere = (day.len() as usize).saturating_sub(messages_of_worker(&counts, 1, 0));
@@ -190,7 +276,7 @@ fn parts_of<A: Allocator + Copy>(
 ///
 /// [`SplitFault::Workers`] where the number is another, which is looked at first, and else [`SplitFault::Memory`] where
 /// memory is refused. How a day is split is of this project.
-pub fn split<R: Threads + Sync, A: Allocator + Copy>(
+pub fn split<R: Threads + Sync, A: Allocator + Copy + Send + Sync>(
     rt: &R,
     alloc: A,
     day: &Day<A>,
@@ -202,5 +288,5 @@ pub fn split<R: Threads + Sync, A: Allocator + Copy>(
     if workers == 0 || workers > MOST_WORKERS {
         return Err(SplitFault::Workers);
     }
-    Ok(parts_of(alloc, day, workers)?)
+    Ok(parts_of(rt, alloc, day, workers)?)
 }
