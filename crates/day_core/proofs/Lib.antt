@@ -1,1 +1,4 @@
 mod Merged
+mod Ranges
+mod Counted
+mod Dealt

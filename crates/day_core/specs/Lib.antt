@@ -1,1 +1,4 @@
 pub mod Merging
+pub mod Owners
+pub mod Splitting
+pub mod Dealing

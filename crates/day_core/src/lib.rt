@@ -2,5 +2,9 @@
 #![tactic(auto)]
 
 mod merging;
+mod parts;
+mod splitting;
 
 pub use merging::{MergeFault, Piece, merge};
+pub use parts::Parts;
+pub use splitting::{SplitFault, split};

@@ -1,0 +1,69 @@
+-- Which worker each message of a day belongs to, and how far a stock is once its worker has done some of its messages.
+-- All is of this project.
+use Rattle.std.specs.Prelude.{◌==◌, ◌%◌, ℕ, Bool, true, false, List, [], ◌∷◌, length, map, filter, take}
+use Rattle.std.specs.List.{range_with_len}
+use Rattle.itch_table.specs.declared.outcome.Part.{Part}
+use Rattle.itch_table.specs.declared.outcome.Part.TheVariants.{Locate, Nowhere}
+use Rattle.itch_table.specs.After.{after, outcome}
+use Rattle.itch_table.specs.Parts.{part}
+use Rattle.itch_table.specs.Projection.{is_locate, only, payload_at, steps_of}
+use Rattle.itch_table.specs.Shows.{locates_of_day}
+use Rattle.stock_machine.specs.StockRows.{StockMachine}
+use Rattle.day_core.specs.declared.merging.Piece.{Piece}
+
+-- the part of message n of a day, for n from 1
+abbrev pub part_at : List (List ℕ) → ℕ → Part
+part_at day n = part (payload_at day n)
+
+-- a stock belongs to the worker whose number is the remainder of its locate code by the number of workers
+abbrev pub owner : ℕ → ℕ → ℕ
+owner workers locate = locate % workers
+
+-- whether a part is a stock of this worker
+abbrev pub is_own : ℕ → ℕ → Part → Bool
+is_own workers worker (Locate locate) = owner workers locate == worker
+is_own workers worker (Nowhere fixed) = false
+
+-- those of the first messages that belong to a worker, by their numbers, rising
+abbrev pub own_until : ℕ → ℕ → List (List ℕ) → ℕ → List ℕ
+own_until workers worker day count = filter (λ n. is_own workers worker (part_at day n)) (range_with_len 1 count)
+
+-- a worker's messages, by their numbers, rising
+unfoldable pub own_of : ℕ → ℕ → List (List ℕ) → List ℕ
+own_of workers worker day = own_until workers worker day (length day)
+
+-- the locate codes of a worker's stocks, rising
+unfoldable pub own_locates : ℕ → ℕ → List (List ℕ) → List ℕ
+own_locates workers worker day = filter (λ locate. owner workers locate == worker) (locates_of_day day)
+
+-- a message of a day with its outcome
+abbrev pub piece_of : List (List ℕ) → ℕ → Piece
+piece_of day n = record { message = n; outcome = outcome day n }
+
+-- whether a part is no stock's
+abbrev pub is_nowhere : Part → Bool
+is_nowhere (Locate locate) = false
+is_nowhere (Nowhere fixed) = true
+
+-- the messages of no stock with their outcomes, rising
+unfoldable pub fixed_pieces : List (List ℕ) → List Piece
+fixed_pieces day = map (piece_of day) (filter (λ n. is_nowhere (part_at day n)) (range_with_len 1 (length day)))
+
+-- ---- how far a stock is
+
+-- the last of some numbers, or this one where there are none
+abbrev pub last_or : ℕ → List ℕ → ℕ
+last_or d [] = d
+last_or d (x ∷ xs) = last_or x xs
+
+-- those of some messages that are of a stock
+abbrev pub of_stock : List (List ℕ) → ℕ → List ℕ → List ℕ
+of_stock day locate numbers = filter (λ n. is_locate locate (part_at day n)) numbers
+
+-- the last message of a stock among the first messages that its owner has done, or 0
+unfoldable pub progress : List (List ℕ) → ℕ → ℕ → ℕ → ℕ
+progress day workers locate done = last_or 0 (of_stock day locate (take done (own_of workers (owner workers locate) day)))
+
+-- a stock's machine after the first n messages of a day
+abbrev pub machine_of : List (List ℕ) → ℕ → ℕ → StockMachine
+machine_of day locate n = record { locate = locate; world = only locate (after day n); steps = steps_of day locate n }

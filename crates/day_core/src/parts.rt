@@ -1,0 +1,79 @@
+//! Which messages of a day each worker does.
+ghost use Rattle.std.specs.Prelude.{◌≡◌, ◌<◌, ◌≤◌, ◌^◌, length};
+ghost use Rattle.itch_table.specs.After.{after};
+ghost use Rattle.itch_table.specs.Shows.{locates_of_day};
+ghost use Rattle.day_core.specs.Owners.{fixed_pieces, own_of};
+
+use crate::merging::Piece;
+use binaryfile::Day;
+use std::alloc::{AllocError, Allocator};
+use std::marker::Model;
+use std::snapshot::Snapshot;
+
+/// The parts of a day, one for each worker, and what belongs to none.
+///
+/// A stock belongs to the worker whose number is the remainder of its locate code by the number of workers, which is
+/// from 1 to 64. How a day is split is of this project.
+#[derive(Drop)]
+pub struct Parts<A: Allocator> {
+    pub(crate) workers: u32,
+    pub(crate) locates: Vec<u16, A>,
+    pub(crate) own: Vec<Vec<u32, A>, A>,
+    pub(crate) fixed: Vec<Piece, A>,
+    pub(crate) event: Option<u8>,
+    pub(crate) day: Snapshot<Day<A>>,
+}
+
+impl<A: Allocator> Model for Parts<A> {
+    ghost use Rattle.std.specs.Prelude.{map};
+    ghost use Rattle.day_core.specs.Splitting.{AreParts, Split};
+
+    ghost Value = { Split };
+
+    ghost view = { λ p. record { day = p.day.value.payloads; workers = p.workers } };
+
+    ghost invariant = { λ p. AreParts p.day.value.payloads p.workers p.locates.items
+        (map (λ list. list.items) p.own.items) p.fixed.items p.event };
+}
+
+impl<A: Allocator> Parts<A> {
+    /// For how many workers the day was split, from 1 to 64.
+    pub fn workers(&self) -> u32
+        ensures workers { result ≡ self.now.workers }
+        ensures some { 0 < result }
+        ensures most { result ≤ 64 }
+        // The numbers of the day's messages fit 32 bits.
+        ensures few { length self.now.day < 2 ^ 32 }
+    {
+        self.workers
+    }
+
+    /// The locate codes of the stocks that have messages in the day, rising.
+    pub fn locates(&self) -> &[u16]
+        ensures { result.now ≡ locates_of_day self.now.day }
+    {
+        self.locates.as_slice()
+    }
+
+    /// The messages of a worker's stocks, by their numbers from 1, rising. Workers are numbered from 0.
+    pub fn own(&self, worker: u32) -> &[u32]
+        requires { worker < self.now.workers }
+        ensures { result.now ≡ own_of self.now.workers worker self.now.day }
+    {
+        self.own[worker as usize].as_slice()
+    }
+
+    /// The messages of no stock, with their outcomes, by rising number.
+    pub fn fixed(&self) -> &[Piece]
+        ensures { result.now ≡ fixed_pieces self.now.day }
+    {
+        self.fixed.as_slice()
+    }
+
+    /// The event code of the day's last system event message, where it has one.
+    pub fn event(&self) -> Option<u8>
+        ensures { result ≡ (after self.now.day (length self.now.day)).event }
+    {
+        self.event
+    }
+}
