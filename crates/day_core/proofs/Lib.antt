@@ -1,1 +1,5 @@
 mod Merged
+mod Kept
+mod Placing
+mod Progress
+mod Running

@@ -1,3 +1,5 @@
 pub mod Merging
 pub mod Owners
+pub mod Placed
 pub mod Splitting
+pub mod Standing

@@ -3,6 +3,9 @@
 
 mod merging;
 mod parts;
+mod places;
+mod runner;
 
 pub use merging::{MergeFault, Piece, merge};
 pub use parts::Parts;
+pub use runner::{Runner, Turned};
