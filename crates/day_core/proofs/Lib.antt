@@ -1,4 +1,7 @@
 mod Merged
+mod Ranges
+mod Counted
+mod Dealt
 mod Kept
 mod Placing
 mod Progress

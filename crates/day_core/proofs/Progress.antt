@@ -1,15 +1,15 @@
 -- How far a stock is once its worker has done some of its messages.
-use Rattle.std.proofs.Common.{◌≡◌, ℕ, zero, suc, ◌+◌, ◌-◌, ◌<◌, ◌≤◌, List, [], ◌∷◌, ◌++◌, length, Bool, true, false, cond, get_or, filter, take, refl, sym, ap, subst, ◌∙◌, arith, append-nil, map-id, inl, inr}
+use Rattle.std.proofs.Common.{◌≡◌, ℕ, zero, suc, ◌+◌, ◌-◌, ◌<◌, ◌≤◌, List, [], ◌∷◌, ◌++◌, length, Bool, true, false, cond, get_or, filter, take, refl, sym, ap, subst, ◌∙◌, arith, append-nil, inl, inr}
 use Rattle.std.specs.List.{range_with_len}
 use Rattle.std.proofs.lemmas.Bool.{cases_Bool, eq-eqb}
 use Rattle.std.proofs.lemmas.List.{take_all}
 use Rattle.std.proofs.lemmas.List.Elements.{filter_more, filter_passes}
-use Rattle.std.proofs.lemmas.List.FromFn.{filter_of_map_range_with_len_more}
 use Rattle.itch_table.specs.After.{after}
 use Rattle.itch_table.specs.Projection.{is_locate, is_of_stock, only, steps_of}
 use Rattle.itch_table.proofs.StockDays.{other_next, other_part, own_part, steps-next}
 use Rattle.day_core.specs.Owners.{is_own, last_or, machine_of, of_stock, own_of, owner, part_at, progress}
 use Rattle.day_core.proofs.Kept.{kept_before, kept_narrower, kept_within}
+use Rattle.day_core.proofs.Ranges.{kept_more}
 
 -- a number of a worker's list is that of a message of one of its stocks
 pub own_within : (workers worker : ℕ) (day : List (List ℕ)) (i d : ℕ) → i < length (own_of workers worker day)
@@ -39,9 +39,6 @@ last_push d (y ∷ ys) x = last_push y ys x
 abbrev last_until : List (List ℕ) → ℕ → ℕ → ℕ
 last_until day locate count = last_or 0 (of_stock day locate (range_with_len 1 count))
 
-range_more : (p : ℕ → Bool) (n : ℕ) → filter p (range_with_len 1 (n + 1)) ≡ filter p (range_with_len 1 n) ++ cond (p (n + 1)) ((n + 1) ∷ []) []
-range_more p n = rw (← map-id (range_with_len 1 (n + 1)), ← map-id (range_with_len 1 n)) (filter_of_map_range_with_len_more p (λ (i : ℕ). i) 1 n (n + 1) (omega arith))
-
 -- a stock's machine is as its last message left it
 abbrev UntilLast : List (List ℕ) → ℕ → ℕ → Type 0
 UntilLast day locate n = machine_of day locate (last_until day locate n) ≡ machine_of day locate n
@@ -51,7 +48,7 @@ until_more day locate n before =
     let q = λ (m : ℕ). is_locate locate (part_at day m) in
     let xs = filter q (range_with_len 1 n) in
     let here : n + 1 - 1 ≡ n = omega arith in
-    ap (λ (l : List ℕ). machine_of day locate (last_or 0 l)) (range_more q n)
+    ap (λ (l : List ℕ). machine_of day locate (last_or 0 l)) (kept_more q 1 n (n + 1) (omega arith))
     ∙ elim (cases_Bool (q (n + 1))) [
       | inl on ↦
           ap (λ (b : Bool). machine_of day locate (last_or 0 (xs ++ cond b ((n + 1) ∷ []) []))) on

@@ -1,3 +1,4 @@
+pub mod Dealing
 pub mod Merging
 pub mod Owners
 pub mod Placed

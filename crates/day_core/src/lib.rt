@@ -5,7 +5,9 @@ mod merging;
 mod parts;
 mod places;
 mod runner;
+mod splitting;
 
 pub use merging::{MergeFault, Piece, merge};
 pub use parts::Parts;
 pub use runner::{Runner, Turned};
+pub use splitting::{SplitFault, split};

@@ -1,0 +1,18 @@
+use Rattle.std.proofs.Common.{◌<◌, ◌^◌, ℕ, List, length, map, subst, sym, arith}
+use Rattle.day_core.specs.Dealing.{AreCounts}
+use Rattle.day_core.proofs.Counted.{locates_are}
+use Rattle.day_core.proofs.Dealt.{dealt_none, parts_are}
+use Rattle.day_core.proofs.splitting.parts_of.Goals as goal
+
+pub deal-requires-clause-empty : goal.deal-requires-clause-empty
+deal-requires-clause-empty g c =
+    dealt_none c.args.day.now.payloads c.args.workers _ _ c.in_ok-own.ensures c.in_ok-fixed.ensures.items
+
+pub invariant_of-result : goal.invariant_of-result
+invariant_of-result g c =
+    let day = c.args.day.now.payloads in
+    let counted = subst (λ (counts : List ℕ). AreCounts day counts) (sym c.deref.ensures.value) c.in_ok-counts.ensures in
+    let locates = locates_are day c.deref.result.now c.in_ok-locates.locates.items counted c.in_ok-locates.ensures in
+    let few : length day < 2 ^ 32 = omega (arith, c.len.ensures) in
+    let lists = map (λ list. list.items) c.deal.new.own.items in
+    rw c.of.ensures (parts_are day c.args.workers c.in_ok-locates.locates.items lists c.deal.new.fixed.items c.in_ok-event.event c.requires.some c.requires.most few locates c.in_ok-event.ensures.dealt)

@@ -1,0 +1,23 @@
+-- How far a day is dealt to its workers. All is of this project.
+use Rattle.std.specs.Prelude.{◌≡◌, ◌<◌, ℕ, List, Option, length, map, filter, count_by, slice_index, slice_index_or}
+use Rattle.std.specs.List.{range_with_len}
+use Rattle.itch_table.specs.After.{after}
+use Rattle.itch_table.specs.Projection.{is_of_stock}
+use Rattle.day_core.specs.declared.merging.Piece.{Piece}
+use Rattle.day_core.specs.Owners.{is_nowhere, own_until, part_at, piece_of}
+
+-- how many messages of a day each stock has, by its locate code
+pub record AreCounts (day : List (List ℕ)) (counts : List ℕ) : Type 0 where
+  pub long : length counts ≡ 0x1_0000
+  pub each : (locate : ℕ) → locate < 0x1_0000 → slice_index counts locate ≡ count_by (is_of_stock locate) day
+
+-- those of the first messages that are of no stock, with their outcomes, rising
+abbrev pub fixed_until : List (List ℕ) → ℕ → List Piece
+fixed_until day count = map (piece_of day) (filter (λ n. is_nowhere (part_at day n)) (range_with_len 1 count))
+
+-- the first messages of a day are dealt: each worker's messages, those of no stock, and the last event
+pub record AreDealt (day : List (List ℕ)) (workers : ℕ) (count : ℕ) (own : List (List ℕ)) (fixed : List Piece) (event : Option ℕ) : Type 0 where
+  pub own_long : length own ≡ workers
+  pub own_are : (worker : ℕ) (d : List ℕ) → worker < workers → slice_index_or own worker d ≡ own_until workers worker day count
+  pub fixed_are : fixed ≡ fixed_until day count
+  pub event_is : event ≡ (after day count).event
