@@ -6,3 +6,5 @@ mod Kept
 mod Placing
 mod Progress
 mod Running
+mod Whole
+mod Crews

@@ -102,7 +102,7 @@ steps_most day locate (suc n) =
 
 -- ---- a list of machines
 
-map_by_all : {X : Type 0} (f : ℕ → X) (ls : List ℕ) (xs : List X) → length xs ≡ length ls → ((k : ℕ) (d : X) → k < length ls → get_or xs k d ≡ f (get_or ls k 0)) → xs ≡ map f ls
+pub map_by_all : {X : Type 0} (f : ℕ → X) (ls : List ℕ) (xs : List X) → length xs ≡ length ls → ((k : ℕ) (d : X) → k < length ls → get_or xs k d ≡ f (get_or ls k 0)) → xs ≡ map f ls
 map_by_all f [] [] long each = refl
 map_by_all f [] (x ∷ xs) long each = absurd (omega arith)
 map_by_all f (l ∷ ls) [] long each = absurd (omega arith)

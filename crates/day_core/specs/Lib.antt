@@ -2,5 +2,6 @@ pub mod Dealing
 pub mod Merging
 pub mod Owners
 pub mod Placed
+pub mod Replaying
 pub mod Splitting
 pub mod Standing

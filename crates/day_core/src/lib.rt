@@ -4,10 +4,12 @@
 mod merging;
 mod parts;
 mod places;
+mod replaying;
 mod runner;
 mod splitting;
 
 pub use merging::{MergeFault, Piece, merge};
 pub use parts::Parts;
+pub use replaying::{Replayed, replay_parts};
 pub use runner::{Runner, Turned};
 pub use splitting::{SplitFault, split};
