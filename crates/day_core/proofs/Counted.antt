@@ -1,63 +1,131 @@
 -- How many messages each stock has, one message more, and the stocks that have some.
-use Rattle.std.proofs.Common.{◌≡◌, ◌≢◌, ℕ, ◌+◌, ◌<◌, ◌≤◌, zero, suc, List, [], ◌∷◌, length, get_or, set, Bool, true, false, cond, ltb, refl, ap, sym, ◌∙◌, arith, inl, inr}
+use Rattle.std.proofs.Common.{◌≡◌, ◌≢◌, ℕ, ◌+◌, ◌-◌, ◌<◌, ◌≤◌, zero, suc, List, [], ◌∷◌, length, get_or, set, take, Bool, true, false, cond, ltb, refl, ap, sym, ◌∙◌, arith, inl, inr, subst, Result, Ok, IfOk}
 use Rattle.std.specs.Prelude.{count_by, filter}
-use Rattle.std.specs.List.{list_any, range_with_len}
+use Rattle.std.specs.List.{AllZip, list_any, range_with_len}
+use Rattle.std.proofs.lemmas.Slice.Zip.{AllZip-long}
 use Rattle.std.proofs.lemmas.Bool.{cases_eq, eq-eqb, ne_eqb}
 use Rattle.std.proofs.lemmas.Bool.Decides.{nat_tests}
 use Rattle.std.proofs.lemmas.Grind.{common_steps}
-use Rattle.std.proofs.lemmas.List.{get_or-set_same, get_or-set_other, length-set}
-use Rattle.std.proofs.lemmas.List.Sums.{count_by-le-length, sum_by-cons}
+use Rattle.std.proofs.lemmas.List.{get_or_default, get_or_read, get_or-set_same, get_or-set_other, length-set, length-take, take_all}
+use Rattle.std.proofs.lemmas.List.Sums.{count_by-le-length}
 use Rattle.itch_table.specs.declared.outcome.Outcome.{Outcome}
 use Rattle.itch_table.specs.declared.outcome.Part.TheVariants.{Locate, Nowhere}
 use Rattle.itch_table.specs.Parts.{part}
-use Rattle.itch_table.specs.Projection.{is_of_stock}
+use Rattle.itch_table.specs.Projection.{is_of_stock, steps_of}
+use Rattle.itch_table.proofs.StockDays.{steps-next, steps-none}
 use Rattle.itch_table.specs.Shows.{locates_of_day}
-use Rattle.day_core.specs.Dealing.{AreCounts}
+use Rattle.day_core.specs.Dealing.{AreCounts, AreCountsOfPiece, cut}
 
--- the counts so far and those of the payloads that are left make those of the day
-pub record CountsSoFar (day left : List (List ℕ)) (counts : List ℕ) : Type 0 where
-  pub long : length counts ≡ 0x1_0000
-  pub each : (locate : ℕ) → locate < 0x1_0000 → get_or counts locate 0 + count_by (is_of_stock locate) left ≡ count_by (is_of_stock locate) day
+-- no more messages than there are
+steps_few : (day : List (List ℕ)) (locate n : ℕ) → steps_of day locate n ≤ length day
+unfolding steps_of
+steps_few day locate n = omega (arith, count_by-le-length (is_of_stock locate) (take n day), length-take n day)
 
-module _ (day rest : List (List ℕ)) (payload : List ℕ) (counts : List ℕ) (before : CountsSoFar day (payload ∷ rest) counts) where
-  here : (locate : ℕ) (own : Bool) → is_of_stock locate payload ≡ own → locate < 0x1_0000
-      → get_or counts locate 0 + (cond own 1 0 + count_by (is_of_stock locate) rest) ≡ count_by (is_of_stock locate) day
-  here locate own is lt =
-      ap (λ (b : Bool). get_or counts locate 0 + (cond b 1 0 + count_by (is_of_stock locate) rest)) (sym is)
-      ∙ ap (λ (n : ℕ). get_or counts locate 0 + n) (sym (sum_by-cons (λ (p : List ℕ). cond (is_of_stock locate p) 1 0) payload rest))
-      ∙ before.each locate lt
+-- all of them
+steps_all : (day : List (List ℕ)) (locate : ℕ) → steps_of day locate (length day) ≡ count_by (is_of_stock locate) day
+unfolding steps_of
+steps_all day locate = ap (count_by (is_of_stock locate)) (take_all (length day) day (omega arith))
 
-  module _ (locate : ℕ) (is : part payload ≡ Locate locate) (fits : locate < 0x1_0000) where
+-- ---- one message more
+
+module _ (day : List (List ℕ)) (from n : ℕ) (counts : List ℕ) (before : AreCounts day from n counts) (lt : n < length day) (payload : List ℕ) (at : payload ≡ get_or day (n + 1 - 1) payload) where
+  here : get_or day n [] ≡ payload
+  here =
+      let same : n + 1 - 1 ≡ n = omega arith in
+      sym (at ∙ ap (λ (k : ℕ). get_or day k payload) same ∙ get_or_default day n payload [] lt)
+
+  next : (locate : ℕ) (own : Bool) → is_of_stock locate payload ≡ own → locate < 0x1_0000
+      → get_or counts locate 0 + steps_of day locate from + cond own 1 0 ≡ steps_of day locate (n + 1)
+  next locate own is fits =
+      ap (λ (m : ℕ). m + cond own 1 0) (before.each locate fits)
+      ∙ ap (λ (b : Bool). steps_of day locate n + cond b 1 0) (sym (ap (is_of_stock locate) here ∙ is))
+      ∙ sym (steps-next day locate n)
+
+  module _ (locate : ℕ) (is : Locate locate ≡ part payload) (fits : locate < 0x1_0000) (item : ℕ) (read : item ≡ get_or counts locate item) where
     own : is_of_stock locate payload ≡ true
-    own = rw is (eq-eqb locate locate refl)
+    own = rw (← is) (eq-eqb locate locate refl)
 
     other : (code : ℕ) → code ≢ locate → is_of_stock code payload ≡ false
-    other code differ = rw is (ne_eqb locate code (λ e. differ (sym e)))
+    other code differ = rw (← is) (ne_eqb locate code (λ e. differ (sym e)))
 
-    pub count_fits : get_or counts locate 0 + 1 ≤ length day
-    count_fits = omega (arith, here locate true own fits, count_by-le-length (is_of_stock locate) day)
+    room : locate < length counts
+    room = omega (arith, before.long)
 
-    pub counted : CountsSoFar day rest (set counts locate (get_or counts locate 0 + 1))
+    count : item ≡ get_or counts locate 0
+    count = get_or_read counts locate item room read 0
+
+    pub count_fits : item + 1 ≤ length day
+    count_fits = omega (arith, count, next locate true own fits, steps_few day locate (n + 1))
+
+    pub counted : AreCounts day from (n + 1) (set counts locate (item + 1))
     counted = record {
-      long = length-set counts locate (get_or counts locate 0 + 1) ∙ before.long;
-      each = λ code lt. elim (cases_eq code locate) [
-        | inl same ↦
-            let room : locate < length counts = omega (arith, before.long) in
-            rw (same, get_or-set_same counts locate (get_or counts locate 0 + 1) 0 room) (omega (arith, here locate true own fits))
-        | inr differ ↦ rw (get_or-set_other counts locate code (get_or counts locate 0 + 1) 0 differ) (omega (arith, here code false (other code differ) lt))
+      long = length-set counts locate (item + 1) ∙ before.long;
+      each = λ code low. elim (cases_eq code locate) [
+        | inl same ↦ rw (same, get_or-set_same counts locate (item + 1) 0 room) (omega (arith, count, next locate true own fits))
+        | inr differ ↦ rw (get_or-set_other counts locate code (item + 1) 0 differ) (omega (arith, next code false (other code differ) low))
       ];
     }
 
-  pub counted_none : (fixed : Outcome) → part payload ≡ Nowhere fixed → CountsSoFar day rest counts
+  pub counted_none : (fixed : Outcome) → Nowhere fixed ≡ part payload → AreCounts day from (n + 1) counts
   counted_none fixed is = record {
     long = before.long;
-    each = λ code lt.
-        let off : is_of_stock code payload ≡ false = rw is refl in
-        omega (arith, here code false off lt);
+    each = λ code low.
+        let off : is_of_stock code payload ≡ false = rw (← is) refl in
+        omega (arith, next code false off low);
   }
 
-pub counted_all : (day : List (List ℕ)) (counts : List ℕ) → CountsSoFar day [] counts → AreCounts day counts
-counted_all day counts all = record { long = all.long; each = λ code lt. omega (arith, all.each code lt) }
+-- none of no messages
+pub no_messages : (day : List (List ℕ)) (from : ℕ) (counts : List ℕ) → length counts ≡ 0x1_0000 → ((k : ℕ) → k < 0x1_0000 → get_or counts k 0 ≡ 0)
+    → AreCounts day from from counts
+no_messages day from counts long none = record { long = long; each = λ locate lt. omega (arith, none locate lt) }
+
+-- ---- two stretches, one after the other
+
+module _ (day : List (List ℕ)) (from middle to : ℕ) (counts more : List ℕ) (before : AreCounts day from middle counts) (then : AreCounts day middle to more) where
+  pub sums_fit : (k : ℕ) → k < 0x1_0000 → get_or counts k 0 + get_or more k 0 ≤ length day
+  sums_fit k lt = omega (arith, before.each k lt, then.each k lt, steps_few day k to)
+
+  pub joined : (both : List ℕ) → length both ≡ 0x1_0000 → ((k : ℕ) → k < 0x1_0000 → get_or both k 0 ≡ get_or counts k 0 + get_or more k 0)
+      → AreCounts day from to both
+  joined both long sums = record { long = long; each = λ k lt. omega (arith, sums k lt, before.each k lt, then.each k lt) }
+
+-- ---- the pieces of a day
+
+-- the item that stands beside a number of a range
+beside : {Y : Type 0} (R : ℕ → Y → Type 0) (a n : ℕ) (ys : List Y) (i : ℕ) (d : Y) → AllZip R (range_with_len a n) ys → i < length ys → R (a + i) (get_or ys i d)
+beside R a zero [] i d zip lt = absurd (omega arith)
+beside R a zero (y ∷ ys) i d zip lt = absurd zip
+beside R a (suc n) [] i d zip lt = absurd zip
+beside R a (suc n) (y ∷ ys) zero d zip lt = let same : a ≡ a + 0 = omega arith in subst (λ (k : ℕ). R k y) same zip.0
+beside R a (suc n) (y ∷ ys) (suc i) d zip lt =
+    let same : a + 1 + i ≡ a + suc i = omega arith in
+    subst (λ (k : ℕ). R k (get_or ys i d)) same (beside R (a + 1) n ys i d zip.1 (omega arith))
+
+module _ {V E : Type 0} (items : V → List ℕ) (day : List (List ℕ)) where
+  -- what is found in a piece are its counts
+  abbrev IsFound : ℕ → Result V E → Type 0
+  IsFound piece found = IfOk found (λ (v : V). AreCountsOfPiece day piece (items v))
+
+  abbrev AreFound : List (Result V E) → Type 0
+  AreFound pieces = AllZip IsFound (range_with_len 0 16) pieces
+
+  pub found_from : (pieces given : List (Result V E)) (places : List ℕ) → AllZip IsFound places given → places ≡ range_with_len 0 16 → pieces ≡ given → AreFound pieces
+  found_from pieces given places found all is = subst (λ (rs : List (Result V E)). AreFound rs) (sym is) (subst (λ (ps : List ℕ). AllZip IsFound ps given) all found)
+
+  -- the counts of the next piece, as a slice that is read from the list of them
+  pub next_piece : (pieces shown : List (Result V E)) (i : ℕ) (d : Result V E) (v : V) (counts : List ℕ) → AreFound pieces → shown ≡ pieces → i < length shown
+      → d ≡ get_or shown i d → d ≡ Ok v → counts ≡ items v → AreCountsOfPiece day i counts
+  next_piece pieces shown i d v counts found same lt here is read =
+      let at = beside IsFound 0 16 shown i d (subst (λ (rs : List (Result V E)). AreFound rs) (sym same) found) lt in
+      let number : 0 + i ≡ i = omega arith in
+      rw read (rw (number, ← here, is) at at)
+
+  -- as many pieces as there are make the day
+  pub pieces_all : (pieces shown : List (Result V E)) (i : ℕ) → AreFound pieces → shown ≡ pieces → i ≡ length shown → cut (length day) i ≡ length day
+  pieces_all pieces shown i found same is =
+      let long = AllZip-long IsFound (range_with_len 0 16) pieces found in
+      let all : i ≡ 16 = is ∙ ap length same ∙ long in
+      rw all (omega arith)
 
 -- ---- the stocks that have messages
 
@@ -74,10 +142,12 @@ same_kept p q a (suc n) agree =
     let now = agree a (omega arith) (omega arith) in
     rw (now, rest) refl
 
-pub locates_are : (day : List (List ℕ)) (counts locates : List ℕ) → AreCounts day counts
+pub locates_are : (day : List (List ℕ)) (counts locates : List ℕ) → AreCounts day 0 (length day) counts
     → locates ≡ filter (λ locate. ltb 0 (get_or counts locate 0)) (range_with_len 0 (length counts)) → locates ≡ locates_of_day day
 unfolding locates_of_day
 locates_are day counts locates are is =
     is ∙ ap (λ (n : ℕ). filter (λ (locate : ℕ). ltb 0 (get_or counts locate 0)) (range_with_len 0 n)) are.long
     ∙ same_kept (λ (locate : ℕ). ltb 0 (get_or counts locate 0)) (λ (locate : ℕ). list_any (is_of_stock locate) day) 0 0x1_0000
-    (λ k low high. ap (ltb 0) (are.each k (omega arith)) ∙ any_counted (is_of_stock k) day)
+    (λ k low high.
+    let all : get_or counts k 0 ≡ count_by (is_of_stock k) day = omega (arith, are.each k (omega arith), steps-none day k, steps_all day k) in
+    ap (ltb 0) all ∙ any_counted (is_of_stock k) day)

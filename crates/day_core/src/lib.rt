@@ -1,6 +1,7 @@
 //! A day in parts: what several workers make of it, put together.
 #![tactic(auto)]
 
+mod counting;
 mod merging;
 mod parts;
 mod places;

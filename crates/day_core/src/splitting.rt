@@ -1,11 +1,11 @@
 //! A day, split into the parts of its workers.
-ghost use Rattle.std.specs.Prelude.{ℕ, ◌≡◌, ◌++◌, ◌∷◌, ◌%◌, ◌<◌, ◌≤◌, ◌⊎◌, ◌↔◌, [], None, IfOk, IsErrOf, OnOk, filter, length, map, nat_lt, replicate, slice_index, slice_index_or, slice_set};
-ghost use Rattle.std.specs.List.{range_with_len};
+ghost use Rattle.std.specs.Prelude.{◌≡◌, ◌++◌, ◌∷◌, ◌<◌, ◌≤◌, ◌⊎◌, ◌↔◌, [], None, IfOk, IsErrOf, OnOk, length, map, replicate, slice_index_or, slice_set};
 ghost use Rattle.itch_layouts.specs.Shapes.{shape_of};
 ghost use Rattle.itch_table.specs.Projection.{event_with};
-ghost use Rattle.day_core.specs.Dealing.{AreCounts, AreDealt};
+ghost use Rattle.day_core.specs.Dealing.{AreDealt};
 ghost use Rattle.day_core.specs.declared.splitting.SplitFault.TheVariants.{Memory};
 
+use crate::counting::{locates_counted, messages_by_locate};
 use crate::merging::Piece;
 use crate::parts::Parts;
 use binaryfile::Day;
@@ -15,11 +15,8 @@ use std::alloc::{AllocError, Allocator};
 use std::snapshot::Snapshot;
 use std::thread::Threads;
 
-/// The most workers that a day is split for.
+// The most workers that a day is split for.
 const MOST_WORKERS: u32 = 64;
-
-/// How many locate codes there are.
-const LOCATES: usize = 1 << 16;
 
 /// Why a day isn't split. The faults are of this project.
 #[derive(Debug, Clone, Copy, PartialEq, Eq)]
@@ -36,45 +33,6 @@ impl From<AllocError> for SplitFault {
     fn from(_error: AllocError) -> SplitFault {
         SplitFault::Memory
     }
-}
-
-// So many counts of none.
-fn no_counts<A: Allocator + Copy>(alloc: A, count: usize) -> Result<Vec<u32, A>, AllocError>
-    ensures long { IfOk result (λ counts. length counts.items ≡ count) }
-    ensures none { IfOk result (λ counts. (k : ℕ) → k < count → slice_index counts.items k ≡ 0) }
-{
-    vec![in alloc; 0; count]
-}
-
-// How many messages of a day each stock has, by its locate code.
-fn messages_by_locate<A: Allocator + Copy>(
-    alloc: A,
-    day: &Day<A>,
-) -> Result<Vec<u32, A>, AllocError>
-    ensures { IfOk result (λ counts. AreCounts day.now.payloads counts.items) }
-{
-    let mut counts = no_counts(alloc, LOCATES)?;
-    for payload in day.payloads() {
-        if let Part::Locate(locate) = part(payload) {
-            counts[locate as usize] += 1;
-        }
-    }
-    Ok(counts)
-}
-
-// The locate codes of the stocks that have messages, rising.
-fn locates_counted<A: Allocator + Copy>(alloc: A, counts: &[u32]) -> Result<Vec<u16, A>, AllocError>
-    requires { length counts.now ≤ 0x1_0000 }
-    ensures { IfOk result (λ locates. locates.items
-        ≡ filter (λ locate. nat_lt 0 (slice_index counts.now locate)) (range_with_len 0 (length counts.now))) }
-{
-    let mut locates = Vec::new(alloc);
-    for (locate, count) in counts.iter().enumerate() {
-        if *count > 0 {
-            locates.push(locate as u16)?;
-        }
-    }
-    Ok(locates)
 }
 
 // How many messages the stocks of a worker have.
@@ -107,7 +65,7 @@ fn empty_lists<A: Allocator + Copy>(
     Ok(own)
 }
 
-// Adds a message to the list of the worker whose stock it is of.
+// Adds a message to the list of a worker.
 fn give<A: Allocator + Copy>(
     own: &mut Vec<Vec<u32, A>, A>,
     worker: u32,
@@ -161,7 +119,8 @@ fn deal<A: Allocator + Copy>(
 }
 
 // The parts of a day for some workers.
-fn parts_of<A: Allocator + Copy>(
+fn parts_of<R: Threads + Sync, A: Allocator + Copy + Send + Sync>(
+    rt: &R,
     alloc: A,
     day: &Day<A>,
     workers: u32,
@@ -170,7 +129,7 @@ fn parts_of<A: Allocator + Copy>(
     requires most { workers ≤ 64 }
     ensures { IfOk result (λ parts. parts ≡ record { day = day.now.payloads; workers = workers }) }
 {
-    let counts = messages_by_locate(alloc, day)?;
+    let counts = messages_by_locate(rt, alloc, day)?;
     let locates = locates_counted(alloc, &counts)?;
     let mut own = empty_lists(alloc, &counts, workers)?;
     let elsewhere = (day.len() as usize).saturating_sub(messages_of_worker(&counts, 1, 0));
@@ -188,9 +147,10 @@ fn parts_of<A: Allocator + Copy>(
 
 /// Splits a day into parts for this many workers, from 1 to 64.
 ///
-/// [`SplitFault::Workers`] where the number is another, which is looked at first, and else [`SplitFault::Memory`] where
-/// memory is refused. How a day is split is of this project.
-pub fn split<R: Threads + Sync, A: Allocator + Copy>(
+/// [`SplitFault::Workers`] where the number is another, which is looked at first, and else
+/// [`SplitFault::Memory`] where memory is refused; there are no parts after a fault. Beside the parts' own
+/// lists it takes less than five megabytes. How a day is split is of this project.
+pub fn split<R: Threads + Sync, A: Allocator + Copy + Send + Sync>(
     rt: &R,
     alloc: A,
     day: &Day<A>,
@@ -202,5 +162,5 @@ pub fn split<R: Threads + Sync, A: Allocator + Copy>(
     if workers == 0 || workers > MOST_WORKERS {
         return Err(SplitFault::Workers);
     }
-    Ok(parts_of(alloc, day, workers)?)
+    Ok(parts_of(rt, alloc, day, workers)?)
 }

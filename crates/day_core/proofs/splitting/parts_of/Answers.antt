@@ -11,7 +11,7 @@ deal-requires-clause-empty g c =
 pub invariant_of-result : goal.invariant_of-result
 invariant_of-result g c =
     let day = c.args.day.now.payloads in
-    let counted = subst (λ (counts : List ℕ). AreCounts day counts) (sym c.deref.ensures.value) c.in_ok-counts.ensures in
+    let counted = subst (λ (counts : List ℕ). AreCounts day 0 (length day) counts) (sym c.deref.ensures.value) c.in_ok-counts.ensures in
     let locates = locates_are day c.deref.result.now c.in_ok-locates.locates.items counted c.in_ok-locates.ensures in
     let few : length day < 2 ^ 32 = omega (arith, c.len.ensures) in
     let lists = map (λ list. list.items) c.deal.new.own.items in
