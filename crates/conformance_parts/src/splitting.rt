@@ -49,6 +49,21 @@ fn two_stocks<A: Allocator + Copy>(alloc: A) -> Result<Day<A>, Fail> {
     day_of(alloc, file)
 }
 
+// A day that is long enough to be counted in pieces: a message of a stock stands first, and after each 1,000 messages
+// of an unknown type.
+fn long_day<A: Allocator + Copy>(alloc: A) -> Result<Day<A>, Fail> {
+    let mut file = Vec::new(alloc);
+    add_entry(alloc, &mut file, &AAPL.directory())?;
+    for thousand in 0..200u32 {
+        for _ in 0..1_000u32 {
+            file.extend_from_slice(UNKNOWN)?;
+        }
+        let stock = if thousand % 2 == 0 { MSFT } else { AAPL };
+        add_entry(alloc, &mut file, &stock.directory())?;
+    }
+    day_of(alloc, file)
+}
+
 // The parts of a day.
 fn parts_of<R: Threads + Sync, A: Allocator + Copy + Send + Sync>(
     rt: &R,
@@ -114,19 +129,9 @@ fn a_day_is_split_for_1_to_64_workers(rt: HostRuntime) -> Result<(), Fail> {
     Ok(())
 }
 
-// A long day is counted in pieces: a message of a stock stands first, last, and after each 1,000 others.
 #[test]
 fn a_long_day_is_split_whole(rt: HostRuntime) -> Result<(), Fail> {
-    let mut file = Vec::new(rt.alloc());
-    add_entry(rt.alloc(), &mut file, &AAPL.directory())?;
-    for thousand in 0..200u32 {
-        for _ in 0..1_000u32 {
-            file.extend_from_slice(UNKNOWN)?;
-        }
-        let stock = if thousand % 2 == 0 { MSFT } else { AAPL };
-        add_entry(rt.alloc(), &mut file, &stock.directory())?;
-    }
-    let day = day_of(rt.alloc(), file)?;
+    let day = long_day(rt.alloc())?;
     let parts = parts_of(&rt, rt.alloc(), &day, 2)?;
     same_list("the stocks", parts.locates(), &[1, 2])?;
     let even = own_of(&parts, 0);
@@ -170,4 +175,24 @@ fn a_day_without_memory_stays_whole(rt: HostRuntime) -> Result<(), Fail> {
         same("the day", &day.len(), &7)?;
     }
     same("all growths", &heap.asked(), &5)
+}
+
+// Each of the 16 pieces takes a growth at least.
+#[test]
+fn a_long_day_without_memory_has_no_parts(rt: HostRuntime) -> Result<(), Fail> {
+    let heap = Refusing::new(rt.alloc(), Refusal::Never);
+    let day = long_day(&heap)?;
+    for growth in [1, 2, 9, 17u64] {
+        heap.restart(Refusal::From(growth));
+        let found = split(&rt, &heap, &day, 64).err();
+        same(
+            "a refused growth",
+            &(growth, found),
+            &(growth, Some(SplitFault::Memory)),
+        )?;
+        same("the day", &day.len(), &200_201)?;
+    }
+    heap.restart(Refusal::Never);
+    let parts = parts_of(&rt, &heap, &day, 64)?;
+    same_list("the stocks", parts.locates(), &[1, 2])
 }

@@ -6,7 +6,7 @@ use Rattle.std.proofs.lemmas.Slice.Zip.{AllZip-long}
 use Rattle.std.proofs.lemmas.Bool.{cases_eq, eq-eqb, ne_eqb}
 use Rattle.std.proofs.lemmas.Bool.Decides.{nat_tests}
 use Rattle.std.proofs.lemmas.Grind.{common_steps}
-use Rattle.std.proofs.lemmas.List.{get_or_default, get_or-set_same, get_or-set_other, length-set, length-take, take_all}
+use Rattle.std.proofs.lemmas.List.{get_or_default, get_or_read, get_or-set_same, get_or-set_other, length-set, length-take, take_all}
 use Rattle.std.proofs.lemmas.List.Sums.{count_by-le-length}
 use Rattle.itch_table.specs.declared.outcome.Outcome.{Outcome}
 use Rattle.itch_table.specs.declared.outcome.Part.TheVariants.{Locate, Nowhere}
@@ -14,7 +14,7 @@ use Rattle.itch_table.specs.Parts.{part}
 use Rattle.itch_table.specs.Projection.{is_of_stock, steps_of}
 use Rattle.itch_table.proofs.StockDays.{steps-next, steps-none}
 use Rattle.itch_table.specs.Shows.{locates_of_day}
-use Rattle.day_core.specs.Dealing.{AreCounts, cut}
+use Rattle.day_core.specs.Dealing.{AreCounts, AreCountsOfPiece, cut}
 
 -- no more messages than there are
 steps_few : (day : List (List ℕ)) (locate n : ℕ) → steps_of day locate n ≤ length day
@@ -28,45 +28,50 @@ steps_all day locate = ap (count_by (is_of_stock locate)) (take_all (length day)
 
 -- ---- one message more
 
-pub part_here : (day : List (List ℕ)) (n : ℕ) (payload : List ℕ) → payload ≡ get_or day (n + 1 - 1) payload → n < length day → part (get_or day n []) ≡ part payload
-part_here day n payload is lt =
-    let same : n + 1 - 1 ≡ n = omega arith in
-    ap part (sym (is ∙ ap (λ (k : ℕ). get_or day k payload) same ∙ get_or_default day n payload [] lt))
+module _ (day : List (List ℕ)) (from n : ℕ) (counts : List ℕ) (before : AreCounts day from n counts) (lt : n < length day) (payload : List ℕ) (at : payload ≡ get_or day (n + 1 - 1) payload) where
+  here : get_or day n [] ≡ payload
+  here =
+      let same : n + 1 - 1 ≡ n = omega arith in
+      sym (at ∙ ap (λ (k : ℕ). get_or day k payload) same ∙ get_or_default day n payload [] lt)
 
-module _ (day : List (List ℕ)) (from n : ℕ) (counts : List ℕ) (before : AreCounts day from n counts) where
-  next : (locate : ℕ) (own : Bool) → is_of_stock locate (get_or day n []) ≡ own → locate < 0x1_0000
+  next : (locate : ℕ) (own : Bool) → is_of_stock locate payload ≡ own → locate < 0x1_0000
       → get_or counts locate 0 + steps_of day locate from + cond own 1 0 ≡ steps_of day locate (n + 1)
-  next locate own is lt =
-      ap (λ (m : ℕ). m + cond own 1 0) (before.each locate lt) ∙ ap (λ (b : Bool). steps_of day locate n + cond b 1 0) (sym is)
+  next locate own is fits =
+      ap (λ (m : ℕ). m + cond own 1 0) (before.each locate fits)
+      ∙ ap (λ (b : Bool). steps_of day locate n + cond b 1 0) (sym (ap (is_of_stock locate) here ∙ is))
       ∙ sym (steps-next day locate n)
 
-  module _ (locate : ℕ) (is : part (get_or day n []) ≡ Locate locate) (fits : locate < 0x1_0000) where
-    own : is_of_stock locate (get_or day n []) ≡ true
-    own = rw is (eq-eqb locate locate refl)
+  module _ (locate : ℕ) (is : Locate locate ≡ part payload) (fits : locate < 0x1_0000) (item : ℕ) (read : item ≡ get_or counts locate item) where
+    own : is_of_stock locate payload ≡ true
+    own = rw (← is) (eq-eqb locate locate refl)
 
-    other : (code : ℕ) → code ≢ locate → is_of_stock code (get_or day n []) ≡ false
-    other code differ = rw is (ne_eqb locate code (λ e. differ (sym e)))
+    other : (code : ℕ) → code ≢ locate → is_of_stock code payload ≡ false
+    other code differ = rw (← is) (ne_eqb locate code (λ e. differ (sym e)))
 
-    pub count_fits : get_or counts locate 0 + 1 ≤ length day
-    count_fits = omega (arith, next locate true own fits, steps_few day locate (n + 1))
+    room : locate < length counts
+    room = omega (arith, before.long)
 
-    pub counted : AreCounts day from (n + 1) (set counts locate (get_or counts locate 0 + 1))
+    count : item ≡ get_or counts locate 0
+    count = get_or_read counts locate item room read 0
+
+    pub count_fits : item + 1 ≤ length day
+    count_fits = omega (arith, count, next locate true own fits, steps_few day locate (n + 1))
+
+    pub counted : AreCounts day from (n + 1) (set counts locate (item + 1))
     counted = record {
-      long = length-set counts locate (get_or counts locate 0 + 1) ∙ before.long;
-      each = λ code lt. elim (cases_eq code locate) [
-        | inl same ↦
-            let room : locate < length counts = omega (arith, before.long) in
-            rw (same, get_or-set_same counts locate (get_or counts locate 0 + 1) 0 room) (omega (arith, next locate true own fits))
-        | inr differ ↦ rw (get_or-set_other counts locate code (get_or counts locate 0 + 1) 0 differ) (omega (arith, next code false (other code differ) lt))
+      long = length-set counts locate (item + 1) ∙ before.long;
+      each = λ code low. elim (cases_eq code locate) [
+        | inl same ↦ rw (same, get_or-set_same counts locate (item + 1) 0 room) (omega (arith, count, next locate true own fits))
+        | inr differ ↦ rw (get_or-set_other counts locate code (item + 1) 0 differ) (omega (arith, next code false (other code differ) low))
       ];
     }
 
-  pub counted_none : (fixed : Outcome) → part (get_or day n []) ≡ Nowhere fixed → AreCounts day from (n + 1) counts
+  pub counted_none : (fixed : Outcome) → Nowhere fixed ≡ part payload → AreCounts day from (n + 1) counts
   counted_none fixed is = record {
     long = before.long;
-    each = λ code lt.
-        let off : is_of_stock code (get_or day n []) ≡ false = rw is refl in
-        omega (arith, next code false off lt);
+    each = λ code low.
+        let off : is_of_stock code payload ≡ false = rw (← is) refl in
+        omega (arith, next code false off low);
   }
 
 -- none of no messages
@@ -99,7 +104,7 @@ beside R a (suc n) (y ∷ ys) (suc i) d zip lt =
 module _ {V E : Type 0} (items : V → List ℕ) (day : List (List ℕ)) where
   -- what is found in a piece are its counts
   abbrev IsFound : ℕ → Result V E → Type 0
-  IsFound piece found = IfOk found (λ (v : V). AreCounts day (cut (length day) piece) (cut (length day) (piece + 1)) (items v))
+  IsFound piece found = IfOk found (λ (v : V). AreCountsOfPiece day piece (items v))
 
   abbrev AreFound : List (Result V E) → Type 0
   AreFound pieces = AllZip IsFound (range_with_len 0 16) pieces
@@ -109,7 +114,7 @@ module _ {V E : Type 0} (items : V → List ℕ) (day : List (List ℕ)) where
 
   -- the counts of the next piece, as a slice that is read from the list of them
   pub next_piece : (pieces shown : List (Result V E)) (i : ℕ) (d : Result V E) (v : V) (counts : List ℕ) → AreFound pieces → shown ≡ pieces → i < length shown
-      → d ≡ get_or shown i d → d ≡ Ok v → counts ≡ items v → AreCounts day (cut (length day) i) (cut (length day) (i + 1)) counts
+      → d ≡ get_or shown i d → d ≡ Ok v → counts ≡ items v → AreCountsOfPiece day i counts
   next_piece pieces shown i d v counts found same lt here is read =
       let at = beside IsFound 0 16 shown i d (subst (λ (rs : List (Result V E)). AreFound rs) (sym same) found) lt in
       let number : 0 + i ≡ i = omega arith in

@@ -2,3 +2,9 @@ mod Merged
 mod Ranges
 mod Counted
 mod Dealt
+mod Kept
+mod Placing
+mod Progress
+mod Running
+mod Whole
+mod Crews

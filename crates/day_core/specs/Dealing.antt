@@ -6,8 +6,7 @@ use Rattle.itch_table.specs.Projection.{steps_of}
 use Rattle.day_core.specs.declared.merging.Piece.{Piece}
 use Rattle.day_core.specs.Owners.{is_nowhere, own_until, part_at, piece_of}
 
--- how many messages each stock has between two places of a day, by its locate code: those after the first from messages,
--- up to number to
+-- how many messages each stock has in a stretch of a day, by its locate code: of those after message from, up to message to
 pub record AreCounts (day : List (List ℕ)) (from to : ℕ) (counts : List ℕ) : Type 0 where
   pub long : length counts ≡ 0x1_0000
   pub each : (locate : ℕ) → locate < 0x1_0000 → slice_index counts locate + steps_of day locate from ≡ steps_of day locate to
@@ -15,6 +14,10 @@ pub record AreCounts (day : List (List ℕ)) (from to : ℕ) (counts : List ℕ)
 -- where a piece of a day begins, by its number from 0, of 16 that make the day
 abbrev pub cut : ℕ → ℕ → ℕ
 cut messages piece = min (piece * (messages / 16 + 1)) messages
+
+-- how many messages each stock has in a piece of a day, by its locate code
+abbrev pub AreCountsOfPiece : List (List ℕ) → ℕ → List ℕ → Type 0
+AreCountsOfPiece day piece counts = AreCounts day (cut (length day) piece) (cut (length day) (piece + 1)) counts
 
 -- those of the first messages that are of no stock, with their outcomes, rising
 abbrev pub fixed_until : List (List ℕ) → ℕ → List Piece

@@ -1,4 +1,7 @@
+pub mod Dealing
 pub mod Merging
 pub mod Owners
+pub mod Placed
+pub mod Replaying
 pub mod Splitting
-pub mod Dealing
+pub mod Standing

@@ -1,10 +1,16 @@
 //! A day in parts: what several workers make of it, put together.
 #![tactic(auto)]
 
+mod counting;
 mod merging;
 mod parts;
+mod places;
+mod replaying;
+mod runner;
 mod splitting;
 
 pub use merging::{MergeFault, Piece, merge};
 pub use parts::Parts;
+pub use replaying::{Replayed, replay_parts};
+pub use runner::{Runner, Turned};
 pub use splitting::{SplitFault, split};

@@ -1,32 +1,22 @@
 //! A day, split into the parts of its workers.
-ghost use Rattle.std.specs.Prelude.{ℕ, ◌≡◌, ◌+◌, ◌^◌, ◌++◌, ◌∷◌, ◌%◌, ◌<◌, ◌≤◌, ◌⊎◌, ◌↔◌, [], None, IfOk, IsErrOf, OnOk, filter, length, map, nat_lt, replicate, slice_index, slice_index_or, slice_set};
-ghost use Rattle.std.specs.List.{AllZip, range_with_len};
+ghost use Rattle.std.specs.Prelude.{◌≡◌, ◌++◌, ◌∷◌, ◌<◌, ◌≤◌, ◌⊎◌, ◌↔◌, [], None, IfOk, IsErrOf, OnOk, length, map, replicate, slice_index_or, slice_set};
 ghost use Rattle.itch_layouts.specs.Shapes.{shape_of};
 ghost use Rattle.itch_table.specs.Projection.{event_with};
-ghost use Rattle.day_core.specs.Dealing.{AreCounts, AreDealt, cut};
+ghost use Rattle.day_core.specs.Dealing.{AreDealt};
 ghost use Rattle.day_core.specs.declared.splitting.SplitFault.TheVariants.{Memory};
 
+use crate::counting::{locates_counted, messages_by_locate};
 use crate::merging::Piece;
 use crate::parts::Parts;
 use binaryfile::Day;
 use itch_layouts::{Msg, Shape, read_msg};
 use itch_table::{Part, part};
-use rayon::prelude::*;
 use std::alloc::{AllocError, Allocator};
 use std::snapshot::Snapshot;
 use std::thread::Threads;
 
-/// The most workers that a day is split for.
+// The most workers that a day is split for.
 const MOST_WORKERS: u32 = 64;
-
-/// How many locate codes there are.
-const LOCATES: usize = 1 << 16;
-
-/// In how many pieces the messages of a long day are counted, each by one thread.
-const PIECES: u32 = 16;
-
-/// How many messages a day has at least to be counted in pieces.
-const MANY: u32 = 1 << 17;
 
 /// Why a day isn't split. The faults are of this project.
 #[derive(Debug, Clone, Copy, PartialEq, Eq)]
@@ -43,123 +33,6 @@ impl From<AllocError> for SplitFault {
     fn from(_error: AllocError) -> SplitFault {
         SplitFault::Memory
     }
-}
-
-// So many counts of none.
-fn no_counts<A: Allocator + Copy>(alloc: A, count: usize) -> Result<Vec<u32, A>, AllocError>
-    ensures long { IfOk result (λ counts. length counts.items ≡ count) }
-    ensures none { IfOk result (λ counts. (k : ℕ) → k < count → slice_index counts.items k ≡ 0) }
-{
-    vec![in alloc; 0; count]
-}
-
-// How many messages each stock has in a stretch of a day, by its locate code.
-fn counts_between<A: Allocator + Copy>(
-    alloc: A,
-    day: &Day<A>,
-    from: u32,
-    to: u32,
-) -> Result<Vec<u32, A>, AllocError>
-    requires order { from ≤ to }
-    requires within { to ≤ length day.now.payloads }
-    requires few { length day.now.payloads < 2 ^ 32 }
-    ensures { IfOk result (λ counts. AreCounts day.now.payloads from to counts.items) }
-{
-    let mut counts = no_counts(alloc, LOCATES)?;
-    for before in from..to {
-        if let Part::Locate(locate) = part(day.payload(before + 1)) {
-            counts[locate as usize] += 1;
-        }
-    }
-    Ok(counts)
-}
-
-// Where a piece of a day begins.
-fn start_of(messages: u32, piece: u32) -> u32
-    ensures { result ≡ cut messages piece }
-{
-    piece.saturating_mul(messages / PIECES + 1).min(messages)
-}
-
-// The counts of each piece of a day, by as many threads as there are processors.
-fn counts_by_piece<R: Threads + Sync, A: Allocator + Copy + Send + Sync>(
-    rt: &R,
-    alloc: A,
-    day: &Day<A>,
-) -> Result<Vec<Result<Vec<u32, A>, AllocError>, A>, AllocError>
-    ensures { IfOk result (λ pieces. AllZip (λ piece counts. IfOk counts (λ found. AreCounts day.now.payloads
-        (cut (length day.now.payloads) piece) (cut (length day.now.payloads) (piece + 1)) found.items))
-        (range_with_len 0 16) pieces.items) }
-{
-    (0..PIECES)
-        .into_par_iter()
-        .with_min_len(1)
-        .map(
-            |piece: u32| -> Result<Vec<u32, A>, AllocError>
-                requires { piece < 16 }
-                ensures { IfOk result (λ found. AreCounts day.entry.now.payloads
-                    (cut (length day.entry.now.payloads) piece) (cut (length day.entry.now.payloads) (piece + 1)) found.items) }
-            {
-                let messages = day.len();
-                counts_between(
-                    alloc,
-                    day,
-                    start_of(messages, piece),
-                    start_of(messages, piece + 1),
-                )
-            },
-        )
-        .collect(rt, alloc)
-}
-
-// Adds counts to others.
-fn add<A: Allocator + Copy>(counts: &mut Vec<u32, A>, more: &[u32])
-    requires long { length more.now ≡ length counts.old.items }
-    requires fits { (k : ℕ) → k < length more.now →
-        slice_index counts.old.items k + slice_index more.now k < 2 ^ 32 }
-    ensures long { length counts.new.items ≡ length counts.old.items }
-    ensures sums { (k : ℕ) → k < length more.now →
-        slice_index counts.new.items k ≡ slice_index counts.old.items k + slice_index more.now k }
-{
-    for (place, count) in more.iter().enumerate() {
-        counts[place] += *count;
-    }
-}
-
-// How many messages of a day each stock has, by its locate code.
-fn messages_by_locate<R: Threads + Sync, A: Allocator + Copy + Send + Sync>(
-    rt: &R,
-    alloc: A,
-    day: &Day<A>,
-) -> Result<Vec<u32, A>, AllocError>
-    ensures { IfOk result (λ counts. AreCounts day.now.payloads 0 (length day.now.payloads) counts.items) }
-{
-    if day.len() < MANY {
-        return counts_between(alloc, day, 0, day.len());
-    }
-    let mut counts = no_counts(alloc, LOCATES)?;
-    for piece in &counts_by_piece(rt, alloc, day)? {
-        match piece {
-            Ok(more) => add(&mut counts, more),
-            Err(_) => return Err(AllocError),
-        }
-    }
-    Ok(counts)
-}
-
-// The locate codes of the stocks that have messages, rising.
-fn locates_counted<A: Allocator + Copy>(alloc: A, counts: &[u32]) -> Result<Vec<u16, A>, AllocError>
-    requires { length counts.now ≤ 0x1_0000 }
-    ensures { IfOk result (λ locates. locates.items
-        ≡ filter (λ locate. nat_lt 0 (slice_index counts.now locate)) (range_with_len 0 (length counts.now))) }
-{
-    let mut locates = Vec::new(alloc);
-    for (locate, count) in counts.iter().enumerate() {
-        if *count > 0 {
-            locates.push(locate as u16)?;
-        }
-    }
-    Ok(locates)
 }
 
 // How many messages the stocks of a worker have.
@@ -192,7 +65,7 @@ fn empty_lists<A: Allocator + Copy>(
     Ok(own)
 }
 
-// Adds a message to the list of the worker whose stock it is of.
+// Adds a message to the list of a worker.
 fn give<A: Allocator + Copy>(
     own: &mut Vec<Vec<u32, A>, A>,
     worker: u32,
@@ -274,8 +147,9 @@ fn parts_of<R: Threads + Sync, A: Allocator + Copy + Send + Sync>(
 
 /// Splits a day into parts for this many workers, from 1 to 64.
 ///
-/// [`SplitFault::Workers`] where the number is another, which is looked at first, and else [`SplitFault::Memory`] where
-/// memory is refused. How a day is split is of this project.
+/// [`SplitFault::Workers`] where the number is another, which is looked at first, and else
+/// [`SplitFault::Memory`] where memory is refused; there are no parts after a fault. Beside the parts' own
+/// lists it takes less than five megabytes. How a day is split is of this project.
 pub fn split<R: Threads + Sync, A: Allocator + Copy + Send + Sync>(
     rt: &R,
     alloc: A,

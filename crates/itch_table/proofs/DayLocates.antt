@@ -44,7 +44,7 @@ place_of p d (x ∷ xs) any = elim (p x) as (λ (b : Bool). p x ≡ b → (i : �
 ] refl
 
 -- a number is among those that pass where it is in the list and passes
-any_picked : (p : ℕ → Bool) (q : ℕ) (ks : List ℕ) → p q ≡ true → list_any (eqb q) ks ≡ true → list_any (eqb q) (filter p ks) ≡ true
+pub any_picked : (p : ℕ → Bool) (q : ℕ) (ks : List ℕ) → p q ≡ true → list_any (eqb q) ks ≡ true → list_any (eqb q) (filter p ks) ≡ true
 any_picked p q [] on any = any
 any_picked p q (k ∷ ks) on any = grind (arith, common_steps, nat_tests, any_picked p q ks on)
 
@@ -61,7 +61,7 @@ any_of : (day : List (List ℕ)) (locate : ℕ) → HasMessage day locate → an
 any_of day locate has =
     list_any_at (is_of_stock locate) day (has.0 - 1) [] (omega (arith, has.1, has.2)) (is_own_part locate (part (payload_at day has.0)) has.3)
 
-in_range : (locate n : ℕ) → locate < n → list_any (eqb locate) (range_with_len 0 n) ≡ true
+pub in_range : (locate n : ℕ) → locate < n → list_any (eqb locate) (range_with_len 0 n) ≡ true
 in_range locate n lt =
     let here : get_or (range_with_len 0 n) locate 0 ≡ locate = get_or-range_with_len 0 n locate 0 lt ∙ omega arith in
     list_any_at (eqb locate) (range_with_len 0 n) locate 0 (omega (arith, length-range_with_len 0 n)) (rw here (same_code locate))

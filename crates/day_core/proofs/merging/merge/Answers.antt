@@ -1,10 +1,9 @@
-use Rattle.std.proofs.Common.{ap, subst, ◌∙◌, map, arith, rules, List, Option}
+use Rattle.std.proofs.Common.{◌≡◌, ap, ◌∙◌, length, map, arith, rules}
 use Rattle.std.proofs.lemmas.List.{take_all}
 use Rattle.std.proofs.lemmas.Result.{IfErr-weaker, IfOk-weaker}
-use Rattle.itch_table.specs.declared.outcome.Outcome.{Outcome}
-use Rattle.day_core.specs.declared.merging.Piece.{Piece}
-use Rattle.day_core.specs.Merging.{AreFilled, Holds, IsEmptyAt, joined}
+use Rattle.day_core.specs.Merging.{AreFilled, Holds, joined}
 use Rattle.day_core.proofs.Merged.{first_fault, joined_more, merged_all, least_missing}
+use Rattle.day_core.proofs.merging.merge.Given as given
 use Rattle.day_core.proofs.merging.merge.Goals as goal
 
 pub returns-in-Err-clause-fault : goal.returns-in-Err-clause-fault
@@ -24,20 +23,22 @@ loop-list-preserved g c = record {
       rw (more, ← list) placed;
 }
 
+-- what the slots hold once all lists are placed
+held : (g : given.Over) (c : goal.After-drop-pieces-2 g) → Holds (joined (map (λ v. v.items) c.args.pieces.items)) c.deref-2.result.now
+held g c =
+    let lists = ap (λ l. joined (map (λ v. v.items) l)) (take_all c.loop-list.list-index c.deref-list-items.result.now (omega arith) ∙ c.deref-list-items.ensures.value) in
+    rw (c.deref-2.ensures.value, ← lists) c.loop-list.invariant.placed
+
+-- one for each message
+as_many : (g : given.Over) (c : goal.After-drop-pieces-2 g) → length c.deref-2.result.now ≡ c.args.messages
+as_many g c = ap length c.deref-2.ensures.value ∙ c.loop-list.invariant.long
+
 pub returns-clause-merged : goal.returns-clause-merged
 returns-clause-merged g c =
-    let slots = c.loop-list.slots.items in
-    let lists = ap (λ l. joined (map (λ v. v.items) l)) (take_all c.loop-list.list-index c.deref-list-items.result.now (omega arith) ∙ c.deref-list-items.ensures.value) in
-    let holds = subst (λ (pieces : List Piece). Holds pieces slots) lists c.loop-list.invariant.placed in
-    let same = c.deref-2.ensures.value in
-    IfOk-weaker c.gathered.result (λ outcomes. AreFilled c.deref-2.result.now outcomes.items) _ (λ outcomes filled.
-    rw (← c.loop-list.invariant.long) (merged_all _ slots outcomes.items holds (subst (λ (s : List (Option Outcome)). AreFilled s outcomes.items) same filled))
-    ) c.gathered.ensures.ok
+    IfOk-weaker c.gathered.result (λ outcomes. AreFilled c.deref-2.result.now outcomes.items) _
+    (λ outcomes filled. rw (← as_many g c) (merged_all _ c.deref-2.result.now outcomes.items (held g c) filled)) c.gathered.ensures.ok
 
 pub returns-clause-fault : goal.returns-clause-fault
 returns-clause-fault g c =
-    let slots = c.loop-list.slots.items in
-    let lists = ap (λ l. joined (map (λ v. v.items) l)) (take_all c.loop-list.list-index c.deref-list-items.result.now (omega arith) ∙ c.deref-list-items.ensures.value) in
-    let holds = subst (λ (pieces : List Piece). Holds pieces slots) lists c.loop-list.invariant.placed in
-    let same = c.deref-2.ensures.value in
-    IfErr-weaker c.gathered.result _ _ (λ fault empty. rw (← c.loop-list.invariant.long) (least_missing _ slots fault holds (subst (λ (s : List (Option Outcome)). IsEmptyAt s fault) same empty))) c.gathered.ensures.missing
+    IfErr-weaker c.gathered.result _ _
+    (λ fault empty. rw (← as_many g c) (least_missing _ c.deref-2.result.now fault (held g c) empty)) c.gathered.ensures.missing

@@ -1,5 +1,5 @@
 use Rattle.day_core.specs.Dealing.{AreCounts}
-use Rattle.day_core.proofs.splitting.counts_between.Given as goal
+use Rattle.day_core.proofs.counting.counts_between.Given as goal
 
 abbrev pub invariant-loop-before : goal.invariant-loop-before
 invariant-loop-before g l = AreCounts l.day.payloads l.from l.before l.counts.items

@@ -1,12 +1,12 @@
-use Rattle.std.proofs.Common.{◌+◌, ℕ, length, sym, subst, ◌∙◌, arith}
-use Rattle.day_core.specs.Dealing.{AreCounts, cut}
+use Rattle.std.proofs.Common.{ℕ, sym, subst, ◌∙◌, arith}
+use Rattle.day_core.specs.Dealing.{AreCounts, AreCountsOfPiece}
 use Rattle.day_core.proofs.Counted.{joined, next_piece, pieces_all, sums_fit}
-use Rattle.day_core.proofs.splitting.messages_by_locate.Given as given
-use Rattle.day_core.proofs.splitting.messages_by_locate.Goals as goal
+use Rattle.day_core.proofs.counting.messages_by_locate.Given as given
+use Rattle.day_core.proofs.counting.messages_by_locate.Goals as goal
 
 -- the counts of the piece that is added
 found : (g : given.Over) (c : goal.After-deref g)
-    → AreCounts c.args.day.now.payloads (cut (length c.args.day.now.payloads) c.loop-piece.piece-index) (cut (length c.args.day.now.payloads) (c.loop-piece.piece-index + 1)) c.deref.result.now
+    → AreCountsOfPiece c.args.day.now.payloads c.loop-piece.piece-index c.deref.result.now
 found g c =
     next_piece (λ v. v.items) c.args.day.now.payloads c.in_ok-counts_by_piece.field-0.items _ _ _ c.in-Ok.more c.deref.result.now
     c.in_ok-counts_by_piece.ensures c.deref-piece-items.ensures.value c.loop-piece-test.true c.piece-item.is c.in-Ok.is c.deref.ensures.value

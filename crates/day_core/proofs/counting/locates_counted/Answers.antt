@@ -1,8 +1,8 @@
 use Rattle.std.proofs.Common.{◌≡◌, ◌++◌, ◌∷◌, [], ℕ, List, Bool, true, false, cond, ltb, get_or, filter, ap, sym, ◌∙◌, arith, rules, tests, append-nil}
 use Rattle.std.specs.List.{range_with_len}
 use Rattle.day_core.proofs.Ranges.{kept_more}
-use Rattle.day_core.proofs.splitting.locates_counted.Goals as goal
-use Rattle.day_core.proofs.splitting.locates_counted.Goals.{then-count-gt0+in_ok-push, else-count-gt0}
+use Rattle.day_core.proofs.counting.locates_counted.Goals as goal
+use Rattle.day_core.proofs.counting.locates_counted.Goals.{then-count-gt0+in_ok-push, else-count-gt0}
 
 pub loop-locate-preserved : goal.loop-locate-preserved
 loop-locate-preserved g c =

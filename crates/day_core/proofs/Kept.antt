@@ -1,0 +1,56 @@
+-- What a test keeps of a range of numbers.
+use Rattle.std.proofs.Common.{◌≡◌, ℕ, zero, suc, ◌+◌, ◌-◌, ◌<◌, ◌≤◌, List, [], ◌∷◌, length, Bool, true, false, cond, get_or, filter, take, refl, ap, arith}
+use Rattle.std.specs.List.{range_with_len}
+use Rattle.std.specs.List.Sorted.{IsStrictlyIncreasing}
+use Rattle.std.proofs.lemmas.Bool.{cases_Bool}
+use Rattle.std.proofs.lemmas.List.Elements.{All-filter, All-from_get_or}
+use Rattle.std.proofs.lemmas.List.FromFn.{get_or-range_with_len, length-range_with_len}
+use Rattle.std.proofs.Common.{inl, inr}
+
+-- each number kept is in the range
+pub kept_within : (p : ℕ → Bool) (a n i d : ℕ) → i < length (filter p (range_with_len a n))
+    → (a ≤ get_or (filter p (range_with_len a n)) i d) × (get_or (filter p (range_with_len a n)) i d < a + n)
+kept_within p a n i d lt =
+    All-filter p (λ m. (a ≤ m) × (m < a + n)) (range_with_len a n) (All-from_get_or (λ m. (a ≤ m) × (m < a + n)) (range_with_len a n) 0 (λ k below.
+    let here = get_or-range_with_len a n k 0 (omega (arith, length-range_with_len a n)) in
+    (omega (arith, here), omega (arith, here, below, length-range_with_len a n)))) i d lt
+
+pub range_rises : (a n : ℕ) → IsStrictlyIncreasing (range_with_len a n)
+range_rises a n k lt =
+    let short : k + 1 < n = omega (arith, lt, length-range_with_len a n) in
+    omega (arith, get_or-range_with_len a n k 0 (omega arith), get_or-range_with_len a n (k + 1) 0 short)
+
+-- those before one of the numbers kept are all that are kept below it
+pub kept_before : (p : ℕ → Bool) (a n i d : ℕ) → i < length (filter p (range_with_len a n))
+    → take i (filter p (range_with_len a n)) ≡ filter p (range_with_len a (get_or (filter p (range_with_len a n)) i d - a))
+kept_before p a zero i d lt = absurd (omega arith)
+kept_before p a (suc n) i d lt =
+    let rest = filter p (range_with_len (a + 1) n) in
+    (elim (p a) as (λ (b : Bool). p a ≡ b → i < length (cond b (a ∷ rest) rest)
+    → take i (cond b (a ∷ rest) rest) ≡ filter p (range_with_len a (get_or (cond b (a ∷ rest) rest) i d - a))) [
+      | true ↦ λ on. elim i as (λ (k : ℕ). k < length (a ∷ rest) → take k (a ∷ rest) ≡ filter p (range_with_len a (get_or (a ∷ rest) k d - a))) [
+        | zero ↦ λ within. let none : a - a ≡ 0 = omega arith in rw none refl
+        | suc k ↦ λ within.
+            let low = kept_within p (a + 1) n k d (omega arith) in
+            let more : get_or rest k d - a ≡ suc (get_or rest k d - (a + 1)) = omega (arith, low) in
+            rw (more, on) (ap (λ (xs : List ℕ). a ∷ xs) (kept_before p (a + 1) n k d (omega arith)))
+      ]
+      | false ↦ λ off within.
+          let low = kept_within p (a + 1) n i d within in
+          let more : get_or rest i d - a ≡ suc (get_or rest i d - (a + 1)) = omega (arith, low) in
+          rw (more, off) (kept_before p (a + 1) n i d within)
+    ]) refl lt
+
+-- a narrower test keeps of what a wider one kept all that it keeps
+pub kept_narrower : (p q : ℕ → Bool) (xs : List ℕ) → ((x : ℕ) → q x ≡ true → p x ≡ true) → filter q (filter p xs) ≡ filter q xs
+kept_narrower p q [] narrower = refl
+kept_narrower p q (x ∷ xs) narrower =
+    let rest = kept_narrower p q xs narrower in
+    elim (cases_Bool (q x)) [
+      | inl on ↦ rw (narrower x on) (ap (λ (l : List ℕ). cond (q x) (x ∷ l) l) rest)
+      | inr off ↦ rw off (dropped (p x) off rest)
+    ]
+  where
+    dropped : (b : Bool) → q x ≡ false → filter q (filter p xs) ≡ filter q xs → filter q (cond b (x ∷ filter p xs) (filter p xs)) ≡ filter q xs
+    dropped true off rest = rw off rest
+    dropped false off rest = rest

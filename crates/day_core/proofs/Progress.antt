@@ -1,0 +1,107 @@
+-- How far a stock is once its worker has done some of its messages.
+use Rattle.std.proofs.Common.{◌≡◌, ℕ, zero, suc, ◌+◌, ◌-◌, ◌<◌, ◌≤◌, List, [], ◌∷◌, ◌++◌, length, Bool, true, false, cond, get_or, filter, take, refl, sym, ap, subst, ◌∙◌, arith, append-nil, inl, inr}
+use Rattle.std.specs.List.{range_with_len}
+use Rattle.std.proofs.lemmas.Bool.{cases_Bool, eq-eqb}
+use Rattle.std.proofs.lemmas.List.{take_all}
+use Rattle.std.proofs.lemmas.List.Elements.{filter_more, filter_passes}
+use Rattle.itch_table.specs.After.{after}
+use Rattle.itch_table.specs.Projection.{is_locate, is_of_stock, only, steps_of}
+use Rattle.itch_table.proofs.StockDays.{other_next, other_part, own_part, steps-next}
+use Rattle.day_core.specs.Owners.{is_own, last_or, machine_of, of_stock, own_of, owner, part_at, progress}
+use Rattle.day_core.proofs.Kept.{kept_before, kept_narrower, kept_within}
+use Rattle.day_core.proofs.Ranges.{kept_more}
+
+-- a number of a worker's list is that of a message of one of its stocks
+pub own_within : (workers worker : ℕ) (day : List (List ℕ)) (i d : ℕ) → i < length (own_of workers worker day)
+    → (1 ≤ get_or (own_of workers worker day) i d) × (get_or (own_of workers worker day) i d ≤ length day)
+unfolding own_of
+own_within workers worker day i d lt =
+    let within = kept_within (λ n. is_own workers worker (part_at day n)) 1 (length day) i d lt in
+    (omega (arith, within), omega (arith, within))
+
+pub own_passes : (workers worker : ℕ) (day : List (List ℕ)) (i d : ℕ) → i < length (own_of workers worker day)
+    → is_own workers worker (part_at day (get_or (own_of workers worker day) i d)) ≡ true
+unfolding own_of
+own_passes workers worker day i d lt = filter_passes (λ n. is_own workers worker (part_at day n)) (range_with_len 1 (length day)) i d lt
+
+-- a stock's machine stays as it is while another's message comes
+pub machine_stays : (day : List (List ℕ)) (locate n : ℕ) → is_of_stock locate (get_or day n []) ≡ false → machine_of day locate (n + 1) ≡ machine_of day locate n
+machine_stays day locate n off =
+    let world : only locate (after day (n + 1)) ≡ only locate (after day n) = other_next day locate n (other_part locate _ off) in
+    let steps : steps_of day locate (n + 1) ≡ steps_of day locate n = steps-next day locate n ∙ ap (λ (b : Bool). steps_of day locate n + cond b 1 0) off ∙ omega arith in
+    λ i. record { locate = locate; world = world i; steps = steps i }
+
+last_push : (d : ℕ) (xs : List ℕ) (x : ℕ) → last_or d (xs ++ x ∷ []) ≡ x
+last_push d [] x = refl
+last_push d (y ∷ ys) x = last_push y ys x
+
+-- the last of a stock's messages among the first of a day
+abbrev last_until : List (List ℕ) → ℕ → ℕ → ℕ
+last_until day locate count = last_or 0 (of_stock day locate (range_with_len 1 count))
+
+-- a stock's machine is as its last message left it
+abbrev UntilLast : List (List ℕ) → ℕ → ℕ → Type 0
+UntilLast day locate n = machine_of day locate (last_until day locate n) ≡ machine_of day locate n
+
+until_more : (day : List (List ℕ)) (locate n : ℕ) → UntilLast day locate n → UntilLast day locate (n + 1)
+until_more day locate n before =
+    let q = λ (m : ℕ). is_locate locate (part_at day m) in
+    let xs = filter q (range_with_len 1 n) in
+    let here : n + 1 - 1 ≡ n = omega arith in
+    ap (λ (l : List ℕ). machine_of day locate (last_or 0 l)) (kept_more q 1 n (n + 1) (omega arith))
+    ∙ elim (cases_Bool (q (n + 1))) [
+      | inl on ↦
+          ap (λ (b : Bool). machine_of day locate (last_or 0 (xs ++ cond b ((n + 1) ∷ []) []))) on
+          ∙ ap (machine_of day locate) (last_push 0 xs (n + 1))
+      | inr off ↦
+          ap (λ (b : Bool). machine_of day locate (last_or 0 (xs ++ cond b ((n + 1) ∷ []) []))) off
+          ∙ ap (λ (l : List ℕ). machine_of day locate (last_or 0 l)) (append-nil xs)
+          ∙ before ∙ sym (machine_stays day locate n (rw here at off))
+    ]
+
+machine_until : (day : List (List ℕ)) (locate n : ℕ) → UntilLast day locate n
+machine_until day locate zero = refl
+machine_until day locate (suc n) = subst (UntilLast day locate) (omega arith) (until_more day locate n (machine_until day locate n))
+
+module _ (day : List (List ℕ)) (workers locate : ℕ) where
+  abbrev own : List ℕ
+  own = own_of workers (owner workers locate) day
+
+  abbrev of_this : ℕ → Bool
+  of_this n = is_locate locate (part_at day n)
+
+  pub progress_first : progress day workers locate 0 ≡ 0
+  unfolding progress
+  progress_first = refl
+
+  -- a message of the stock
+  pub progress_moved : (done d : ℕ) → done < length own → of_this (get_or own done d) ≡ true → progress day workers locate (done + 1) ≡ get_or own done d
+  unfolding progress
+  progress_moved done d lt on =
+      ap (last_or 0) (filter_more of_this own done d lt ∙ ap (λ (b : Bool). filter of_this (take done own) ++ cond b (get_or own done d ∷ []) []) on)
+      ∙ last_push 0 (filter of_this (take done own)) (get_or own done d)
+
+  -- one of another stock
+  pub progress_kept : (done d : ℕ) → done < length own → of_this (get_or own done d) ≡ false → progress day workers locate (done + 1) ≡ progress day workers locate done
+  unfolding progress
+  progress_kept done d lt off =
+      ap (last_or 0) (filter_more of_this own done d lt ∙ ap (λ (b : Bool). filter of_this (take done own) ++ cond b (get_or own done d ∷ []) []) off ∙ append-nil _)
+
+  narrower : (n : ℕ) → of_this n ≡ true → is_own workers (owner workers locate) (part_at day n) ≡ true
+  narrower n on = rw (own_part locate (part_at day n) on) (eq-eqb _ _ refl)
+
+  -- before the next message of its worker the stock is where it is
+  pub machine_next : (done d : ℕ) → done < length own → machine_of day locate (progress day workers locate done) ≡ machine_of day locate (get_or own done d - 1)
+  unfolding progress own_of
+  machine_next done d lt =
+      ap (λ (xs : List ℕ). machine_of day locate (last_or 0 (filter of_this xs))) (kept_before (λ n. is_own workers (owner workers locate) (part_at day n)) 1 (length day) done d lt)
+      ∙ ap (λ (xs : List ℕ). machine_of day locate (last_or 0 xs)) (kept_narrower (λ n. is_own workers (owner workers locate) (part_at day n)) of_this (range_with_len 1 (get_or own done d - 1)) narrower)
+      ∙ machine_until day locate (get_or own done d - 1)
+
+  -- where its worker is through the stock is that after the day
+  pub machine_last : machine_of day locate (progress day workers locate (length own)) ≡ machine_of day locate (length day)
+  unfolding progress own_of
+  machine_last =
+      ap (λ (xs : List ℕ). machine_of day locate (last_or 0 (filter of_this xs))) (take_all (length own) own (omega arith))
+      ∙ ap (λ (xs : List ℕ). machine_of day locate (last_or 0 xs)) (kept_narrower (λ n. is_own workers (owner workers locate) (part_at day n)) of_this (range_with_len 1 (length day)) narrower)
+      ∙ machine_until day locate (length day)

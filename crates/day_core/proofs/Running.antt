@@ -1,0 +1,240 @@
+-- A worker's stocks, and one message more of them.
+use Rattle.std.proofs.Common.{◌≡◌, ℕ, zero, suc, ◌+◌, ◌-◌, ◌^◌, ◌%◌, ◌<◌, ◌≤◌, List, [], ◌∷◌, length, Bool, true, false, cond, eqb, get_or, set, map, filter, refl, sym, ap, subst, ◌∙◌, arith, inl, inr}
+use Rattle.std.specs.List.{Contains, list_any, range_with_len}
+use Rattle.std.specs.List.Sorted.{IsStrictlyIncreasing}
+use Rattle.std.proofs.lemmas.Bool.{cases_eq, cases_lt, eqb-true, ne_eqb}
+use Rattle.std.proofs.lemmas.List.{get_or_default, get_or-map, get_or-set_same, get_or-set_other, length-map, length-set}
+use Rattle.std.proofs.lemmas.List.Elements.{filter_passes}
+use Rattle.std.proofs.lemmas.List.Folds.{list_any_at}
+use Rattle.std.proofs.lemmas.Map.Views.{Contains-from_any}
+use Rattle.std.proofs.lemmas.List.Kept.{AllPairs-from_increasing, IsStrictlyIncreasing-filter}
+use Rattle.itch_table.specs.declared.outcome.Outcome.{Outcome}
+use Rattle.itch_table.specs.declared.outcome.Part.TheVariants.{Locate}
+use Rattle.itch_table.specs.After.{after, outcome}
+use Rattle.itch_table.specs.Projection.{is_locate, is_of_stock, only, payload_at, steps_of}
+use Rattle.itch_table.specs.Parts.{part}
+use Rattle.itch_table.specs.Shows.{locates_of_day}
+use Rattle.itch_table.specs.Table.{step}
+use Rattle.itch_table.specs.World.{World, empty_world}
+use Rattle.itch_table.proofs.DayLocates.{any_picked, in_range, rising}
+use Rattle.itch_table.proofs.Days.{after-none}
+use Rattle.itch_table.proofs.StockDays.{is_own_part, only-empty, own_next, steps-next, steps-none}
+use Rattle.stock_machine.specs.StockRows.{StockMachine}
+use Rattle.day_core.specs.declared.merging.Piece.{Piece}
+use Rattle.day_core.specs.Owners.{is_own, machine_of, own_locates, own_of, owner, part_at, piece_of, progress}
+use Rattle.day_core.specs.Standing.{IsRunner, IsTurned, Standing, machine_at, new_machine, own_messages, standing_in}
+use Rattle.day_core.specs.Splitting.{Split}
+use Rattle.day_core.proofs.Progress.{machine_next, own_within, own_passes, progress_first, progress_kept, progress_moved}
+
+-- ---- a message of the day
+
+pub payload_is : (day : List (List ℕ)) (n : ℕ) (payload : List ℕ) → 1 ≤ n → n ≤ length day → payload ≡ get_or day (n - 1) payload → payload ≡ payload_at day n
+payload_is day n payload some within is = is ∙ get_or_default day (n - 1) payload [] (omega (arith, some, within))
+
+-- ---- a worker's locate codes
+
+pub codes_rise : (workers worker : ℕ) (day : List (List ℕ)) → IsStrictlyIncreasing (own_locates workers worker day)
+unfolding own_locates
+codes_rise workers worker day = IsStrictlyIncreasing-filter (λ l. eqb (owner workers l) worker) (locates_of_day day) (rising day)
+
+pub code_owner : (workers worker : ℕ) (day : List (List ℕ)) (k d : ℕ) → k < length (own_locates workers worker day) → owner workers (get_or (own_locates workers worker day) k d) ≡ worker
+unfolding own_locates
+code_owner workers worker day k d lt = eqb-true _ _ (filter_passes (λ l. eqb (owner workers l) worker) (locates_of_day day) k d lt)
+
+-- each stands there once
+pub code_once : (workers worker : ℕ) (day : List (List ℕ)) (i j : ℕ) → i < length (own_locates workers worker day) → j < length (own_locates workers worker day)
+    → get_or (own_locates workers worker day) i 0 ≡ get_or (own_locates workers worker day) j 0 → i ≡ j
+code_once workers worker day i j li lj same =
+    let rises = AllPairs-from_increasing _ (codes_rise workers worker day) in
+    elim (cases_lt i j) [
+      | inl below ↦ absurd (omega (arith, rises i j 0 below lj))
+      | inr not ↦ elim (cases_lt j i) [
+        | inl above ↦ absurd (omega (arith, rises j i 0 above li))
+        | inr neither ↦ omega arith
+      ]
+    ]
+
+-- that of a message of the worker's stocks is among them
+pub code_there : (workers worker : ℕ) (day : List (List ℕ)) (n locate : ℕ) → 1 ≤ n → n ≤ length day → locate < 0x1_0000 → part_at day n ≡ Locate locate → is_own workers worker (Locate locate) ≡ true
+    → Contains (own_locates workers worker day) locate
+unfolding own_locates locates_of_day
+code_there workers worker day n locate some within fits mine own =
+    Contains-from_any eqb-true locate _ (any_picked (λ l. eqb (owner workers l) worker) locate (locates_of_day day) own
+    (any_picked (λ l. list_any (is_of_stock l) day) locate (range_with_len 0 0x1_0000)
+    (list_any_at (is_of_stock locate) day (n - 1) [] (omega (arith, some, within)) (is_own_part locate _ mine)) (in_range locate 0x1_0000 fits)))
+
+-- ---- a machine, one message of its stock more
+
+pub new_is : (m : StockMachine) (locate : ℕ) → m.locate ≡ locate → m.world ≡ empty_world → m.steps ≡ 0 → m ≡ new_machine locate
+new_is m locate code world steps = λ i. record { locate = code i; world = world i; steps = steps i }
+
+machine_first : (day : List (List ℕ)) (locate : ℕ) → machine_of day locate 0 ≡ new_machine locate
+machine_first day locate = new_is _ locate refl (ap (only locate) (after-none day) ∙ only-empty locate) (steps-none day locate)
+
+pub machine_stepped : (day : List (List ℕ)) (locate n : ℕ) (before m : StockMachine) (o : Outcome) → 1 ≤ n → part_at day n ≡ Locate locate → before ≡ machine_of day locate (n - 1)
+    → m.locate ≡ before.locate → m.steps ≡ before.steps + 1 → (o, m.world) ≡ step before.world (payload_at day n)
+    → (m ≡ machine_of day locate n) × (o ≡ outcome day n)
+machine_stepped day locate n before m o some own is code steps gives =
+    let up : n - 1 + 1 ≡ n = omega (arith, some) in
+    let count : 1 + (n - 1) ≡ n = omega (arith, some) in
+    let next : (o, m.world) ≡ (outcome day n, only locate (after day n)) =
+    gives ∙ ap (λ (k : StockMachine). step k.world (payload_at day n)) is ∙ own_next day locate (n - 1) own
+    ∙ rw (up, count) refl
+    in
+    let test : is_of_stock locate (payload_at day n) ≡ true = is_own_part locate _ own in
+    let total : m.steps ≡ steps_of day locate n =
+    steps ∙ ap (λ (k : StockMachine). k.steps + 1) is
+    ∙ sym (ap (λ (k : ℕ). steps_of day locate k) (sym up) ∙ steps-next day locate (n - 1) ∙ ap (λ (b : Bool). steps_of day locate (n - 1) + cond b 1 0) test)
+    in
+    let same : m.locate ≡ locate = code ∙ ap (λ (k : StockMachine). k.locate) is in
+    let world : m.world ≡ only locate (after day n) = ap (λ (r : Outcome × World). r.1) next in
+    (λ i. record { locate = same i; world = world i; steps = total i }, ap (λ (r : Outcome × World). r.0) next)
+
+-- a stock has no more messages than the day
+steps_most : (day : List (List ℕ)) (locate n : ℕ) → steps_of day locate n ≤ n
+steps_most day locate zero = omega (arith, steps-none day locate)
+steps_most day locate (suc n) =
+    subst (λ (k : ℕ). steps_of day locate k ≤ k) (omega arith) (most (is_of_stock locate (get_or day n [])) (steps_most day locate n) (steps-next day locate n))
+  where
+    most : (b : Bool) → steps_of day locate n ≤ n → steps_of day locate (n + 1) ≡ steps_of day locate n + cond b 1 0 → steps_of day locate (n + 1) ≤ n + 1
+    most true before next = omega (arith, before, next)
+    most false before next = omega (arith, before, next)
+
+-- ---- a list of machines
+
+pub map_by_all : {X : Type 0} (f : ℕ → X) (ls : List ℕ) (xs : List X) → length xs ≡ length ls → ((k : ℕ) (d : X) → k < length ls → get_or xs k d ≡ f (get_or ls k 0)) → xs ≡ map f ls
+map_by_all f [] [] long each = refl
+map_by_all f [] (x ∷ xs) long each = absurd (omega arith)
+map_by_all f (l ∷ ls) [] long each = absurd (omega arith)
+map_by_all f (l ∷ ls) (x ∷ xs) long each =
+    let head : x ≡ f l = each 0 x (omega arith) in
+    let rest = map_by_all f ls xs (omega arith) (λ k d lt. each (suc k) d (omega arith)) in
+    cc
+
+pub map_same : {X : Type 0} (f g : ℕ → X) (ls : List ℕ) → ((k : ℕ) → k < length ls → f (get_or ls k 0) ≡ g (get_or ls k 0)) → map f ls ≡ map g ls
+map_same f g [] each = refl
+map_same f g (l ∷ ls) each =
+    let head : f l ≡ g l = each 0 (omega arith) in
+    let rest = map_same f g ls (λ k lt. each (suc k) (omega arith)) in
+    cc
+
+-- ---- a worker's next message
+
+module _ (s : Standing) (own locates : List ℕ) (stocks : List StockMachine) (runner : IsRunner s own locates stocks) (n : ℕ) (more : s.done < length own) (next : n ≡ get_or own s.done n) where
+  within_own : s.done < length (own_messages s)
+  within_own = omega (arith, ap length runner.own_is)
+
+  pub next_is : n ≡ get_or (own_messages s) s.done 0
+  next_is = next ∙ get_or_default own s.done n 0 more ∙ ap (λ (xs : List ℕ). get_or xs s.done 0) runner.own_is
+
+  pub next_within : (1 ≤ n) × (n ≤ length s.day)
+  next_within = rw next_is (own_within s.workers s.worker s.day s.done 0 within_own)
+
+  pub next_own : is_own s.workers s.worker (part_at s.day n) ≡ true
+  next_own = rw next_is (own_passes s.workers s.worker s.day s.done 0 within_own)
+
+  -- the stock is as the messages before it have left it
+  pub stock_before : (place : ℕ) (d : StockMachine) → place < length locates → get_or stocks place d ≡ machine_of s.day (get_or locates place 0) (n - 1)
+  stock_before place d lt =
+      let locate = get_or locates place 0 in
+      let mine : owner s.workers locate ≡ s.worker =
+      ap (λ (xs : List ℕ). owner s.workers (get_or xs place 0)) runner.locates_are
+      ∙ code_owner s.workers s.worker s.day place 0 (omega (arith, lt, ap length runner.locates_are))
+      in
+      let room : s.done < length (own_of s.workers (owner s.workers locate) s.day) = rw mine within_own in
+      ap (λ (xs : List StockMachine). get_or xs place d) runner.stocks_are
+      ∙ get_or-map (machine_at s) locates place 0 d lt
+      ∙ machine_next s.day s.workers locate s.done 0 room
+      ∙ ap (λ (k : ℕ). machine_of s.day locate (get_or (own_of s.workers k s.day) s.done 0 - 1)) mine
+      ∙ ap (λ (k : ℕ). machine_of s.day locate (k - 1)) (sym next_is)
+
+  -- the stocks after it, where the machine of its stock was stepped
+  pub stocks_after : (place : ℕ) (m : StockMachine) → place < length locates → part_at s.day n ≡ Locate (get_or locates place 0) → m ≡ machine_of s.day (get_or locates place 0) n
+      → set stocks place m ≡ map (machine_at (record s { done = s.done + 1 })) locates
+  stocks_after place m lt own_part stepped =
+      let then : Standing = record s { done = s.done + 1 } in
+      let long : length stocks ≡ length locates = ap length runner.stocks_are ∙ length-map locates (machine_at s) in
+      map_by_all (machine_at then) locates (set stocks place m) (length-set stocks place m ∙ long) (λ k d below.
+      let locate = get_or locates k 0 in
+      let mine : owner s.workers locate ≡ s.worker =
+      ap (λ (xs : List ℕ). owner s.workers (get_or xs k 0)) runner.locates_are
+      ∙ code_owner s.workers s.worker s.day k 0 (omega (arith, below, ap length runner.locates_are))
+      in
+      let room : s.done < length (own_of s.workers (owner s.workers locate) s.day) = rw mine within_own in
+      let here : get_or (own_of s.workers (owner s.workers locate) s.day) s.done 0 ≡ n = ap (λ (w : ℕ). get_or (own_of s.workers w s.day) s.done 0) mine ∙ sym next_is in
+      elim (cases_eq k place) [
+        | inl same ↦
+            let code : part_at s.day n ≡ Locate locate = own_part ∙ ap (λ (j : ℕ). Locate (get_or locates j 0)) (sym same) in
+            let moved = progress_moved s.day s.workers locate s.done 0 room (rw here (is_own_part locate _ code)) ∙ here in
+            ap (λ (j : ℕ). get_or (set stocks place m) j d) same ∙ get_or-set_same stocks place m d (omega (arith, lt, long)) ∙ stepped
+            ∙ ap (λ (j : ℕ). machine_of s.day (get_or locates j 0) n) (sym same) ∙ ap (machine_of s.day locate) (sym moved)
+        | inr differ ↦
+            let other : is_locate locate (part_at s.day n) ≡ false = rw own_part (ne_eqb _ _ (λ e. differ (sym (same_place place k lt below e)))) in
+            let kept = progress_kept s.day s.workers locate s.done 0 room (rw here other) in
+            get_or-set_other stocks place k m d differ
+            ∙ ap (λ (xs : List StockMachine). get_or xs k d) runner.stocks_are ∙ get_or-map (machine_at s) locates k 0 d below
+            ∙ ap (machine_of s.day locate) (sym kept)
+      ])
+    where
+      same_place : (i j : ℕ) → i < length locates → j < length locates → get_or locates i 0 ≡ get_or locates j 0 → i ≡ j
+      same_place i j li lj same =
+          let is = runner.locates_are in
+          code_once s.workers s.worker s.day i j (omega (arith, li, ap length is)) (omega (arith, lj, ap length is))
+          (ap (λ (xs : List ℕ). get_or xs i 0) (sym is) ∙ same ∙ ap (λ (xs : List ℕ). get_or xs j 0) is)
+
+  module _ (day : List (List ℕ)) (same : day ≡ s.day) (place : ℕ) (before : StockMachine) (listed : place < length locates) (owned : part_at day n ≡ Locate (get_or locates place 0)) (is : before ≡ get_or stocks place before) where
+    own_part : part_at s.day n ≡ Locate (get_or locates place 0)
+    own_part = ap (λ (d : List (List ℕ)). part_at d n) (sym same) ∙ owned
+
+    stands : before ≡ machine_of s.day (get_or locates place 0) (n - 1)
+    stands = is ∙ stock_before place before listed
+
+    -- it takes the message
+    pub step_own : (payload : List ℕ) → payload ≡ payload_at day n → part payload ≡ Locate before.locate
+    step_own payload here = ap part here ∙ owned ∙ ap (λ (m : StockMachine). Locate m.locate) (sym stands)
+
+    pub step_few : n < 2 ^ 32 → before.steps < 2 ^ 32 - 1
+    step_few fits = omega (arith, fits, ap (λ (m : StockMachine). m.steps) stands, steps_most s.day (get_or locates place 0) (n - 1), next_within)
+
+    -- and then is as the message has left it
+    pub stock_stepped : (m : StockMachine) (o : Outcome) (payload : List ℕ) → payload ≡ payload_at day n → m.locate ≡ before.locate → m.steps ≡ before.steps + 1 → (o, m.world) ≡ step before.world payload
+        → (m ≡ machine_of s.day (get_or locates place 0) n) × (o ≡ outcome s.day n)
+    stock_stepped m o payload here code steps gives =
+        machine_stepped s.day (get_or locates place 0) n before m o next_within.0 own_part stands code steps
+        (gives ∙ ap (step before.world) (here ∙ ap (λ (d : List (List ℕ)). payload_at d n) same))
+
+    pub runner_after : (m : StockMachine) → m ≡ machine_of s.day (get_or locates place 0) n → IsRunner (record s { done = s.done + 1 }) own locates (set stocks place m)
+    runner_after m stepped = record {
+      own_is = runner.own_is;
+      within = omega arith;
+      locates_are = runner.locates_are;
+      stocks_are = stocks_after place m listed own_part stepped;
+    }
+
+    pub turned_is : (o : Outcome) → o ≡ outcome s.day n → IsTurned s (record { piece = record { message = n; outcome = o }; place = place })
+    turned_is o gave = record {
+      more = within_own;
+      piece = ap (λ (u : Outcome). let p : Piece = record { message = n; outcome = u } in p) gave ∙ ap (piece_of s.day) next_is;
+      within = omega (arith, listed, ap length runner.locates_are);
+      stock = own_part ∙ ap (λ (xs : List ℕ). Locate (get_or xs place 0)) runner.locates_are;
+    }
+
+-- ---- a worker that has done nothing yet
+
+begins : (day : List (List ℕ)) (workers : ℕ) (locates : List ℕ) → map new_machine locates ≡ map (λ l. machine_of day l (progress day workers l 0)) locates
+begins day workers locates = map_same new_machine (λ l. machine_of day l (progress day workers l 0)) locates
+    (λ k lt. sym (ap (machine_of day (get_or locates k 0)) (progress_first day workers (get_or locates k 0)) ∙ machine_first day (get_or locates k 0)))
+
+pub codes_are : (workers worker : ℕ) (day : List (List ℕ)) → filter (λ l. eqb (l % workers) worker) (locates_of_day day) ≡ own_locates workers worker day
+unfolding own_locates
+codes_are workers worker day = refl
+
+pub runner_new : (split : Split) (worker : ℕ) (own locates : List ℕ) (stocks : List StockMachine)
+    → own ≡ own_of split.workers worker split.day → locates ≡ own_locates split.workers worker split.day → stocks ≡ map new_machine locates
+    → IsRunner (standing_in split worker 0) own locates stocks
+runner_new split worker own locates stocks own_is codes made = record {
+  own_is = own_is;
+  within = omega arith;
+  locates_are = codes;
+  stocks_are = made ∙ begins split.day split.workers locates;
+}

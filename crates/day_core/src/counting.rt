@@ -1,0 +1,139 @@
+// How many messages each stock of a day has, and the stocks that have some.
+ghost use Rattle.std.specs.Prelude.{ℕ, ◌≡◌, ◌+◌, ◌^◌, ◌<◌, ◌≤◌, IfOk, filter, length, nat_lt, slice_index};
+ghost use Rattle.std.specs.List.{AllZip, range_with_len};
+ghost use Rattle.day_core.specs.Dealing.{AreCounts, AreCountsOfPiece, cut};
+
+use binaryfile::Day;
+use itch_table::{Part, part};
+use rayon::prelude::*;
+use std::alloc::{AllocError, Allocator};
+use std::thread::Threads;
+
+// How many locate codes there are.
+const LOCATES: usize = 1 << 16;
+
+// In how many pieces the messages of a long day are counted, each by one thread.
+const PIECES: u32 = 16;
+
+// How many messages a day has at least to be counted in pieces.
+const MANY: u32 = 1 << 17;
+
+// So many counts of none.
+fn no_counts<A: Allocator + Copy>(alloc: A, count: usize) -> Result<Vec<u32, A>, AllocError>
+    ensures long { IfOk result (λ counts. length counts.items ≡ count) }
+    ensures none { IfOk result (λ counts. (k : ℕ) → k < count → slice_index counts.items k ≡ 0) }
+{
+    vec![in alloc; 0; count]
+}
+
+// How many messages each stock has in a stretch of a day, by its locate code.
+fn counts_between<A: Allocator + Copy>(
+    alloc: A,
+    day: &Day<A>,
+    from: u32,
+    to: u32,
+) -> Result<Vec<u32, A>, AllocError>
+    requires order { from ≤ to }
+    requires within { to ≤ length day.now.payloads }
+    requires few { length day.now.payloads < 2 ^ 32 }
+    ensures { IfOk result (λ counts. AreCounts day.now.payloads from to counts.items) }
+{
+    let mut counts = no_counts(alloc, LOCATES)?;
+    for before in from..to {
+        if let Part::Locate(locate) = part(day.payload(before + 1)) {
+            counts[locate as usize] += 1;
+        }
+    }
+    Ok(counts)
+}
+
+// Where a piece of a day begins.
+fn start_of(messages: u32, piece: u32) -> u32
+    ensures { result ≡ cut messages piece }
+{
+    piece.saturating_mul(messages / PIECES + 1).min(messages)
+}
+
+// The counts of each piece of a day, by as many threads as there are processors.
+fn counts_by_piece<R: Threads + Sync, A: Allocator + Copy + Send + Sync>(
+    rt: &R,
+    alloc: A,
+    day: &Day<A>,
+) -> Result<Vec<Result<Vec<u32, A>, AllocError>, A>, AllocError>
+    ensures { IfOk result (λ pieces. AllZip
+        (λ piece found. IfOk found (λ counts. AreCountsOfPiece day.now.payloads piece counts.items))
+        (range_with_len 0 16) pieces.items) }
+{
+    (0..PIECES)
+        .into_par_iter()
+        .with_min_len(1)
+        .map(
+            |piece: u32| -> Result<Vec<u32, A>, AllocError>
+                requires { piece < 16 }
+                ensures { IfOk result (λ counts.
+                    AreCountsOfPiece day.entry.now.payloads piece counts.items) }
+            {
+                let messages = day.len();
+                counts_between(
+                    alloc,
+                    day,
+                    start_of(messages, piece),
+                    start_of(messages, piece + 1),
+                )
+            },
+        )
+        .collect(rt, alloc)
+}
+
+// Adds counts to others.
+fn add<A: Allocator + Copy>(counts: &mut Vec<u32, A>, more: &[u32])
+    requires long { length more.now ≡ length counts.old.items }
+    requires fits { (k : ℕ) → k < length more.now →
+        slice_index counts.old.items k + slice_index more.now k < 2 ^ 32 }
+    ensures long { length counts.new.items ≡ length counts.old.items }
+    ensures sums { (k : ℕ) → k < length more.now →
+        slice_index counts.new.items k ≡ slice_index counts.old.items k + slice_index more.now k }
+{
+    for (place, count) in more.iter().enumerate() {
+        counts[place] += *count;
+    }
+}
+
+/// How many messages of a day each stock has, by its locate code.
+pub(crate) fn messages_by_locate<R: Threads + Sync, A: Allocator + Copy + Send + Sync>(
+    rt: &R,
+    alloc: A,
+    day: &Day<A>,
+) -> Result<Vec<u32, A>, AllocError>
+    ensures { IfOk result (λ counts. AreCounts day.now.payloads 0 (length day.now.payloads) counts.items) }
+{
+    if day.len() < MANY {
+        return counts_between(alloc, day, 0, day.len());
+    }
+    let mut counts = no_counts(alloc, LOCATES)?;
+    for piece in &counts_by_piece(rt, alloc, day)? {
+        match piece {
+            Ok(more) => add(&mut counts, more),
+            Err(_) => return Err(AllocError),
+        }
+    }
+    Ok(counts)
+}
+
+/// The locate codes of the stocks that have messages, rising.
+pub(crate) fn locates_counted<A: Allocator + Copy>(
+    alloc: A,
+    counts: &[u32],
+) -> Result<Vec<u16, A>, AllocError>
+    requires { length counts.now ≤ 0x1_0000 }
+    ensures { IfOk result (λ locates. locates.items ≡ filter
+        (λ locate. nat_lt 0 (slice_index counts.now locate)) (range_with_len 0 (length counts.now))) }
+{
+    let mut locates = Vec::new(alloc);
+    for (locate, count) in counts.iter().enumerate() {
+        if *count > 0 {
+            locates.push(locate as u16)?;
+        }
+    }
+    Ok(locates)
+}

@@ -1,0 +1,62 @@
+//! The places of locate codes in a list.
+ghost use Rattle.std.specs.Prelude.{◌≡◌, ◌<◌, IfOk, MatchOption, length, slice_index};
+ghost use Rattle.std.specs.List.{Contains};
+ghost use Rattle.std.specs.List.Sorted.{IsStrictlyIncreasing};
+
+use std::alloc::{AllocError, Allocator};
+use std::marker::Model;
+
+/// Locate codes, rising, with a table of their places. It is seen as the list of the codes.
+#[derive(Drop)]
+pub(crate) struct Places<A: Allocator> {
+    locates: Vec<u16, A>,
+    // At each locate code of the list its place there.
+    table: Vec<u16, A>,
+}
+
+impl<A: Allocator> Model for Places<A> {
+    ghost use Rattle.std.specs.Prelude.{List, ℕ};
+    ghost use Rattle.day_core.specs.Placed.{ArePlaces};
+
+    ghost Value = { List ℕ };
+
+    ghost view = { λ p. p.locates.items };
+
+    ghost invariant = { λ p. ArePlaces p.locates.items p.table.items };
+}
+
+// So many zeros.
+fn zeros<A: Allocator + Copy>(alloc: A, len: usize) -> Result<Vec<u16, A>, AllocError>
+    ensures { IfOk result (λ zeros. length zeros.items ≡ len) }
+{
+    vec![in alloc; 0; len]
+}
+
+impl<A: Allocator + Copy> Places<A> {
+    /// The places of these codes. An error says that memory was refused.
+    pub fn new(alloc: A, locates: Vec<u16, A>) -> Result<Places<A>, AllocError>
+        requires { IsStrictlyIncreasing locates.items }
+        ensures { IfOk result (λ places. places ≡ locates.items) }
+    {
+        let mut table = zeros(alloc, 0x1_0000)?;
+        for (place, locate) in locates.iter().enumerate() {
+            table[usize::from(*locate)] = place as u16;
+        }
+        Ok(Places { locates, table })
+    }
+}
+
+impl<A: Allocator> Places<A> {
+    /// Where a locate code stands in the list; none where it isn't in it.
+    pub fn place_of(&self, locate: u16) -> Option<usize>
+        ensures { MatchOption result (¬ Contains self.now locate)
+            (λ place. (place < length self.now) × (slice_index self.now place ≡ locate)) }
+    {
+        let place = usize::from(self.table[usize::from(locate)]);
+        if place < self.locates.len() && self.locates[place] == locate {
+            Some(place)
+        } else {
+            None
+        }
+    }
+}

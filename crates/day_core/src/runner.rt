@@ -1,0 +1,178 @@
+//! One worker without threads.
+ghost use Rattle.std.specs.Prelude.{◌≡◌, ◌<◌, ◌≤◌, ℕ, true, IfOk, MatchOption, OnErr, length, map, slice_index};
+ghost use Rattle.std.specs.List.{Contains};
+ghost use Rattle.itch_table.specs.declared.outcome.Part.TheVariants.{Locate};
+ghost use Rattle.itch_table.specs.Projection.{payload_at};
+ghost use Rattle.day_core.specs.Owners.{is_own, own_locates, part_at};
+ghost use Rattle.day_core.specs.Standing.{TakesTurn, first_standing, machine_at, new_machine, own_stocks};
+
+use crate::merging::Piece;
+use crate::parts::Parts;
+use crate::places::Places;
+use binaryfile::Day;
+use itch_table::{Part, part};
+use std::alloc::{AllocError, Allocator};
+use std::marker::Model;
+use std::snapshot::Snapshot;
+use stock_machine::Stock;
+
+/// What a worker's turn did.
+#[derive(Debug, Clone, Copy, PartialEq, Eq)]
+pub struct Turned {
+    /// The message, with what became of it.
+    pub piece: Piece,
+    /// Which of the worker's stocks it is of, counted from 0 by rising locate code.
+    pub place: usize,
+}
+
+/// One worker of a day that is split: the machines of its stocks, and how many of its messages it has done.
+///
+/// It does its messages in their order, one a turn, whatever other workers do. All is of this project.
+#[derive(Drop)]
+pub struct Runner<A: Allocator> {
+    worker: u32,
+    own: Vec<u32, A>,
+    done: usize,
+    places: Places<A>,
+    stocks: Vec<Stock<A>, A>,
+    parts: Snapshot<Parts<A>>,
+}
+
+impl<A: Allocator> Model for Runner<A> {
+    ghost use Rattle.day_core.specs.Splitting.{Split};
+    ghost use Rattle.day_core.specs.Standing.{IsRunner, Standing, standing_in};
+
+    ghost Value = { Standing };
+
+    ghost view = { λ r. standing_in r.parts.value r.worker r.done };
+
+    ghost invariant = { λ r. IsRunner (standing_in r.parts.value r.worker r.done) r.own.items r.places r.stocks.items };
+}
+
+// The locate codes of a worker's stocks.
+#[tactic(auto, unfolding(crate::specs::Owners::own_locates))]
+fn own_codes<A: Allocator + Copy>(
+    alloc: A,
+    parts: &Parts<A>,
+    worker: u32,
+) -> Result<Vec<u16, A>, AllocError>
+    ensures { IfOk result (λ codes.
+        codes.items ≡ own_locates parts.now.workers worker parts.now.day) }
+{
+    let workers = parts.workers();
+    parts
+        .locates()
+        .iter()
+        .copied()
+        .filter(|locate| u32::from(*locate) % workers == worker)
+        .collect(alloc)
+}
+
+// A machine before the first message for each of the stocks.
+fn new_stocks<A: Allocator + Copy>(
+    alloc: A,
+    locates: &[u16],
+) -> Result<Vec<Stock<A>, A>, AllocError>
+    ensures { IfOk result (λ stocks. stocks.items ≡ map new_machine locates.now) }
+{
+    let mut stocks = Vec::with_capacity(alloc, locates.len())?;
+    for locate in locates {
+        stocks.push(Stock::new(alloc, *locate))?;
+    }
+    Ok(stocks)
+}
+
+// A worker's message: its payload, and the place of its stock among the worker's.
+fn message_of<'d, A: Allocator>(
+    day: &'d Day<A>,
+    places: &Places<A>,
+    message: u32,
+) -> (&'d [u8], usize)
+    requires first { 1 ≤ message }
+    requires last { message ≤ length day.now.payloads }
+    requires own { (workers worker : ℕ) × (places.now ≡ own_locates workers worker day.now.payloads)
+        × (is_own workers worker (part_at day.now.payloads message) ≡ true) }
+    ensures payload { result.0.now ≡ payload_at day.now.payloads message }
+    ensures within { result.1 < length places.now }
+    ensures stock { part_at day.now.payloads message ≡ Locate (slice_index places.now result.1) }
+{
+    let payload = day.payload(message);
+    let Part::Locate(locate) = part(payload) else {
+        unreachable!()
+    };
+    let Some(place) = places.place_of(locate) else {
+        unreachable!()
+    };
+    (payload, place)
+}
+
+impl<A: Allocator + Copy> Runner<A> {
+    /// A worker that has done nothing yet. Workers are numbered from 0. An error says that memory was refused.
+    pub fn new(alloc: A, parts: &Parts<A>, worker: u32) -> Result<Runner<A>, AllocError>
+        requires { worker < parts.now.workers }
+        ensures { IfOk result (λ runner. runner ≡ first_standing parts.now worker) }
+    {
+        let messages = parts.own(worker);
+        let mut own = Vec::with_capacity(alloc, messages.len())?;
+        own.extend_from_slice(messages)?;
+        let locates = own_codes(alloc, parts, worker)?;
+        let stocks = new_stocks(alloc, &locates)?;
+        let places = Places::new(alloc, locates)?;
+        Ok(Runner {
+            worker,
+            own,
+            done: 0,
+            places,
+            stocks,
+            parts: Snapshot::of(parts),
+        })
+    }
+
+    /// Does the worker's next message on the machine of its stock, and answers what became of it; none, with nothing
+    /// changed, exactly where the worker is through. The caller hands the day that was split.
+    ///
+    /// An error says that memory was refused, and leaves the worker as it was, so that its next turn tries the same
+    /// message. The stock's best bid and ask after the message are those of its machine: `stock_at(turned.place)`.
+    pub fn turn(&mut self, day: &Day<A>) -> Result<Option<Turned>, AllocError>
+        requires { day.now.payloads ≡ self.old.day }
+        ensures turned { IfOk result (TakesTurn self.old self.new) }
+        ensures err { OnErr result (self.new ≡ self.old) }
+    {
+        if self.done == self.own.len() {
+            return Ok(None);
+        }
+        let message = self.own[self.done];
+        let (payload, place) = message_of(day, &self.places, message);
+        let outcome = self.stocks[place].step(payload)?;
+        self.done += 1;
+        Ok(Some(Turned {
+            piece: Piece { message, outcome },
+            place,
+        }))
+    }
+}
+
+impl<A: Allocator> Runner<A> {
+    /// The machine of one of the worker's stocks, by its place among them.
+    pub fn stock_at(&self, place: usize) -> &Stock<A>
+        requires { place < length (own_stocks self.now) }
+        ensures { result.now ≡ machine_at self.now (slice_index (own_stocks self.now) place) }
+    {
+        &self.stocks[place]
+    }
+
+    /// The place of a stock among the worker's; none where it isn't one of them.
+    pub fn place_of(&self, locate: u16) -> Option<usize>
+        ensures { MatchOption result (¬ Contains (own_stocks self.now) locate) (λ place.
+            (place < length (own_stocks self.now)) × (slice_index (own_stocks self.now) place ≡ locate)) }
+    {
+        self.places.place_of(locate)
+    }
+
+    /// The machines of the worker's stocks, by rising locate code.
+    pub fn into_stocks(self) -> Vec<Stock<A>, A>
+        ensures { result.items ≡ map (machine_at self) (own_stocks self) }
+    {
+        self.stocks
+    }
+}
