@@ -45,6 +45,9 @@ impl<A: Allocator> Model for Ladder<A> {
     ghost invariant = { λ l. AreInOrder l.side l.levels.items };
 }
 
+// How many levels are looked at one by one, the best first, before all are searched by halves.
+const NEAR: usize = 8;
+
 // How a price stands to another, where a worse one is less.
 fn compare(side: Side, price: u32, other: u32) -> Ordering
     ensures { result ≡ price_cmp side price other }
@@ -55,13 +58,33 @@ fn compare(side: Side, price: u32, other: u32) -> Ordering
     }
 }
 
-// The index of the level at a price, or else the index at which it would stand.
-fn index_of(levels: &[Level], side: Side, price: u32) -> Result<usize, usize>
+// The same as `index_of`, by halves.
+fn search(levels: &[Level], side: Side, price: u32) -> Result<usize, usize>
     requires { AreInOrder side levels.now }
     ensures found { IfOk result (IsFound levels.now price) }
     ensures missing { IfErr result (IsGap side levels.now price) }
 {
     levels.binary_search_by(|level| compare(side, level.price, price))
+}
+
+// The index of the level at a price, or else the index at which it would stand. Most changes are near the best level.
+fn index_of(levels: &[Level], side: Side, price: u32) -> Result<usize, usize>
+    requires { AreInOrder side levels.now }
+    ensures found { IfOk result (IsFound levels.now price) }
+    ensures missing { IfErr result (IsGap side levels.now price) }
+{
+    let mut end = levels.len();
+    for _ in 0..NEAR {
+        if end == 0 {
+            return Err(0);
+        }
+        match compare(side, levels[end - 1].price, price) {
+            Ordering::Less => return Err(end),
+            Ordering::Equal => return Ok(end - 1),
+            Ordering::Greater => end -= 1,
+        }
+    }
+    search(levels, side, price)
 }
 
 impl<A: Allocator + Copy> Ladder<A> {
