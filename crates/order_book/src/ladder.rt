@@ -2,7 +2,7 @@
 ghost use Rattle.std.specs.Prelude.{◌≡◌, ◌+◌, ◌<◌, ◌≤◌, ◌^◌, IfErr, IfOk, OnOk};
 ghost use Rattle.std.specs.FinMap as maps;
 ghost use Rattle.itch_table.specs.Levels.{first_level};
-ghost use Rattle.order_book.specs.Kept.{AreInOrder, IsFound, IsGap, listed, lowered, price_cmp, raised, shares_on};
+ghost use Rattle.order_book.specs.Kept.{AreInOrder, IsFound, IsGap, shown, lowered, price_cmp, raised, shares_on};
 
 use itch_table::{Level, Side};
 use std::alloc::{AllocError, Allocator};
@@ -111,7 +111,7 @@ impl<A: Allocator + Copy> Ladder<A> {
 
     /// The best level, or zeros.
     pub fn best(&self) -> Level
-        ensures { result ≡ first_level (listed self.now.side self.now.levels) }
+        ensures { result ≡ first_level (shown self.now.side self.now.levels) }
     {
         self.levels.last().copied().unwrap_or(Level {
             price: 0,
@@ -121,7 +121,7 @@ impl<A: Allocator + Copy> Ladder<A> {
 
     /// The levels, with the best first. An error says that memory was refused.
     pub fn list(&self, alloc: A) -> Result<Vec<Level, A>, AllocError>
-        ensures { IfOk result (λ list. list.items ≡ listed self.now.side self.now.levels) }
+        ensures { IfOk result (λ list. list.items ≡ shown self.now.side self.now.levels) }
     {
         self.levels.iter().rev().copied().collect(alloc)
     }
@@ -146,8 +146,9 @@ impl<A: Allocator + Copy> Ladder<A> {
         self.levels.reserve(1)
     }
 
-    /// Adds shares at a price, where there is room for one more level.
+    /// Adds shares at a price, at least one, where there is room for one more level.
     pub fn raise(&mut self, price: u32, shares: u32)
+        requires some { 1 ≤ shares }
         requires room { 1 ≤ self.old.room }
         requires fits { shares_on self.old.levels price + shares < 2 ^ 64 }
         ensures side { self.new.side ≡ self.old.side }

@@ -32,7 +32,7 @@ lower-requires g c =
     let placed : OrderRow = record row { shares = c.args.shares; price = c.args.price } in
     let there : maps.get orders c.args.old ≡ Some row = sym c.row.ensures ∙ c.unwrap-row.ensures in
     let free : maps.get orders c.args.new ≡ None = none_of (order_under c.args.new) _ c.requires.new in
-    let raised = kept_insert (kept_same kept c.reserve.ensures.same) c.args.new placed free c.requires.some (omega arith) c.raise.ensures in
+    let raised = kept_insert (kept_same kept c.reserve.ensures.same) c.args.new placed free (omega arith) c.raise.ensures in
     shares_among raised c.args.old row (still_live orders c.args.old c.args.new row there free placed)
 
 -- one row came, and one went
@@ -46,7 +46,7 @@ invariant_of-self-2 g c =
     let placed : OrderRow = record row { shares = c.args.shares; price = c.args.price } in
     let there : maps.get orders old ≡ Some row = sym c.row.ensures ∙ c.unwrap-row.ensures in
     let free : maps.get orders new ≡ None = none_of (order_under new) _ c.requires.new in
-    let raised = kept_insert (kept_same kept c.reserve.ensures.same) new placed free c.requires.some (omega arith) c.raise.ensures in
+    let raised = kept_insert (kept_same kept c.reserve.ensures.same) new placed free (omega arith) c.raise.ensures in
     let rows = c.self.inside.orders.entries in
     let was : row_at rows old ≡ Some row = sym (get_row rows orders c.self.view_is old) ∙ there in
     let came = with_row rows orders c.self.view_is c.insert.new.self.entries new placed c.in_ok-insert.ensures.updates.0 in
