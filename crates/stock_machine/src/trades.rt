@@ -140,6 +140,7 @@ fn places(rows: &[TradeRow], rising: bool, match_no: u64) -> (usize, usize)
         return (0, rows.len());
     }
     let start = rows.partition_point(|trade| trade.match_no < match_no);
-    let end = rows.partition_point(|trade| trade.match_no <= match_no);
-    (start, end)
+    let rest = &rows[start..];
+    let count = rest.partition_point(|trade| trade.match_no <= match_no);
+    (start, start + count)
 }
