@@ -136,6 +136,8 @@ impl<A: Allocator + Copy> Runner<A> {
     pub fn turn(&mut self, day: &Day<A>) -> Result<Option<Turned>, AllocError>
         requires { day.now.payloads ≡ self.old.day }
         ensures turned { IfOk result (TakesTurn self.old self.new) }
+        // The next turn is handed the same day.
+        ensures day { self.new.day ≡ self.old.day }
         ensures err { OnErr result (self.new ≡ self.old) }
     {
         if self.done == self.own.len() {
