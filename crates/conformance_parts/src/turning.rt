@@ -107,7 +107,12 @@ fn a_worker_does_its_messages_in_order(rt: HostRuntime) -> Result<(), Fail> {
     take("turn 3", &mut runner, &day, turned(5, Outcome::Applied, 0))?;
     take("turn 4", &mut runner, &day, turned(6, unlisted, 1))?;
     take("turn 5", &mut runner, &day, turned(7, unknown, 0))?;
-    take("a turn of a worker that is through", &mut runner, &day, None)?;
+    take(
+        "a turn of a worker that is through",
+        &mut runner,
+        &day,
+        None,
+    )?;
     take("its next one", &mut runner, &day, None)?;
     same("the top of stock 1", &top_of(&runner, 1), &Some(NO_TOP))?;
     same("the top of stock 3", &top_of(&runner, 3), &Some(NO_TOP))?;
@@ -177,11 +182,26 @@ fn a_turn_without_memory_is_tried_again(rt: HostRuntime) -> Result<(), Fail> {
     let parts = parts_of(&rt, &heap, &day, 2)?;
     let mut runner = runner_of(&heap, &parts, 1)?;
     heap.restart(Refusal::From(1));
-    take("a directory message", &mut runner, &day, turned(1, Outcome::Applied, 0))?;
+    take(
+        "a directory message",
+        &mut runner,
+        &day,
+        turned(1, Outcome::Applied, 0),
+    )?;
     take_none("an order", &mut runner, &day)?;
     same("the top after it", &top_of(&runner, 1), &Some(NO_TOP))?;
     take_none("the same order", &mut runner, &day)?;
     heap.restart(Refusal::Never);
-    take("with memory", &mut runner, &day, turned(3, Outcome::Applied, 0))?;
-    take("the next one", &mut runner, &day, turned(5, Outcome::Applied, 0))
+    take(
+        "with memory",
+        &mut runner,
+        &day,
+        turned(3, Outcome::Applied, 0),
+    )?;
+    take(
+        "the next one",
+        &mut runner,
+        &day,
+        turned(5, Outcome::Applied, 0),
+    )
 }
