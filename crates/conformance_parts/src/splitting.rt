@@ -1,53 +1,16 @@
 //! Days that are split among workers.
+use crate::days::{add_entry, day_of, parts_of, two_stocks};
 use binaryfile::Day;
 use day_core::{Parts, Piece, SplitFault, split};
-use itch_layouts::Msg;
 use itch_table::Outcome;
 use refusing::{Refusal, Refusing};
 use std::alloc::Allocator;
 use std::test::Fail;
 use std::thread::Threads;
-use support::{AAPL, MSFT, Ticker, payload_of, same, same_list, system};
-
-// The stock of locate code 3, which has no directory row.
-const UNLISTED: Ticker = Ticker {
-    locate: 3,
-    symbol: *b"        ",
-};
+use support::{AAPL, MSFT, same, same_list, system};
 
 // An entry of an unknown type, of one byte.
 const UNKNOWN: &[u8] = b"\x00\x01O";
-
-// Adds the entry of a message to a file.
-fn add_entry<A: Allocator + Copy>(alloc: A, file: &mut Vec<u8, A>, msg: &Msg) -> Result<(), Fail> {
-    let payload = payload_of(alloc, msg)?;
-    let length = u16::try_from(payload.len()).map_err(|_| Fail::new("a long payload"))?;
-    file.extend_from_slice(&length.to_be_bytes())?;
-    file.extend_from_slice(&payload)?;
-    Ok(())
-}
-
-// The day of a file.
-fn day_of<A: Allocator + Copy>(alloc: A, file: Vec<u8, A>) -> Result<Day<A>, Fail> {
-    Day::from_bytes(alloc, file, u32::MAX).map_err(|_| Fail::new("no day"))
-}
-
-// Two stocks with a bid each, and deletes of the first one's bid, of an order of no stock, and of that bid again.
-fn two_stocks<A: Allocator + Copy>(alloc: A) -> Result<Day<A>, Fail> {
-    let mut file = Vec::new(alloc);
-    for msg in [
-        AAPL.directory(),
-        MSFT.directory(),
-        AAPL.add(7, b'B', 10, 100),
-        MSFT.add(7, b'B', 20, 200),
-        AAPL.delete(7),
-        UNLISTED.delete(7),
-        AAPL.delete(7),
-    ] {
-        add_entry(alloc, &mut file, &msg)?;
-    }
-    day_of(alloc, file)
-}
 
 // A day that is long enough to be counted in pieces: a message of a stock stands first, and after each 1,000 messages
 // of an unknown type.
@@ -62,16 +25,6 @@ fn long_day<A: Allocator + Copy>(alloc: A) -> Result<Day<A>, Fail> {
         add_entry(alloc, &mut file, &stock.directory())?;
     }
     day_of(alloc, file)
-}
-
-// The parts of a day.
-fn parts_of<R: Threads + Sync, A: Allocator + Copy + Send + Sync>(
-    rt: &R,
-    alloc: A,
-    day: &Day<A>,
-    workers: u32,
-) -> Result<Parts<A>, Fail> {
-    split(rt, alloc, day, workers).map_err(|_| Fail::new("no parts"))
 }
 
 // The messages of a worker, or none where it isn't one.

@@ -8,3 +8,4 @@ mod Progress
 mod Running
 mod Whole
 mod Crews
+mod Showing

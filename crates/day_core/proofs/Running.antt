@@ -1,5 +1,5 @@
 -- A worker's stocks, and one message more of them.
-use Rattle.std.proofs.Common.{◌≡◌, ℕ, zero, suc, ◌+◌, ◌-◌, ◌^◌, ◌%◌, ◌<◌, ◌≤◌, List, [], ◌∷◌, length, Bool, true, false, cond, eqb, get_or, set, map, filter, refl, sym, ap, subst, ◌∙◌, arith, inl, inr}
+use Rattle.std.proofs.Common.{◌≡◌, ◌≢◌, ℕ, zero, suc, ◌+◌, ◌-◌, ◌^◌, ◌%◌, ◌<◌, ◌≤◌, List, [], ◌∷◌, length, Bool, true, false, cond, eqb, get_or, set, map, filter, refl, sym, ap, subst, ◌∙◌, arith, inl, inr}
 use Rattle.std.specs.List.{Contains, list_any, range_with_len}
 use Rattle.std.specs.List.Sorted.{IsStrictlyIncreasing}
 use Rattle.std.proofs.lemmas.Bool.{cases_eq, cases_lt, eqb-true, ne_eqb}
@@ -22,7 +22,7 @@ use Rattle.itch_table.proofs.StockDays.{is_own_part, only-empty, own_next, steps
 use Rattle.stock_machine.specs.StockRows.{StockMachine}
 use Rattle.day_core.specs.declared.merging.Piece.{Piece}
 use Rattle.day_core.specs.Owners.{is_own, machine_of, own_locates, own_of, owner, part_at, piece_of, progress}
-use Rattle.day_core.specs.Standing.{IsRunner, IsTurned, Standing, machine_at, new_machine, own_messages, standing_in}
+use Rattle.day_core.specs.Standing.{IsRunner, IsTurned, Standing, machine_at, new_machine, own_messages, standing_in, own_stocks}
 use Rattle.day_core.specs.Splitting.{Split}
 use Rattle.day_core.proofs.Progress.{machine_next, own_within, own_passes, progress_first, progress_kept, progress_moved}
 
@@ -118,6 +118,47 @@ map_same f g (l ∷ ls) each =
     let rest = map_same f g ls (λ k lt. each (suc k) (omega arith)) in
     cc
 
+-- ---- one message more, and what is kept for each of a worker's stocks
+
+module _ (s : Standing) (n place : ℕ) (more : s.done < length (own_messages s)) (next : n ≡ get_or (own_messages s) s.done 0) (listed : place < length (own_stocks s)) (owned : part_at s.day n ≡ Locate (get_or (own_stocks s) place 0)) where
+  abbrev code : ℕ → ℕ
+  code k = get_or (own_stocks s) k 0
+
+  mine : (k : ℕ) → k < length (own_stocks s) → owner s.workers (code k) ≡ s.worker
+  mine k lt = code_owner s.workers s.worker s.day k 0 lt
+
+  room : (k : ℕ) → k < length (own_stocks s) → s.done < length (own_of s.workers (owner s.workers (code k)) s.day)
+  room k lt = rw (mine k lt) more
+
+  here : (k : ℕ) → k < length (own_stocks s) → get_or (own_of s.workers (owner s.workers (code k)) s.day) s.done 0 ≡ n
+  here k lt = ap (λ (w : ℕ). get_or (own_of s.workers w s.day) s.done 0) (mine k lt) ∙ sym next
+
+  -- its stock has come as far as the message
+  pub progress_here : progress s.day s.workers (code place) (s.done + 1) ≡ n
+  progress_here = progress_moved s.day s.workers (code place) s.done 0 (room place listed) (rw (here place listed) (is_own_part (code place) _ owned)) ∙ here place listed
+
+  -- and another stays where it is
+  progress_there : (k : ℕ) → k < length (own_stocks s) → k ≢ place → progress s.day s.workers (code k) (s.done + 1) ≡ progress s.day s.workers (code k) s.done
+  progress_there k lt differ =
+      let other : is_locate (code k) (part_at s.day n) ≡ false = rw owned (ne_eqb _ _ (λ e. differ (sym (code_once s.workers s.worker s.day place k listed lt e)))) in
+      progress_kept s.day s.workers (code k) s.done 0 (room k lt) (rw (here k lt) other)
+
+  pub values_after : {X : Type 0} (f : ℕ → ℕ → X) (values : List X) (v : X) → values ≡ map (λ l. f l (progress s.day s.workers l s.done)) (own_stocks s) → v ≡ f (code place) n
+      → set values place v ≡ map (λ l. f l (progress s.day s.workers l (s.done + 1))) (own_stocks s)
+  values_after f values v are is =
+      let before = λ (l : ℕ). f l (progress s.day s.workers l s.done) in
+      let long : length values ≡ length (own_stocks s) = ap length are ∙ length-map (own_stocks s) before in
+      map_by_all (λ l. f l (progress s.day s.workers l (s.done + 1))) (own_stocks s) (set values place v) (length-set values place v ∙ long) (λ k d below.
+      elim (cases_eq k place) [
+        | inl same ↦
+            ap (λ (j : ℕ). get_or (set values place v) j d) same ∙ get_or-set_same values place v d (omega (arith, listed, long)) ∙ is
+            ∙ ap (f (code place)) (sym progress_here) ∙ ap (λ (j : ℕ). f (code j) (progress s.day s.workers (code j) (s.done + 1))) (sym same)
+        | inr differ ↦
+            get_or-set_other values place k v d differ
+            ∙ ap (λ xs. get_or xs k d) are ∙ get_or-map before (own_stocks s) k 0 d below
+            ∙ ap (f (code k)) (sym (progress_there k below differ))
+      ])
+
 -- ---- a worker's next message
 
 module _ (s : Standing) (own locates : List ℕ) (stocks : List StockMachine) (runner : IsRunner s own locates stocks) (n : ℕ) (more : s.done < length own) (next : n ≡ get_or own s.done n) where
@@ -151,36 +192,12 @@ module _ (s : Standing) (own locates : List ℕ) (stocks : List StockMachine) (r
   -- the stocks after it, where the machine of its stock was stepped
   pub stocks_after : (place : ℕ) (m : StockMachine) → place < length locates → part_at s.day n ≡ Locate (get_or locates place 0) → m ≡ machine_of s.day (get_or locates place 0) n
       → set stocks place m ≡ map (machine_at (record s { done = s.done + 1 })) locates
-  stocks_after place m lt own_part stepped =
+  stocks_after place m lt owned stepped =
       let then : Standing = record s { done = s.done + 1 } in
-      let long : length stocks ≡ length locates = ap length runner.stocks_are ∙ length-map locates (machine_at s) in
-      map_by_all (machine_at then) locates (set stocks place m) (length-set stocks place m ∙ long) (λ k d below.
-      let locate = get_or locates k 0 in
-      let mine : owner s.workers locate ≡ s.worker =
-      ap (λ (xs : List ℕ). owner s.workers (get_or xs k 0)) runner.locates_are
-      ∙ code_owner s.workers s.worker s.day k 0 (omega (arith, below, ap length runner.locates_are))
-      in
-      let room : s.done < length (own_of s.workers (owner s.workers locate) s.day) = rw mine within_own in
-      let here : get_or (own_of s.workers (owner s.workers locate) s.day) s.done 0 ≡ n = ap (λ (w : ℕ). get_or (own_of s.workers w s.day) s.done 0) mine ∙ sym next_is in
-      elim (cases_eq k place) [
-        | inl same ↦
-            let code : part_at s.day n ≡ Locate locate = own_part ∙ ap (λ (j : ℕ). Locate (get_or locates j 0)) (sym same) in
-            let moved = progress_moved s.day s.workers locate s.done 0 room (rw here (is_own_part locate _ code)) ∙ here in
-            ap (λ (j : ℕ). get_or (set stocks place m) j d) same ∙ get_or-set_same stocks place m d (omega (arith, lt, long)) ∙ stepped
-            ∙ ap (λ (j : ℕ). machine_of s.day (get_or locates j 0) n) (sym same) ∙ ap (machine_of s.day locate) (sym moved)
-        | inr differ ↦
-            let other : is_locate locate (part_at s.day n) ≡ false = rw own_part (ne_eqb _ _ (λ e. differ (sym (same_place place k lt below e)))) in
-            let kept = progress_kept s.day s.workers locate s.done 0 room (rw here other) in
-            get_or-set_other stocks place k m d differ
-            ∙ ap (λ (xs : List StockMachine). get_or xs k d) runner.stocks_are ∙ get_or-map (machine_at s) locates k 0 d below
-            ∙ ap (machine_of s.day locate) (sym kept)
-      ])
-    where
-      same_place : (i j : ℕ) → i < length locates → j < length locates → get_or locates i 0 ≡ get_or locates j 0 → i ≡ j
-      same_place i j li lj same =
-          let is = runner.locates_are in
-          code_once s.workers s.worker s.day i j (omega (arith, li, ap length is)) (omega (arith, lj, ap length is))
-          (ap (λ (xs : List ℕ). get_or xs i 0) (sym is) ∙ same ∙ ap (λ (xs : List ℕ). get_or xs j 0) is)
+      let is = runner.locates_are in
+      values_after s n place within_own next_is (omega (arith, lt, ap length is)) (owned ∙ ap (λ (xs : List ℕ). Locate (get_or xs place 0)) is)
+      (machine_of s.day) stocks m (runner.stocks_are ∙ ap (map (machine_at s)) is) (stepped ∙ ap (λ (xs : List ℕ). machine_of s.day (get_or xs place 0) n) is)
+      ∙ ap (map (machine_at then)) (sym is)
 
   module _ (day : List (List ℕ)) (same : day ≡ s.day) (place : ℕ) (before : StockMachine) (listed : place < length locates) (owned : part_at day n ≡ Locate (get_or locates place 0)) (is : before ≡ get_or stocks place before) where
     own_part : part_at s.day n ≡ Locate (get_or locates place 0)

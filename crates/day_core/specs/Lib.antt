@@ -1,3 +1,4 @@
+pub mod Cells
 pub mod Dealing
 pub mod Merging
 pub mod Owners

@@ -2,6 +2,7 @@
 #![tactic(auto)]
 
 mod counting;
+mod desk;
 mod merging;
 mod parts;
 mod places;

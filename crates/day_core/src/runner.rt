@@ -46,7 +46,8 @@ impl<A: Allocator> Model for Runner<A> {
 
     ghost view = { λ r. standing_in r.parts.value r.worker r.done };
 
-    ghost invariant = { λ r. IsRunner (standing_in r.parts.value r.worker r.done) r.own.items r.places r.stocks.items };
+    ghost invariant = { λ r. IsRunner (standing_in r.parts.value r.worker r.done)
+        r.own.items r.places r.stocks.items };
 }
 
 // The locate codes of a worker's stocks.
@@ -136,6 +137,8 @@ impl<A: Allocator + Copy> Runner<A> {
     pub fn turn(&mut self, day: &Day<A>) -> Result<Option<Turned>, AllocError>
         requires { day.now.payloads ≡ self.old.day }
         ensures turned { IfOk result (TakesTurn self.old self.new) }
+        // The next turn is handed the same day.
+        ensures day { self.new.day ≡ self.old.day }
         ensures err { OnErr result (self.new ≡ self.old) }
     {
         if self.done == self.own.len() {

@@ -1,0 +1,63 @@
+//! Days for the tests, and their parts.
+ghost use Rattle.std.specs.Prelude.{◌≡◌, IfOk};
+
+use binaryfile::Day;
+use day_core::{Parts, split};
+use itch_layouts::Msg;
+use std::alloc::Allocator;
+use std::test::Fail;
+use std::thread::Threads;
+use support::{AAPL, MSFT, Ticker, payload_of};
+
+// The stock of locate code 3, which has no directory row.
+const UNLISTED: Ticker = Ticker {
+    locate: 3,
+    symbol: *b"        ",
+};
+
+/// Adds the entry of a message to a file.
+pub fn add_entry<A: Allocator + Copy>(
+    alloc: A,
+    file: &mut Vec<u8, A>,
+    msg: &Msg,
+) -> Result<(), Fail> {
+    let payload = payload_of(alloc, msg)?;
+    let length = u16::try_from(payload.len()).map_err(|_| Fail::new("a long payload"))?;
+    file.extend_from_slice(&length.to_be_bytes())?;
+    file.extend_from_slice(&payload)?;
+    Ok(())
+}
+
+/// The day of a file.
+pub fn day_of<A: Allocator + Copy>(alloc: A, file: Vec<u8, A>) -> Result<Day<A>, Fail> {
+    Day::from_bytes(alloc, file, u32::MAX).map_err(|_| Fail::new("no day"))
+}
+
+/// Two stocks with a bid each, and deletes of the first one's bid, of an order of no stock, and of that bid again.
+pub fn two_stocks<A: Allocator + Copy>(alloc: A) -> Result<Day<A>, Fail> {
+    let mut file = Vec::new(alloc);
+    for msg in [
+        AAPL.directory(),
+        MSFT.directory(),
+        AAPL.add(7, b'B', 10, 100),
+        MSFT.add(7, b'B', 20, 200),
+        AAPL.delete(7),
+        UNLISTED.delete(7),
+        AAPL.delete(7),
+    ] {
+        add_entry(alloc, &mut file, &msg)?;
+    }
+    day_of(alloc, file)
+}
+
+/// The parts of a day.
+pub fn parts_of<R: Threads + Sync, A: Allocator + Copy + Send + Sync>(
+    rt: &R,
+    alloc: A,
+    day: &Day<A>,
+    workers: u32,
+) -> Result<Parts<A>, Fail>
+    ensures { IfOk result (λ parts. parts.day ≡ day.now.payloads) }
+{
+    split(rt, alloc, day, workers).map_err(|_| Fail::new("no parts"))
+}

@@ -1,0 +1,207 @@
+//! Turns of workers, one by one and all of a day.
+ghost use Rattle.std.specs.Prelude.{◌≡◌, IfOk};
+
+use crate::days::{parts_of, two_stocks};
+use binaryfile::Day;
+use day_core::{Parts, Piece, Replayed, Runner, Turned, replay_parts};
+use itch_table::{Fault, Outcome, Top};
+use refusing::{Refusal, Refusing};
+use std::alloc::Allocator;
+use std::test::Fail;
+use support::{same, same_list};
+
+// What becomes of the messages of the two stocks.
+const OUTCOMES: [Outcome; 7] = [
+    Outcome::Applied,
+    Outcome::Applied,
+    Outcome::Applied,
+    Outcome::Applied,
+    Outcome::Applied,
+    Outcome::Refused(Fault::NoDirectory),
+    Outcome::Refused(Fault::ReferenceUnknown),
+];
+
+// A stock without orders.
+const NO_TOP: Top = Top {
+    bid_price: 0,
+    bid_shares: 0,
+    ask_price: 0,
+    ask_shares: 0,
+};
+
+// The bid that stays.
+const BID: Top = Top {
+    bid_price: 200,
+    bid_shares: 20,
+    ask_price: 0,
+    ask_shares: 0,
+};
+
+// A worker that has done nothing yet.
+fn runner_of<A: Allocator + Copy>(
+    alloc: A,
+    parts: &Parts<A>,
+    worker: u32,
+) -> Result<Runner<A>, Fail>
+    ensures { IfOk result (λ runner. runner.day ≡ parts.now.day) }
+{
+    if worker >= parts.workers() {
+        return Err(Fail::new("no such worker"));
+    }
+    Ok(Runner::new(alloc, parts, worker)?)
+}
+
+// What a turn does that was applied or refused.
+fn turned(message: u32, outcome: Outcome, place: usize) -> Option<Turned> {
+    Some(Turned {
+        piece: Piece { message, outcome },
+        place,
+    })
+}
+
+// Takes a worker's turn, which answers this.
+fn take<A: Allocator + Copy>(
+    case: &str,
+    runner: &mut Runner<A>,
+    day: &Day<A>,
+    wanted: Option<Turned>,
+) -> Result<(), Fail>
+    requires { day.now.payloads ≡ runner.old.day }
+    ensures { day.now.payloads ≡ runner.new.day }
+{
+    let answer = runner.turn(day)?;
+    same(case, &answer, &wanted)
+}
+
+// Takes a worker's turn where memory is refused.
+fn take_none<A: Allocator + Copy>(
+    case: &str,
+    runner: &mut Runner<A>,
+    day: &Day<A>,
+) -> Result<(), Fail>
+    requires { day.now.payloads ≡ runner.old.day }
+    ensures { day.now.payloads ≡ runner.new.day }
+{
+    let answer = runner.turn(day);
+    same(case, &answer.is_err(), &true)
+}
+
+// The best bid of the stock of a locate code, where it is one of the worker's.
+fn top_of<A: Allocator + Copy>(runner: &Runner<A>, locate: u16) -> Option<Top> {
+    runner
+        .place_of(locate)
+        .map(|place| runner.stock_at(place).top())
+}
+
+#[test]
+fn a_worker_does_its_messages_in_order(rt: HostRuntime) -> Result<(), Fail> {
+    let day = two_stocks(rt.alloc())?;
+    let parts = parts_of(&rt, rt.alloc(), &day, 2)?;
+    let mut runner = runner_of(rt.alloc(), &parts, 1)?;
+    let unlisted = Outcome::Refused(Fault::NoDirectory);
+    let unknown = Outcome::Refused(Fault::ReferenceUnknown);
+    take("turn 1", &mut runner, &day, turned(1, Outcome::Applied, 0))?;
+    take("turn 2", &mut runner, &day, turned(3, Outcome::Applied, 0))?;
+    let bid = top_of(&runner, 1).map(|top| (top.bid_price, top.bid_shares));
+    same("the bid after it", &bid, &Some((100, 10)))?;
+    take("turn 3", &mut runner, &day, turned(5, Outcome::Applied, 0))?;
+    take("turn 4", &mut runner, &day, turned(6, unlisted, 1))?;
+    take("turn 5", &mut runner, &day, turned(7, unknown, 0))?;
+    take(
+        "a turn of a worker that is through",
+        &mut runner,
+        &day,
+        None,
+    )?;
+    take("its next one", &mut runner, &day, None)?;
+    same("the top of stock 1", &top_of(&runner, 1), &Some(NO_TOP))?;
+    same("the top of stock 3", &top_of(&runner, 3), &Some(NO_TOP))?;
+    same("a stock of another worker", &top_of(&runner, 2), &None)?;
+    same("a stock of no message", &top_of(&runner, 5), &None)?;
+    same("how many stocks", &runner.into_stocks().len(), &2)
+}
+
+// What a replay of the two stocks answers.
+fn same_day<A: Allocator + Copy>(replayed: &Replayed<A>) -> Result<(), Fail> {
+    same_list("the outcomes", &replayed.outcomes, &OUTCOMES)?;
+    let [one, two, three] = replayed.stocks.as_slice() else {
+        return Err(Fail::new("not three stocks"));
+    };
+    same(
+        "the locate codes",
+        &(one.locate(), two.locate(), three.locate()),
+        &(1, 2, 3),
+    )?;
+    same(
+        "the steps",
+        &(one.steps(), two.steps(), three.steps()),
+        &(4, 2, 1),
+    )?;
+    same("the top of stock 1", &one.top(), &NO_TOP)?;
+    same("the top of stock 2", &two.top(), &BID)?;
+    same("the top of stock 3", &three.top(), &NO_TOP)?;
+    same("the event", &replayed.event, &None)
+}
+
+#[test]
+fn any_number_of_workers_makes_the_same_day(rt: HostRuntime) -> Result<(), Fail> {
+    let day = two_stocks(rt.alloc())?;
+    for workers in [1, 2, 3, 64] {
+        let parts = parts_of(&rt, rt.alloc(), &day, workers)?;
+        same_day(&replay_parts(rt.alloc(), &parts, &day)?)?;
+    }
+    Ok(())
+}
+
+#[test]
+fn a_replay_without_memory_is_tried_again(rt: HostRuntime) -> Result<(), Fail> {
+    let heap = Refusing::new(rt.alloc(), Refusal::Never);
+    let day = two_stocks(&heap)?;
+    let parts = parts_of(&rt, &heap, &day, 2)?;
+    heap.restart(Refusal::Never);
+    same_day(&replay_parts(&heap, &parts, &day)?)?;
+    let growths = heap.asked();
+    for growth in 1..=growths.min(100) {
+        heap.restart(Refusal::From(growth));
+        let answer = replay_parts(&heap, &parts, &day);
+        same(
+            "a refused growth",
+            &(growth, answer.is_err()),
+            &(growth, true),
+        )?;
+        heap.restart(Refusal::Never);
+        same_day(&replay_parts(&heap, &parts, &day)?)?;
+    }
+    same("some growths", &(growths > 10 && growths <= 100), &true)
+}
+
+#[test]
+fn a_turn_without_memory_is_tried_again(rt: HostRuntime) -> Result<(), Fail> {
+    let heap = Refusing::new(rt.alloc(), Refusal::Never);
+    let day = two_stocks(&heap)?;
+    let parts = parts_of(&rt, &heap, &day, 2)?;
+    let mut runner = runner_of(&heap, &parts, 1)?;
+    heap.restart(Refusal::From(1));
+    take(
+        "a directory message",
+        &mut runner,
+        &day,
+        turned(1, Outcome::Applied, 0),
+    )?;
+    take_none("an order", &mut runner, &day)?;
+    same("the top after it", &top_of(&runner, 1), &Some(NO_TOP))?;
+    take_none("the same order", &mut runner, &day)?;
+    heap.restart(Refusal::Never);
+    take(
+        "with memory",
+        &mut runner,
+        &day,
+        turned(3, Outcome::Applied, 0),
+    )?;
+    take(
+        "the next one",
+        &mut runner,
+        &day,
+        turned(5, Outcome::Applied, 0),
+    )
+}

@@ -1,0 +1,69 @@
+//! One worker with the cells of its stocks.
+ghost use Rattle.std.specs.Prelude.{◌≡◌, ◌<◌, ◌%◌, IfOk, OnErr, MatchOption};
+ghost use Rattle.std.specs.List.{Contains};
+ghost use Rattle.itch_table.specs.Shows.{words_of};
+ghost use Rattle.day_core.specs.Cells.{AnswersTurn, shown};
+ghost use Rattle.day_core.specs.Standing.{first_standing, machine_at, own_stocks};
+
+use crate::merging::Piece;
+use crate::parts::Parts;
+use crate::runner::Runner;
+use binaryfile::Day;
+use itch_table::Top;
+use std::alloc::{AllocError, Allocator};
+use std::marker::Model;
+use stock_machine::Stock;
+
+/// One worker, and for each of its stocks the four words that screens read. It is seen as where the worker stands.
+#[derive(Drop)]
+pub(crate) struct Desk<A: Allocator> {
+    runner: Runner<A>,
+    cells: Vec<[u64; 4], A>,
+}
+
+impl<A: Allocator> Model for Desk<A> {
+    ghost use Rattle.day_core.specs.Cells.{CellsShow};
+    ghost use Rattle.day_core.specs.Standing.{Standing};
+
+    ghost Value = { Standing };
+
+    ghost view = { λ d. d.runner };
+
+    ghost invariant = { λ d. CellsShow d.runner d.cells.items };
+}
+
+// The four words of a top after a number of messages.
+fn to_words(message: u32, best: &Top) -> [u64; 4]
+    ensures { result ≡ words_of message best.now }
+{
+    let prices = u64::from(best.bid_price) * (1 << 32) + u64::from(best.ask_price);
+    [u64::from(message), prices, best.bid_shares, best.ask_shares]
+}
+
+impl<A: Allocator + Copy> Desk<A> {
+    /// Does the worker's next message, sets the cell of its stock, and answers what became of it; none, with nothing
+    /// changed, exactly where the worker is through. An error says that memory was refused, and leaves all as it was.
+    pub fn turn(&mut self, day: &Day<A>) -> Result<Option<Piece>, AllocError>
+        requires { day.now.payloads ≡ self.old.day }
+        ensures turned { IfOk result (AnswersTurn self.old self.new) }
+        ensures err { OnErr result (self.new ≡ self.old) }
+    {
+        let Some(turned) = self.runner.turn(day)? else {
+            return Ok(None);
+        };
+        let best = self.runner.stock_at(turned.place).top();
+        self.cells[turned.place] = to_words(turned.piece.message, &best);
+        Ok(Some(turned.piece))
+    }
+
+    /// The words of a stock that belongs to the worker by its locate code; four zeros where no message is of it.
+    pub fn look(&self, locate: u16) -> [u64; 4]
+        requires { locate % self.now.workers ≡ self.now.worker }
+        ensures { result ≡ shown self.now.day self.now.workers locate self.now.done }
+    {
+        match self.runner.place_of(locate) {
+            Some(place) => self.cells[place],
+            None => [0; 4],
+        }
+    }
+}
