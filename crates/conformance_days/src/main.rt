@@ -1,13 +1,16 @@
-//! Leads each day file that is named through the plain machine and through a machine for each of its stocks, and compares
-//! what they say. It prints a line for each file, and ends with status 1 where two machines differ.
+//! Leads each day file that is named through the plain machine, through a machine for each of its stocks, and through the
+//! parts of several numbers of workers, and compares what they say. It prints a line for each file, and ends with status 1
+//! where two differ.
 #![tactic(auto)]
 
 mod comparing;
 mod day;
+mod workers;
 
 use binaryfile::{Day, Feed, Limits};
 use std::rt::Runtime;
 use std::test::Fail;
+use std::thread::Threads;
 use std::{env, fs};
 
 // No example is larger.
@@ -17,7 +20,7 @@ const LIMITS: Limits = Limits {
 };
 
 // Compares the machines over one file, and prints how many messages and stocks it has.
-fn compare_file<R: Runtime + AllocGlobal>(rt: &R, path: &str) -> Result<(), Fail> {
+fn compare_file<R: Runtime + AllocGlobal + Threads + Sync>(rt: &R, path: &str) -> Result<(), Fail> {
     let Ok(file) = fs::open(rt, path) else {
         return Err(Fail::new("the file can't be opened"));
     };
@@ -25,6 +28,7 @@ fn compare_file<R: Runtime + AllocGlobal>(rt: &R, path: &str) -> Result<(), Fail
         return Err(Fail::new("the file can't be loaded"));
     };
     let stocks = day::compare(rt.alloc(), &day)?;
+    workers::compare_workers(rt, rt.alloc(), &day)?;
     match println!(rt; "{path}: {} messages, {stocks} stocks", day.len()) {
         Ok(()) => Ok(()),
         Err(_) => Err(Fail::new("a line can't be printed")),
@@ -32,7 +36,7 @@ fn compare_file<R: Runtime + AllocGlobal>(rt: &R, path: &str) -> Result<(), Fail
 }
 
 // Compares the machines over each file, up to the first where they differ.
-fn run<R: Runtime + AllocGlobal>(rt: &R) -> Result<(), Fail> {
+fn run<R: Runtime + AllocGlobal + Threads + Sync>(rt: &R) -> Result<(), Fail> {
     let Ok(arguments) = env::args(rt) else {
         return Err(Fail::new("the arguments can't be read"));
     };

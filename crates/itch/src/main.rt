@@ -17,6 +17,10 @@ use std::{env, fs, io};
 /// The status for invalid arguments.
 const MISUSE: u8 = 2;
 
+/// Into how many parts the day of a file is split. They are replayed one after another, and four are faster than one, since
+/// the books of fewer stocks are in use at a time.
+const PARTS: u32 = 4;
+
 /// The status where something can't be read or written.
 const DEVICE: u8 = 3;
 
@@ -36,7 +40,7 @@ fn replay<R: Runtime + AllocGlobal + Threads + Sync>(rt: &R, path: &str) -> Resu
     };
     let mut feed = Feed::new(file);
     let mut sink = Sink::new(io::writer(rt));
-    replay_run(rt, rt.alloc(), &mut feed, &mut sink, 1)
+    replay_run(rt, rt.alloc(), &mut feed, &mut sink, PARTS)
 }
 
 // Writes the text of a file on standard output.
