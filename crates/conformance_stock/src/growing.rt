@@ -183,12 +183,9 @@ fn a_list_or_a_copy_without_memory_is_none(rt: HostRuntime) -> Result<(), Fail> 
     same_machines(&heap, &stock, &after(&heap, &two_bids())?)
 }
 
-#[test]
-fn steps_without_a_new_row_take_no_memory(rt: HostRuntime) -> Result<(), Fail> {
-    let heap = Refusing::new(rt.alloc(), Refusal::Never);
-    let mut stock = after(&heap, &two_bids())?;
-    heap.restart(Refusal::From(1));
-    for (msg, outcome) in &[
+// Messages that need no new row, after two bids and a trade, with their outcomes.
+fn without_a_new_row() -> [(Msg, Outcome); 17] {
+    [
         (AAPL.directory(), Outcome::Applied),
         (AAPL.participant(), Outcome::Applied),
         (AAPL.collar(), Outcome::Applied),
@@ -218,7 +215,15 @@ fn steps_without_a_new_row_take_no_memory(rt: HostRuntime) -> Result<(), Fail> {
         (AAPL.cancel(1, 6), Outcome::Applied),
         (AAPL.delete(2), Outcome::Applied),
         (AAPL.broken(3), Outcome::Applied),
-    ] {
+    ]
+}
+
+#[test]
+fn steps_without_a_new_row_take_no_memory(rt: HostRuntime) -> Result<(), Fail> {
+    let heap = Refusing::new(rt.alloc(), Refusal::Never);
+    let mut stock = after(&heap, &two_bids())?;
+    heap.restart(Refusal::From(1));
+    for (msg, outcome) in &without_a_new_row() {
         take_message(rt.alloc(), &mut stock, msg, *outcome)?;
     }
     same(

@@ -9,7 +9,7 @@ use Rattle.itch_layouts.specs.declared.shape.Shape.TheVariants.{Known, Unknown, 
 use Rattle.itch_layouts.proofs.Finding.{same_on_found, found_passes}
 use Rattle.itch_layouts.proofs.Numbers.{number_at_16}
 use Rattle.itch_layouts.proofs.Uniqueness.{reads_shape, sized}
-use Rattle.itch_table.specs.Parts.{is_of_market, part, part_of_message, part_of_shape}
+use Rattle.itch_table.specs.Parts.{is_of_no_stock, part, part_of_message, part_of_shape}
 use Rattle.itch_table.specs.declared.outcome.Fault.TheVariants.{WrongLength}
 use Rattle.itch_table.specs.declared.outcome.Outcome.TheVariants.{Applied, Passed, Refused}
 use Rattle.itch_table.specs.declared.outcome.Part.{Part}
@@ -31,7 +31,7 @@ abbrev of_message : Decoder → List ℕ → Part
 of_message d payload = part_of_message (d.message (values_at d.layout payload))
 
 abbrev of_kind : ℕ → List ℕ → Part
-of_kind kind payload = cond (is_of_market kind) (Nowhere Applied) (Locate (number_at 1 2 payload))
+of_kind kind payload = cond (is_of_no_stock kind) (Nowhere Applied) (Locate (number_at 1 2 payload))
 
 abbrev of_own_kind : Decoder → List ℕ → Part
 of_own_kind d payload = of_kind d.layout.kind payload
@@ -88,11 +88,11 @@ read_locate (a ∷ b ∷ []) h = absurd (omega arith)
 read_locate (a ∷ b ∷ c ∷ rest) h = number_at_16 1 (a ∷ b ∷ c ∷ rest) (omega arith)
 
 pub market_part : (payload : List ℕ) (size : ℕ) → size_of (get_or payload 0 0) ≡ Some size → length payload ≡ size
-    → is_of_market (get_or payload 0 0) ≡ true → part payload ≡ Nowhere Applied
+    → is_of_no_stock (get_or payload 0 0) ≡ true → part payload ≡ Nowhere Applied
 market_part payload size is same market = known_part payload size is same ∙ ap (λ (b : Bool). cond b (Nowhere Applied) (Locate (number_at 1 2 payload))) market
 
 pub stock_part : (payload : List ℕ) (size : ℕ) → size_of (get_or payload 0 0) ≡ Some size → length payload ≡ size
-    → is_of_market (get_or payload 0 0) ≡ false → part payload ≡ Locate (from_be_bytes w16 (get_or payload 1 0 ∷ get_or payload 2 0 ∷ []))
+    → is_of_no_stock (get_or payload 0 0) ≡ false → part payload ≡ Locate (from_be_bytes w16 (get_or payload 1 0 ∷ get_or payload 2 0 ∷ []))
 stock_part payload size is same stock =
     known_part payload size is same
     ∙ ap (λ (b : Bool). cond b (Nowhere Applied) (Locate (number_at 1 2 payload))) stock

@@ -28,7 +28,7 @@ fn report_of_digits<R: Threads + Sync, A: Allocator + Copy + Send + Sync>(
 
 /// Reads a day file that is given in hexadecimal digits, replays it and writes the report, as [`replay_run`] does.
 ///
-/// It is split for one worker. Spaces and line feeds are passed over. [`ProgFault::TooManyBytes`] comes above
+/// The day is split for one worker. Spaces and line feeds are passed over. [`ProgFault::TooManyBytes`] comes above
 /// [`MOST_HEX_BYTES`] bytes of input, and [`ProgFault::BadHex`] only where there is an odd number of digits, or a byte
 /// that is no hexadecimal digit, no space and no line feed.
 ///
