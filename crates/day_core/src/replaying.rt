@@ -38,7 +38,8 @@ fn do_all<A: Allocator + Copy>(
     ensures stocks { OnOk result (map (machine_at runner.new) (own_stocks runner.new)
         ≡ map (last_machine runner.old.day) (own_stocks runner.old)) }
     ensures pieces { OnOk result (pieces.new.items
-        ≡ pieces.old.items ++ pieces_by (record { day = runner.old.day; workers = runner.old.workers }) runner.old.worker) }
+        ≡ pieces.old.items
+        ++ pieces_by (record { day = runner.old.day; workers = runner.old.workers }) runner.old.worker) }
 {
     while let Some(turned) = runner.turn(day)? {
         pieces.push(turned.piece)?;

@@ -46,7 +46,8 @@ impl<A: Allocator> Model for Runner<A> {
 
     ghost view = { λ r. standing_in r.parts.value r.worker r.done };
 
-    ghost invariant = { λ r. IsRunner (standing_in r.parts.value r.worker r.done) r.own.items r.places r.stocks.items };
+    ghost invariant = { λ r. IsRunner (standing_in r.parts.value r.worker r.done)
+        r.own.items r.places r.stocks.items };
 }
 
 // The locate codes of a worker's stocks.
