@@ -1,5 +1,5 @@
 //! Calls that change a book, and what a book shows.
-use itch_table::{Level, Order, Side, Top};
+use itch_table::{Order, Side};
 use order_book::Book;
 use std::alloc::{AllocError, Allocator};
 use std::test::Fail;
@@ -89,35 +89,39 @@ pub fn make_all<A: Allocator + Copy>(book: &mut Book<A>, calls: &[Call]) -> Resu
     Ok(())
 }
 
-/// What a book shows of all its orders.
-#[derive(Drop)]
-pub struct Shown<A: Allocator> {
-    pub count: u32,
-    pub top: Top,
-    pub orders: Vec<Order, A>,
-    pub bids: Vec<Level, A>,
-    pub asks: Vec<Level, A>,
-}
-
-/// What a book shows now.
-pub fn shown_by<A: Allocator + Copy>(alloc: A, book: &Book<A>) -> Result<Shown<A>, AllocError> {
-    Ok(Shown {
-        count: book.count(),
-        top: book.top(),
-        orders: book.orders(alloc)?,
-        bids: book.levels(alloc, Side::Buy)?,
-        asks: book.levels(alloc, Side::Sell)?,
-    })
-}
-
-/// Two books show the same.
-pub fn same_shown<A: Allocator, B: Allocator>(
-    case: &str,
-    found: &Shown<A>,
-    wanted: &Shown<B>,
+// Two books list the same orders.
+fn same_orders<A: Allocator + Copy>(
+    alloc: A,
+    found: &Book<A>,
+    wanted: &Book<A>,
 ) -> Result<(), Fail> {
-    same(case, &(found.count, found.top), &(wanted.count, wanted.top))?;
-    same_list(case, &found.orders, &wanted.orders)?;
-    same_list(case, &found.bids, &wanted.bids)?;
-    same_list(case, &found.asks, &wanted.asks)
+    let orders = found.orders(alloc)?;
+    same_list("the orders", &orders, &wanted.orders(alloc)?)
+}
+
+// Two books list the same levels of a side.
+fn same_levels<A: Allocator + Copy>(
+    alloc: A,
+    found: &Book<A>,
+    wanted: &Book<A>,
+    side: Side,
+) -> Result<(), Fail> {
+    let levels = found.levels(alloc, side)?;
+    same_list("the levels", &levels, &wanted.levels(alloc, side)?)
+}
+
+/// Two books show the same count, top, orders and levels.
+pub fn same_books<A: Allocator + Copy>(
+    alloc: A,
+    found: &Book<A>,
+    wanted: &Book<A>,
+) -> Result<(), Fail> {
+    same(
+        "the count and the top",
+        &(found.count(), found.top()),
+        &(wanted.count(), wanted.top()),
+    )?;
+    same_orders(alloc, found, wanted)?;
+    same_levels(alloc, found, wanted, Side::Buy)?;
+    same_levels(alloc, found, wanted, Side::Sell)
 }

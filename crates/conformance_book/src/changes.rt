@@ -1,7 +1,8 @@
 //! What a book shows after each of its calls.
-use crate::calls::{Call, ask, bid, make, make_all, same_shown, shown_by};
+use crate::calls::{Call, ask, bid, make_all, same_books};
 use itch_table::{Level, Order, Side, Top};
 use order_book::Book;
+use std::alloc::Allocator;
 use std::test::Fail;
 use support::{same, same_list};
 
@@ -18,6 +19,16 @@ fn best_bid(bid_price: u32, bid_shares: u64) -> Top {
         ask_price: 0,
         ask_shares: 0,
     }
+}
+
+// A book lists these levels of a side.
+fn lists_levels<A: Allocator + Copy>(
+    alloc: A,
+    book: &Book<A>,
+    side: Side,
+    levels: &[Level],
+) -> Result<(), Fail> {
+    same_list("the levels", &book.levels(alloc, side)?, levels)
 }
 
 // Calls on bids, and what the book shows after each: its top, how many orders live, and the bids.
@@ -38,13 +49,13 @@ fn levels_follow_the_orders(rt: HostRuntime) -> Result<(), Fail> {
     ];
     let mut book = Book::new(rt.alloc());
     for (call, top, count, levels) in rows {
-        let answer = make(&mut book, call)?;
+        make_all(&mut book, &[call])?;
         same(
             "after a call",
-            &(call, answer, book.top(), book.count()),
-            &(call, Ok(()), top, count),
+            &(call, book.top(), book.count()),
+            &(call, top, count),
         )?;
-        same_list("the bids", &book.levels(rt.alloc(), Side::Buy)?, levels)?;
+        lists_levels(rt.alloc(), &book, Side::Buy, levels)?;
     }
     Ok(())
 }
@@ -60,15 +71,28 @@ fn mixed() -> [Call; 5] {
     ]
 }
 
+// A book with these orders, which has taken the calls.
+fn mixed_book<A: Allocator + Copy>(alloc: A, calls: &[Call]) -> Result<Book<A>, Fail> {
+    let mut book = Book::new(alloc);
+    make_all(&mut book, &mixed())?;
+    make_all(&mut book, calls)?;
+    Ok(book)
+}
+
+// A book lists orders with these references.
+fn lists_orders<A: Allocator + Copy>(
+    alloc: A,
+    book: &Book<A>,
+    references: &[u64],
+) -> Result<(), Fail> {
+    let orders = book.orders(alloc)?;
+    let listed: Vec<u64, A> = orders.iter().map(|order| order.reference).collect(alloc)?;
+    same_list("the references", &listed, references)
+}
+
 #[test]
 fn orders_and_levels_are_in_order(rt: HostRuntime) -> Result<(), Fail> {
-    let mut book = Book::new(rt.alloc());
-    make_all(&mut book, &mixed())?;
-    let shown = shown_by(rt.alloc(), &book)?;
-    let mut references = Vec::new(rt.alloc());
-    for order in &shown.orders {
-        references.push(order.reference)?;
-    }
+    let book = mixed_book(rt.alloc(), &[])?;
     let top = Top {
         ask_price: 25,
         ask_shares: 5,
@@ -76,12 +100,17 @@ fn orders_and_levels_are_in_order(rt: HostRuntime) -> Result<(), Fail> {
     };
     same(
         "the count and the top",
-        &(shown.count, shown.top),
+        &(book.count(), book.top()),
         &(5, top),
     )?;
-    same_list("the references", &references, &[3, 4, 5, 7, 9])?;
-    same_list("the bids", &shown.bids, &[level(21, 2), level(20, 10)])?;
-    same_list("the asks", &shown.asks, &[level(25, 5), level(30, 20)])
+    lists_orders(rt.alloc(), &book, &[3, 4, 5, 7, 9])?;
+    lists_levels(rt.alloc(), &book, Side::Buy, &[level(21, 2), level(20, 10)])?;
+    lists_levels(
+        rt.alloc(),
+        &book,
+        Side::Sell,
+        &[level(25, 5), level(30, 20)],
+    )
 }
 
 #[test]
@@ -95,8 +124,7 @@ fn a_level_is_of_one_side_and_one_price(rt: HostRuntime) -> Result<(), Fail> {
         (Side::Buy, 25, 0),
         (Side::Buy, 0, 0),
     ];
-    let mut book = Book::new(rt.alloc());
-    make_all(&mut book, &mixed())?;
+    let book = mixed_book(rt.alloc(), &[])?;
     for (side, price, shares) in rows {
         same(
             "a level",
@@ -125,18 +153,18 @@ fn a_replacement_takes_over_side_and_participant(rt: HostRuntime) -> Result<(), 
     )
 }
 
+// A book shows what another shows that has these orders and has taken the calls.
+fn shows_mixed<A: Allocator + Copy>(alloc: A, book: &Book<A>, calls: &[Call]) -> Result<(), Fail> {
+    same_books(alloc, book, &mixed_book(alloc, calls)?)
+}
+
 #[test]
 fn a_copy_stays_as_it_was_made(rt: HostRuntime) -> Result<(), Fail> {
-    let mut book = Book::new(rt.alloc());
-    make_all(&mut book, &mixed())?;
-    let before = shown_by(rt.alloc(), &book)?;
+    let changes = [Call::Remove(9), Call::Reduce(3, 4)];
+    let mut book = mixed_book(rt.alloc(), &[])?;
     let mut copy = book.copy(rt.alloc())?;
-    make_all(&mut book, &[Call::Remove(9), Call::Reduce(3, 4)])?;
-    same_shown("the copy", &shown_by(rt.alloc(), &copy)?, &before)?;
-    make_all(&mut copy, &[Call::Remove(9), Call::Reduce(3, 4)])?;
-    same_shown(
-        "the copy after the same calls",
-        &shown_by(rt.alloc(), &copy)?,
-        &shown_by(rt.alloc(), &book)?,
-    )
+    make_all(&mut book, &changes)?;
+    shows_mixed(rt.alloc(), &copy, &[])?;
+    make_all(&mut copy, &changes)?;
+    shows_mixed(rt.alloc(), &copy, &changes)
 }

@@ -1,5 +1,5 @@
 //! Growths that are refused in turn: a call that is refused memory changes nothing, and some calls take none.
-use crate::calls::{Call, ask, bid, make, make_all, same_shown, shown_by};
+use crate::calls::{Call, ask, bid, make, make_all, same_books};
 use itch_table::Side;
 use order_book::Book;
 use refusing::{Refusal, Refusing};
@@ -7,45 +7,58 @@ use std::alloc::{AllocError, Allocator};
 use std::test::Fail;
 use support::same;
 
-// Makes one call: with each of its growths refused in turn, and then with memory. Answers how many growths there are.
-fn growths_of<'h, A: Allocator + Copy>(
+// Makes a call whose growths are refused from this number on. Answers whether it was refused memory.
+fn is_refused<'h, A: Allocator + Copy>(
     heap: &'h Refusing<A>,
     book: &mut Book<&'h Refusing<A>>,
     call: Call,
-) -> Result<u64, Fail> {
+    growth: u64,
+) -> Result<bool, Fail> {
+    heap.restart(Refusal::From(growth));
+    let answer = make(book, call)?;
+    let asked = heap.asked();
     heap.restart(Refusal::Never);
-    let before = shown_by(heap, book)?;
-    for growth in 1..=5u64 {
-        heap.restart(Refusal::From(growth));
-        let answer = make(book, call)?;
-        let asked = heap.asked();
-        heap.restart(Refusal::Never);
-        if answer.is_ok() {
-            // A refused try may have made room, which this one found.
-            same("that no growth was refused", &(asked < growth), &true)?;
-            return Ok(growth - 1);
+    // A refused try may have made room, which a later one finds.
+    same(
+        "whether a growth was refused",
+        &(asked >= growth),
+        &answer.is_err(),
+    )?;
+    Ok(answer.is_err())
+}
+
+// Makes a call on two books that show the same: on the first with each of its growths refused in turn, which changes
+// nothing, and at last with memory, and on the second with memory. Answers how many growths there are.
+fn make_both<'h, A: Allocator + Copy>(
+    heap: &'h Refusing<A>,
+    book: &mut Book<&'h Refusing<A>>,
+    twin: &mut Book<&'h Refusing<A>>,
+    call: Call,
+) -> Result<u64, Fail> {
+    for growths in 0..=4u64 {
+        if !is_refused(heap, book, call, growths + 1)? {
+            make_all(twin, &[call])?;
+            same_books(heap, book, twin)?;
+            return Ok(growths);
         }
-        same_shown("after a refusal", &shown_by(heap, book)?, &before)?;
+        same_books(heap, book, twin)?;
     }
     Err(Fail::new("a call takes four growths at most"))
 }
 
-// Makes a call on two books, of which the first is refused its growths in turn, and which then show the same.
-fn make_both<'h, A: Allocator + Copy, B: Allocator + Copy>(
-    heap: &'h Refusing<A>,
-    alloc: B,
-    book: &mut Book<&'h Refusing<A>>,
-    other: &mut Book<B>,
-    call: Call,
-) -> Result<u64, Fail> {
-    let growths = growths_of(heap, book, call)?;
-    make_all(other, &[call])?;
-    same_shown(
-        "after a call that was refused before",
-        &shown_by(heap, book)?,
-        &shown_by(alloc, other)?,
-    )?;
-    Ok(growths)
+// The call of this number: the first 99 add orders, and the next 99 replace them.
+fn numbered(number: u32) -> Call {
+    let reference = u64::from(number);
+    if number < 100 {
+        bid(reference, 10, number % 7)
+    } else {
+        Call::Replace(
+            reference.saturating_sub(99),
+            1_000 + reference,
+            20,
+            number % 5,
+        )
+    }
 }
 
 // Of the rows of 99 orders some need memory, and some find room.
@@ -53,26 +66,20 @@ fn make_both<'h, A: Allocator + Copy, B: Allocator + Copy>(
 fn a_call_without_memory_changes_nothing(rt: HostRuntime) -> Result<(), Fail> {
     let heap = Refusing::new(rt.alloc(), Refusal::Never);
     let mut book = Book::new(&heap);
-    let mut other = Book::new(rt.alloc());
-    let mut added = 0u64;
-    let mut replaced = 0u64;
-    for number in 1..=99u32 {
-        let reference = u64::from(number);
-        let call = bid(reference, 10, number % 7);
-        let growths = make_both(&heap, rt.alloc(), &mut book, &mut other, call)?;
-        added = added.saturating_add(growths);
+    let mut twin = Book::new(&heap);
+    for kind in [1..100u32, 100..199] {
+        let mut growths = 0u64;
+        for number in kind {
+            let more = make_both(&heap, &mut book, &mut twin, numbered(number))?;
+            growths = growths.saturating_add(more);
+        }
+        same(
+            "that some needed memory",
+            &(growths > 0, growths < 99),
+            &(true, true),
+        )?;
     }
-    for number in 1..=99u32 {
-        let reference = u64::from(number);
-        let call = Call::Replace(reference, 1_000 + reference, 20, number % 5);
-        let growths = make_both(&heap, rt.alloc(), &mut book, &mut other, call)?;
-        replaced = replaced.saturating_add(growths);
-    }
-    same(
-        "that some needed memory",
-        &(added > 0, added < 99, replaced > 0, replaced < 99),
-        &(true, true, true, true),
-    )
+    Ok(())
 }
 
 // Orders of both sides, at three prices.
@@ -106,46 +113,60 @@ fn listed<A: Allocator + Copy>(
     }
 }
 
+// Makes a list with memory, which has this length, and then with each of its growths refused in turn.
+fn refuse_listing<'h, A: Allocator + Copy>(
+    heap: &'h Refusing<A>,
+    book: &Book<&'h Refusing<A>>,
+    listing: Listing,
+    length: usize,
+) -> Result<(), Fail> {
+    heap.restart(Refusal::Never);
+    let found = listed(heap, book, listing);
+    let growths = heap.asked();
+    same(
+        "with memory",
+        &(listing, found, growths > 0),
+        &(listing, Ok(length), true),
+    )?;
+    for growth in 1..=growths {
+        heap.restart(Refusal::From(growth));
+        let found = listed(heap, book, listing);
+        same(
+            "without memory",
+            &(listing, growth, found),
+            &(listing, growth, Err(AllocError)),
+        )?;
+    }
+    Ok(())
+}
+
+// A book with orders of both sides.
+fn both_sided<A: Allocator + Copy>(alloc: A) -> Result<Book<A>, Fail> {
+    let mut book = Book::new(alloc);
+    make_all(&mut book, &both_sides())?;
+    Ok(book)
+}
+
 #[test]
 fn a_list_without_memory_is_none(rt: HostRuntime) -> Result<(), Fail> {
     let heap = Refusing::new(rt.alloc(), Refusal::Never);
-    let mut book = Book::new(&heap);
-    make_all(&mut book, &both_sides())?;
-    let before = shown_by(&heap, &book)?;
+    let book = both_sided(&heap)?;
     for (listing, length) in [
         (Listing::Orders, 4),
         (Listing::Levels(Side::Buy), 2),
         (Listing::Levels(Side::Sell), 1),
         (Listing::Copy, 4),
     ] {
-        heap.restart(Refusal::Never);
-        let found = listed(&heap, &book, listing);
-        let growths = heap.asked();
-        same(
-            "with memory",
-            &(listing, found, growths > 0),
-            &(listing, Ok(length), true),
-        )?;
-        for growth in 1..=growths {
-            heap.restart(Refusal::From(growth));
-            let found = listed(&heap, &book, listing);
-            same(
-                "without memory",
-                &(listing, growth, found),
-                &(listing, growth, Err(AllocError)),
-            )?;
-        }
-        heap.restart(Refusal::Never);
-        same_shown("after refusals", &shown_by(&heap, &book)?, &before)?;
+        refuse_listing(&heap, &book, listing, length)?;
     }
-    Ok(())
+    heap.restart(Refusal::Never);
+    same_books(&heap, &book, &both_sided(&heap)?)
 }
 
 #[test]
 fn shares_and_orders_go_without_memory(rt: HostRuntime) -> Result<(), Fail> {
     let heap = Refusing::new(rt.alloc(), Refusal::Never);
-    let mut book = Book::new(&heap);
-    make_all(&mut book, &both_sides())?;
+    let mut book = both_sided(&heap)?;
     heap.restart(Refusal::From(1));
     make_all(
         &mut book,

@@ -3,6 +3,7 @@ use binaryfile::{Feed, Sink};
 use itch_engine::{ProgFault, asm_run, dis_run, hex_run, replay_run};
 use std::alloc::Allocator;
 use std::io::{Read, Write};
+use std::thread::Threads;
 use support::{DIGITS, FILE, REPORT, TEXT};
 
 /// An engine.
@@ -50,17 +51,17 @@ impl Engine {
     }
 
     /// Runs the engine.
-    pub(crate) fn run<A: Allocator + Copy, R: Read + Drop, W: Write>(
-        self,
-        alloc: A,
-        reader: R,
-        writer: &mut W,
-    ) -> Result<u32, ProgFault> {
+    pub(crate) fn run<
+        T: Threads + Sync,
+        A: Allocator + Copy + Send + Sync,
+        R: Read + Drop,
+        W: Write,
+    >(self, rt: &T, alloc: A, reader: R, writer: &mut W) -> Result<u32, ProgFault> {
         let mut feed = Feed::new(reader);
         let mut sink = Sink::new(writer);
         match self {
-            Engine::Replay => replay_run(alloc, &mut feed, &mut sink, 1),
-            Engine::Digits => hex_run(alloc, &mut feed, &mut sink),
+            Engine::Replay => replay_run(rt, alloc, &mut feed, &mut sink, 1),
+            Engine::Digits => hex_run(rt, alloc, &mut feed, &mut sink),
             Engine::Disassembler => dis_run(alloc, &mut feed, &mut sink).map(|()| 0),
             Engine::Assembler => asm_run(alloc, &mut feed, &mut sink).map(|()| 0),
         }

@@ -2,8 +2,8 @@
 use crate::engines::Engine;
 use itch_engine::{ProgFault, status};
 use itch_text::AsmFault;
-use std::alloc::Allocator;
 use std::test::Fail;
+use std::thread::Threads;
 use support::{same, same_bytes};
 
 // An engine's input that it can't take, and the fault.
@@ -31,15 +31,15 @@ const INPUTS: [(Engine, &[u8], ProgFault); 8] = [
 ];
 
 // A run of an engine, with what it answers and what it writes.
-fn try_run<A: Allocator + Copy>(
-    alloc: A,
+fn try_run<T: AllocGlobal + Threads + Sync>(
+    rt: &T,
     engine: Engine,
     input: &[u8],
     wanted: Result<u32, ProgFault>,
     written: &[u8],
 ) -> Result<(), Fail> {
-    let mut output = Vec::new(alloc);
-    let answer = engine.run(alloc, input, &mut output);
+    let mut output = Vec::new(rt.alloc());
+    let answer = engine.run(rt, rt.alloc(), input, &mut output);
     same("an answer", &(engine, answer), &(engine, wanted))?;
     same_bytes("an output", &output, written)
 }
@@ -47,7 +47,7 @@ fn try_run<A: Allocator + Copy>(
 #[test]
 fn engines_send_nothing_for_a_faulty_input(rt: HostRuntime) -> Result<(), Fail> {
     for (engine, input, fault) in INPUTS {
-        try_run(rt.alloc(), engine, input, Err(fault), b"")?;
+        try_run(&rt, engine, input, Err(fault), b"")?;
     }
     Ok(())
 }
@@ -65,7 +65,7 @@ fn engines_take_an_empty_input(rt: HostRuntime) -> Result<(), Fail> {
         (Engine::Assembler, b"", b""),
     ];
     for (engine, input, wanted) in cases {
-        try_run(rt.alloc(), engine, input, Ok(0), wanted)?;
+        try_run(&rt, engine, input, Ok(0), wanted)?;
     }
     Ok(())
 }

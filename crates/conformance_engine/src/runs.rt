@@ -3,15 +3,24 @@ use crate::engines::{ENGINES, Engine};
 use binaryfile::{Feed, Sink};
 use itch_engine::{ProgFault, replay_run};
 use refusing::{Refusal, Refusing};
-use std::alloc::Allocator;
 use std::io::ErrorKind;
 use std::test::Fail;
+use std::thread::Threads;
 use support::{FILE, Failure, Narrow, Pieces, REPORT, same, same_bytes};
 
 // A run on the worked file, which comes in pieces.
-fn try_pieces<A: Allocator + Copy>(alloc: A, engine: Engine, most: usize) -> Result<(), Fail> {
-    let mut output = Vec::new(alloc);
-    let answer = engine.run(alloc, Pieces::new(engine.input(), most), &mut output);
+fn try_pieces<T: AllocGlobal + Threads + Sync>(
+    rt: &T,
+    engine: Engine,
+    most: usize,
+) -> Result<(), Fail> {
+    let mut output = Vec::new(rt.alloc());
+    let answer = engine.run(
+        rt,
+        rt.alloc(),
+        Pieces::new(engine.input(), most),
+        &mut output,
+    );
     same("an answer", &(engine, answer), &(engine, engine.answer()))?;
     same_bytes("an output", &output, engine.output())
 }
@@ -20,20 +29,21 @@ fn try_pieces<A: Allocator + Copy>(alloc: A, engine: Engine, most: usize) -> Res
 fn engines_write_their_output(rt: HostRuntime) -> Result<(), Fail> {
     for engine in ENGINES {
         for most in [1, 7, 10_000] {
-            try_pieces(rt.alloc(), engine, most)?;
+            try_pieces(&rt, engine, most)?;
         }
     }
     Ok(())
 }
 
 // A replay of the worked file by so many workers.
-fn try_workers<A: Allocator + Copy>(alloc: A, workers: u32) -> Result<(), Fail> {
-    let mut output = Vec::new(alloc);
+fn try_workers<T: AllocGlobal + Threads + Sync>(rt: &T, workers: u32) -> Result<(), Fail> {
+    let mut output = Vec::new(rt.alloc());
     if workers == 0 || workers > 64 {
         return Err(Fail::new("a replay has 1 to 64 workers"));
     }
     let answer = replay_run(
-        alloc,
+        rt,
+        rt.alloc(),
         &mut Feed::new(FILE),
         &mut Sink::new(&mut output),
         workers,
@@ -45,16 +55,20 @@ fn try_workers<A: Allocator + Copy>(alloc: A, workers: u32) -> Result<(), Fail> 
 #[test]
 fn reports_are_the_same_for_all_numbers_of_workers(rt: HostRuntime) -> Result<(), Fail> {
     for workers in [1, 2, 3, 64] {
-        try_workers(rt.alloc(), workers)?;
+        try_workers(&rt, workers)?;
     }
     Ok(())
 }
 
 // A run whose reader gives one byte a call and fails at one call.
-fn try_read<A: Allocator + Copy>(alloc: A, engine: Engine, failing: u64) -> Result<(), Fail> {
-    let mut output = Vec::new(alloc);
+fn try_read<T: AllocGlobal + Threads + Sync>(
+    rt: &T,
+    engine: Engine,
+    failing: u64,
+) -> Result<(), Fail> {
+    let mut output = Vec::new(rt.alloc());
     let reader = Pieces::failing(engine.input(), 1, failing, ErrorKind::Interrupted);
-    let answer = engine.run(alloc, reader, &mut output);
+    let answer = engine.run(rt, rt.alloc(), reader, &mut output);
     let found = (engine, failing, answer, output.len());
     same(
         "a failed read",
@@ -68,22 +82,22 @@ fn try_read<A: Allocator + Copy>(alloc: A, engine: Engine, failing: u64) -> Resu
 fn engines_send_nothing_after_a_failed_read(rt: HostRuntime) -> Result<(), Fail> {
     for engine in ENGINES {
         for failing in 1..=(engine.input().len() as u64).saturating_add(1) {
-            try_read(rt.alloc(), engine, failing)?;
+            try_read(&rt, engine, failing)?;
         }
     }
     Ok(())
 }
 
 // A run whose writer takes one byte a call, and fails when it has taken so many.
-fn try_write<A: Allocator + Copy>(
-    alloc: A,
+fn try_write<T: AllocGlobal + Threads + Sync>(
+    rt: &T,
     engine: Engine,
     taken: usize,
     failure: Failure,
 ) -> Result<(), Fail> {
     let failing = (taken as u64).saturating_add(1);
-    let mut output = Narrow::failing(alloc, failing, failure);
-    let answer = engine.run(alloc, engine.input(), &mut output);
+    let mut output = Narrow::failing(rt.alloc(), failing, failure);
+    let answer = engine.run(rt, rt.alloc(), engine.input(), &mut output);
     let found = (engine, failing, answer, output.calls());
     same(
         "a failed write",
@@ -98,39 +112,34 @@ fn try_write<A: Allocator + Copy>(
 fn engines_have_sent_a_prefix_after_a_failed_write(rt: HostRuntime) -> Result<(), Fail> {
     for engine in ENGINES {
         for taken in 0..engine.output().len() {
-            try_write(
-                rt.alloc(),
-                engine,
-                taken,
-                Failure::Error(ErrorKind::Interrupted),
-            )?;
-            try_write(rt.alloc(), engine, taken, Failure::Error(ErrorKind::Other))?;
-            try_write(rt.alloc(), engine, taken, Failure::TakesNone)?;
+            try_write(&rt, engine, taken, Failure::Error(ErrorKind::Interrupted))?;
+            try_write(&rt, engine, taken, Failure::Error(ErrorKind::Other))?;
+            try_write(&rt, engine, taken, Failure::TakesNone)?;
         }
     }
     Ok(())
 }
 
 // How many growths a run on the worked file has.
-fn growths_of<A: Allocator + Copy>(alloc: A, engine: Engine) -> Result<u64, Fail> {
-    let heap = Refusing::new(alloc, Refusal::Never);
-    let mut output = Vec::new(alloc);
-    let answer = engine.run(&heap, engine.input(), &mut output);
+fn growths_of<T: AllocGlobal + Threads + Sync>(rt: &T, engine: Engine) -> Result<u64, Fail> {
+    let heap = Refusing::new(rt.alloc(), Refusal::Never);
+    let mut output = Vec::new(rt.alloc());
+    let answer = engine.run(rt, &heap, engine.input(), &mut output);
     same("with memory", &(engine, answer), &(engine, engine.answer()))?;
     Ok(heap.asked())
 }
 
 // A run some of whose growths are refused. Where it isn't out of memory, a list that asked for more than it needs has
 // made do with less, and then the output is whole.
-fn try_refusal<A: Allocator + Copy>(
-    alloc: A,
+fn try_refusal<T: AllocGlobal + Threads + Sync>(
+    rt: &T,
     engine: Engine,
     refusal: Refusal,
     may_end_well: bool,
 ) -> Result<(), Fail> {
-    let heap = Refusing::new(alloc, refusal);
-    let mut output = Vec::new(alloc);
-    let answer = engine.run(&heap, engine.input(), &mut output);
+    let heap = Refusing::new(rt.alloc(), refusal);
+    let mut output = Vec::new(rt.alloc());
+    let answer = engine.run(rt, &heap, engine.input(), &mut output);
     if may_end_well && answer.is_ok() {
         same(
             "one growth refused",
@@ -150,15 +159,15 @@ fn try_refusal<A: Allocator + Copy>(
 #[test]
 fn engines_send_nothing_without_memory(rt: HostRuntime) -> Result<(), Fail> {
     for engine in ENGINES {
-        let growths = growths_of(rt.alloc(), engine)?;
+        let growths = growths_of(&rt, engine)?;
         same(
             "that there are growths",
             &(engine, growths > 3),
             &(engine, true),
         )?;
         for growth in 1..=growths {
-            try_refusal(rt.alloc(), engine, Refusal::Only(growth), true)?;
-            try_refusal(rt.alloc(), engine, Refusal::From(growth), false)?;
+            try_refusal(&rt, engine, Refusal::Only(growth), true)?;
+            try_refusal(&rt, engine, Refusal::From(growth), false)?;
         }
     }
     Ok(())

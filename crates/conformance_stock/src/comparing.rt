@@ -1,9 +1,10 @@
 //! What two machines of one stock say.
+use itch_layouts::Msg;
 use itch_table::{Outcome, Part, Side, part};
 use std::alloc::Allocator;
 use std::test::Fail;
 use stock_machine::Stock;
-use support::{same, same_list};
+use support::{payload_of, same, same_list};
 
 // The levels of a side.
 fn same_levels<A: Allocator + Copy>(
@@ -49,4 +50,24 @@ pub fn take<A: Allocator + Copy>(
         return Err(Fail::new("the payload isn't the stock's next one"));
     }
     same("an outcome", &stock.step(payload), &Ok(wanted))
+}
+
+/// Hands a machine a message of its stock, whose outcome is `wanted`.
+pub fn take_message<A: Allocator + Copy, B: Allocator + Copy>(
+    alloc: A,
+    stock: &mut Stock<B>,
+    msg: &Msg,
+    wanted: Outcome,
+) -> Result<(), Fail> {
+    let payload = payload_of(alloc, msg)?;
+    take(stock, &payload, wanted)
+}
+
+/// A machine of the stock of locate code 1 after these messages, all of which are applied.
+pub fn after<A: Allocator + Copy>(alloc: A, messages: &[Msg]) -> Result<Stock<A>, Fail> {
+    let mut stock = Stock::new(alloc, 1);
+    for msg in messages {
+        take_message(alloc, &mut stock, msg, Outcome::Applied)?;
+    }
+    Ok(stock)
 }

@@ -1,5 +1,5 @@
 //! Growths that are refused in turn, and steps that take no memory.
-use crate::comparing::{same_machines, take};
+use crate::comparing::{after, same_machines, take, take_message};
 use itch_layouts::Msg;
 use itch_table::{Fault, Outcome, Part, Side, part};
 use refusing::{Refusal, Refusing};
@@ -8,61 +8,63 @@ use std::test::Fail;
 use stock_machine::Stock;
 use support::{AAPL, GROWING, Growing, payload_of, same};
 
-// Steps a machine through one message that is applied: with each of its growths refused in turn, and then with memory.
-// Answers how many growths there are.
-fn growths_of<'h, A: Allocator + Copy>(
+// Steps a machine through a message that is applied with memory, whose growths are refused from this number on. Answers
+// whether it was refused memory.
+fn is_refused<'h, A: Allocator + Copy>(
     heap: &'h Refusing<A>,
     stock: &mut Stock<&'h Refusing<A>>,
     payload: &[u8],
-) -> Result<u64, Fail> {
+    growth: u64,
+) -> Result<bool, Fail> {
+    if part(payload) != Part::Locate(stock.locate()) || stock.steps() == u32::MAX {
+        return Err(Fail::new("the payload isn't the stock's next one"));
+    }
+    heap.restart(Refusal::From(growth));
+    let answer = stock.step(payload);
+    let asked = heap.asked();
     heap.restart(Refusal::Never);
-    let before = stock.copy(heap)?;
-    for growth in 1..=5u64 {
-        if part(payload) != Part::Locate(stock.locate()) || stock.steps() == u32::MAX {
-            return Err(Fail::new("the payload isn't the stock's next one"));
+    // A refused try may have made room, which a later one finds.
+    let wanted = if asked >= growth {
+        Err(AllocError)
+    } else {
+        Ok(Outcome::Applied)
+    };
+    same("a step", &answer, &wanted)?;
+    Ok(answer.is_err())
+}
+
+// Hands a payload to two machines that say the same: to the first with each of its growths refused in turn, which changes
+// nothing, and at last with memory, and to the second with memory. Answers how many growths there are.
+fn take_both<'h, A: Allocator + Copy>(
+    heap: &'h Refusing<A>,
+    stock: &mut Stock<&'h Refusing<A>>,
+    twin: &mut Stock<&'h Refusing<A>>,
+    payload: &[u8],
+) -> Result<u64, Fail> {
+    for growths in 0..=4u64 {
+        if !is_refused(heap, stock, payload, growths + 1)? {
+            take(twin, payload, Outcome::Applied)?;
+            same_machines(heap, stock, twin)?;
+            return Ok(growths);
         }
-        heap.restart(Refusal::From(growth));
-        let answer = stock.step(payload);
-        let asked = heap.asked();
-        heap.restart(Refusal::Never);
-        if let Ok(outcome) = answer {
-            // A refused try may have made room, which this one found.
-            same(
-                "a step",
-                &(outcome, asked < growth),
-                &(Outcome::Applied, true),
-            )?;
-            return Ok(growth - 1);
-        }
-        same_machines(heap, stock, &before)?;
+        same_machines(heap, stock, twin)?;
     }
     Err(Fail::new("a step takes four growths at most"))
 }
 
-// Hands a machine a message with each of its growths refused in turn, and answers how many there are.
-fn grow<'h, A: Allocator + Copy>(
+// As `take_both`, of a message.
+fn apply_both<'h, A: Allocator + Copy>(
     heap: &'h Refusing<A>,
     stock: &mut Stock<&'h Refusing<A>>,
+    twin: &mut Stock<&'h Refusing<A>>,
     msg: &Msg,
 ) -> Result<u64, Fail> {
-    heap.restart(Refusal::Never);
     let payload = payload_of(heap, msg)?;
-    growths_of(heap, stock, &payload)
+    take_both(heap, stock, twin, &payload)
 }
 
-// Hands a machine a message with memory, which is applied.
-fn apply<'h, A: Allocator + Copy>(
-    heap: &'h Refusing<A>,
-    stock: &mut Stock<&'h Refusing<A>>,
-    msg: &Msg,
-) -> Result<(), Fail> {
-    heap.restart(Refusal::Never);
-    let payload = payload_of(heap, msg)?;
-    take(stock, &payload, Outcome::Applied)
-}
-
-// Hands two machines message `number` of a kind: one with each growth refused in turn, the other with memory. Answers how
-// many growths there are.
+// Hands two machines message `number` of a kind, and a replacement's original before it. Answers how many growths the
+// message has.
 fn grow_both<'h, A: Allocator + Copy>(
     heap: &'h Refusing<A>,
     stock: &mut Stock<&'h Refusing<A>>,
@@ -71,25 +73,25 @@ fn grow_both<'h, A: Allocator + Copy>(
     number: u8,
 ) -> Result<u64, Fail> {
     if kind == Growing::Replace {
-        let original = AAPL.add(u64::from(number), b'B', 10, 100);
-        apply(heap, stock, &original)?;
-        apply(heap, twin, &original)?;
+        apply_both(
+            heap,
+            stock,
+            twin,
+            &AAPL.add(u64::from(number), b'B', 10, 100),
+        )?;
     }
-    let msg = kind.message(number);
-    apply(heap, twin, &msg)?;
-    grow(heap, stock, &msg)
+    apply_both(heap, stock, twin, &kind.message(number))
 }
 
-// Hands two machines 99 messages of a kind. Answers how many growths there are; in the end both machines say the same.
+// Hands two machines 99 messages of a kind. Answers how many growths there are.
 fn grow_by<A: Allocator + Copy>(heap: &Refusing<A>, kind: Growing) -> Result<u64, Fail> {
-    let mut stock = one_bid(heap)?;
-    let mut twin = one_bid(heap)?;
+    let mut stock = after(heap, &one_bid())?;
+    let mut twin = after(heap, &one_bid())?;
     let mut growths = 0u64;
     for number in 2..=100 {
         let more = grow_both(heap, &mut stock, &mut twin, kind, number)?;
         growths = growths.saturating_add(more);
     }
-    same_machines(heap, &stock, &twin)?;
     Ok(growths)
 }
 
@@ -155,39 +157,36 @@ fn refuse_call<'h, A: Allocator + Copy>(
     Ok(())
 }
 
-// A machine with bid 1.
-fn one_bid<'h, A: Allocator + Copy>(heap: &'h Refusing<A>) -> Result<Stock<&'h Refusing<A>>, Fail> {
-    let mut stock = Stock::new(heap, 1);
-    grow(heap, &mut stock, &AAPL.directory())?;
-    grow(heap, &mut stock, &AAPL.add(1, b'B', 10, 100))?;
-    Ok(stock)
+// The directory message, and one that adds a bid.
+fn one_bid() -> [Msg; 2] {
+    [AAPL.directory(), AAPL.add(1, b'B', 10, 100)]
 }
 
-// A machine with two bids and a trade.
-fn two_bids<'h, A: Allocator + Copy>(
-    heap: &'h Refusing<A>,
-) -> Result<Stock<&'h Refusing<A>>, Fail> {
-    let mut stock = one_bid(heap)?;
-    grow(heap, &mut stock, &AAPL.add(2, b'B', 10, 200))?;
-    grow(heap, &mut stock, &AAPL.trade(b'B', 1, 1, 3))?;
-    Ok(stock)
+// The directory message, and others that add two bids and a trade.
+fn two_bids() -> [Msg; 4] {
+    [
+        AAPL.directory(),
+        AAPL.add(1, b'B', 10, 100),
+        AAPL.add(2, b'B', 10, 200),
+        AAPL.trade(b'B', 1, 1, 3),
+    ]
 }
 
 #[test]
 fn a_list_or_a_copy_without_memory_is_none(rt: HostRuntime) -> Result<(), Fail> {
     let heap = Refusing::new(rt.alloc(), Refusal::Never);
-    let stock = two_bids(&heap)?;
+    let stock = after(&heap, &two_bids())?;
     for (call, length) in [(Call::Levels, 2), (Call::Orders, 2), (Call::Copy, 4)] {
         refuse_call(&heap, &stock, call, length)?;
     }
     heap.restart(Refusal::Never);
-    same_machines(&heap, &stock, &two_bids(&heap)?)
+    same_machines(&heap, &stock, &after(&heap, &two_bids())?)
 }
 
 #[test]
 fn steps_without_a_new_row_take_no_memory(rt: HostRuntime) -> Result<(), Fail> {
     let heap = Refusing::new(rt.alloc(), Refusal::Never);
-    let mut stock = two_bids(&heap)?;
+    let mut stock = after(&heap, &two_bids())?;
     heap.restart(Refusal::From(1));
     for (msg, outcome) in &[
         (AAPL.directory(), Outcome::Applied),
@@ -220,8 +219,7 @@ fn steps_without_a_new_row_take_no_memory(rt: HostRuntime) -> Result<(), Fail> {
         (AAPL.delete(2), Outcome::Applied),
         (AAPL.broken(3), Outcome::Applied),
     ] {
-        let payload = payload_of(rt.alloc(), msg)?;
-        take(&mut stock, &payload, *outcome)?;
+        take_message(rt.alloc(), &mut stock, msg, *outcome)?;
     }
     same(
         "growths, orders and trades",

@@ -85,9 +85,9 @@ module _ (day : List (List ℕ)) (from middle to : ℕ) (counts more : List ℕ)
   pub sums_fit : (k : ℕ) → k < 0x1_0000 → get_or counts k 0 + get_or more k 0 ≤ length day
   sums_fit k lt = omega (arith, before.each k lt, then.each k lt, steps_few day k to)
 
-  pub joined : (both : List ℕ) → length both ≡ 0x1_0000 → ((k : ℕ) → k < 0x1_0000 → get_or both k 0 ≡ get_or counts k 0 + get_or more k 0)
+  pub sums_are : (both : List ℕ) → length both ≡ 0x1_0000 → ((k : ℕ) → k < 0x1_0000 → get_or both k 0 ≡ get_or counts k 0 + get_or more k 0)
       → AreCounts day from to both
-  joined both long sums = record { long = long; each = λ k lt. omega (arith, sums k lt, before.each k lt, then.each k lt) }
+  sums_are both long sums = record { long = long; each = λ k lt. omega (arith, sums k lt, before.each k lt, then.each k lt) }
 
 -- ---- the pieces of a day
 

@@ -11,6 +11,7 @@ use itch_engine::{ProgFault, asm_run, dis_run, hex_run, replay_run, status};
 use output::Created;
 use std::process::ExitCode;
 use std::rt::Runtime;
+use std::thread::Threads;
 use std::{env, fs, io};
 
 /// The status for invalid arguments.
@@ -29,13 +30,13 @@ fn end(rt: &impl Eprint, answer: Result<u32, ProgFault>) -> ExitCode {
 }
 
 // Replays a file, and writes its report on standard output.
-fn replay<R: Runtime + AllocGlobal>(rt: &R, path: &str) -> Result<u32, ProgFault> {
+fn replay<R: Runtime + AllocGlobal + Threads + Sync>(rt: &R, path: &str) -> Result<u32, ProgFault> {
     let Ok(file) = fs::open(rt, path) else {
         return Err(ProgFault::Read);
     };
     let mut feed = Feed::new(file);
     let mut sink = Sink::new(io::writer(rt));
-    replay_run(rt.alloc(), &mut feed, &mut sink, 1)
+    replay_run(rt, rt.alloc(), &mut feed, &mut sink, 1)
 }
 
 // Writes the text of a file on standard output.
@@ -64,10 +65,10 @@ fn assemble<R: Runtime + AllocGlobal>(rt: &R, text: &str, out: &str) -> Result<u
 }
 
 // Replays the file whose hexadecimal digits are standard input, and writes its report on standard output.
-fn replay_digits<R: Runtime + AllocGlobal>(rt: &R) -> Result<u32, ProgFault> {
+fn replay_digits<R: Runtime + AllocGlobal + Threads + Sync>(rt: &R) -> Result<u32, ProgFault> {
     let mut feed = Feed::new(rt.reader());
     let mut sink = Sink::new(io::writer(rt));
-    hex_run(rt.alloc(), &mut feed, &mut sink)
+    hex_run(rt, rt.alloc(), &mut feed, &mut sink)
 }
 
 // Prints help, or usage where the arguments are invalid, and ends with the status for that.
@@ -82,7 +83,7 @@ fn explain<R: Runtime>(rt: &R, error: &clap::Error) -> ExitCode {
 }
 
 // Does what the arguments ask for.
-fn run<R: Runtime + AllocGlobal>(rt: &R, arguments: &[String]) -> ExitCode {
+fn run<R: Runtime + AllocGlobal + Threads + Sync>(rt: &R, arguments: &[String]) -> ExitCode {
     let matches = match arguments::parse(rt.alloc(), arguments) {
         Ok(matches) => matches,
         Err(error) => return explain(rt, &error),

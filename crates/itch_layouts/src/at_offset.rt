@@ -6,6 +6,7 @@ use crate::nanos::Nanos;
 
 /// The bytes at an offset.
 #[tactic(auto, unfolding(crate::specs::Layouts::bytes_at))]
+#[inline(always)]
 pub(crate) fn array_at<const N: usize>(payload: &[u8], offset: usize) -> [u8; N]
     requires { offset + N ≤ length payload.now }
     ensures { result ≡ bytes_at offset N payload.now }
@@ -18,6 +19,7 @@ pub(crate) fn array_at<const N: usize>(payload: &[u8], offset: usize) -> [u8; N]
 
 /// The byte at an offset.
 #[tactic(auto, unfolding(crate::specs::Layouts::bytes_at))]
+#[inline(always)]
 pub(crate) fn byte_at(payload: &[u8], offset: usize) -> u8
     requires { offset < length payload.now }
     ensures { result ∷ [] ≡ bytes_at offset 1 payload.now }
@@ -27,6 +29,7 @@ pub(crate) fn byte_at(payload: &[u8], offset: usize) -> u8
 
 /// The number of two bytes at an offset.
 #[tactic(auto, using(crate::proofs::Numbers::number_at_16))]
+#[inline(always)]
 pub(crate) fn u16_at(payload: &[u8], offset: usize) -> u16
     requires { offset + 2 ≤ length payload.now }
     ensures { result ≡ number_at offset 2 payload.now }
@@ -36,6 +39,7 @@ pub(crate) fn u16_at(payload: &[u8], offset: usize) -> u16
 
 /// The number of four bytes at an offset.
 #[tactic(auto, using(crate::proofs::Numbers::number_at_32))]
+#[inline(always)]
 pub(crate) fn u32_at(payload: &[u8], offset: usize) -> u32
     requires { offset + 4 ≤ length payload.now }
     ensures { result ≡ number_at offset 4 payload.now }
@@ -45,6 +49,7 @@ pub(crate) fn u32_at(payload: &[u8], offset: usize) -> u32
 
 /// The number of eight bytes at an offset.
 #[tactic(auto, using(crate::proofs::Numbers::number_at_64))]
+#[inline(always)]
 pub(crate) fn u64_at(payload: &[u8], offset: usize) -> u64
     requires { offset + 8 ≤ length payload.now }
     ensures { result ≡ number_at offset 8 payload.now }
@@ -54,6 +59,7 @@ pub(crate) fn u64_at(payload: &[u8], offset: usize) -> u64
 
 /// The time of six bytes at an offset.
 #[tactic(auto, using(crate::proofs::Numbers::number_at_48))]
+#[inline(always)]
 pub(crate) fn nanos_at(payload: &[u8], offset: usize) -> Nanos
     requires { offset + 6 ≤ length payload.now }
     ensures { result ≡ number_at offset 6 payload.now }

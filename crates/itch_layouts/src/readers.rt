@@ -8,6 +8,7 @@ use crate::at_offset::{array_at, byte_at, nanos_at, u16_at, u32_at, u64_at};
 use crate::message::*;
 
 // The head of a payload.
+#[inline(always)]
 fn head_of(payload: &[u8]) -> Head
     requires { 10 < length payload.now }
     ensures { head_values result ≡ map (value_at payload.now) head_fields }
@@ -20,6 +21,7 @@ fn head_of(payload: &[u8]) -> Head
 }
 
 /// The message that a payload of the layout `system` means.
+#[inline(always)]
 pub(crate) fn system_of(payload: &[u8]) -> Msg
     requires { IsOf layouts.system payload.now }
     ensures { Means payload.now result }
@@ -31,6 +33,7 @@ pub(crate) fn system_of(payload: &[u8]) -> Msg
 }
 
 /// The message that a payload of the layout `directory` means.
+#[inline(always)]
 pub(crate) fn directory_of(payload: &[u8]) -> Msg
     requires { IsOf layouts.directory payload.now }
     ensures { Means payload.now result }
@@ -55,6 +58,7 @@ pub(crate) fn directory_of(payload: &[u8]) -> Msg
 }
 
 /// The message that a payload of the layout `trading` means.
+#[inline(always)]
 pub(crate) fn trading_of(payload: &[u8]) -> Msg
     requires { IsOf layouts.trading payload.now }
     ensures { Means payload.now result }
@@ -69,6 +73,7 @@ pub(crate) fn trading_of(payload: &[u8]) -> Msg
 }
 
 /// The message that a payload of the layout `regsho` means.
+#[inline(always)]
 pub(crate) fn regsho_of(payload: &[u8]) -> Msg
     requires { IsOf layouts.regsho payload.now }
     ensures { Means payload.now result }
@@ -81,6 +86,7 @@ pub(crate) fn regsho_of(payload: &[u8]) -> Msg
 }
 
 /// The message that a payload of the layout `participant` means.
+#[inline(always)]
 pub(crate) fn participant_of(payload: &[u8]) -> Msg
     requires { IsOf layouts.participant payload.now }
     ensures { Means payload.now result }
@@ -96,6 +102,7 @@ pub(crate) fn participant_of(payload: &[u8]) -> Msg
 }
 
 /// The message that a payload of the layout `decline` means.
+#[inline(always)]
 pub(crate) fn decline_of(payload: &[u8]) -> Msg
     requires { IsOf layouts.decline payload.now }
     ensures { Means payload.now result }
@@ -109,6 +116,7 @@ pub(crate) fn decline_of(payload: &[u8]) -> Msg
 }
 
 /// The message that a payload of the layout `breach` means.
+#[inline(always)]
 pub(crate) fn breach_of(payload: &[u8]) -> Msg
     requires { IsOf layouts.breach payload.now }
     ensures { Means payload.now result }
@@ -120,6 +128,7 @@ pub(crate) fn breach_of(payload: &[u8]) -> Msg
 }
 
 /// The message that a payload of the layout `ipo` means.
+#[inline(always)]
 pub(crate) fn ipo_of(payload: &[u8]) -> Msg
     requires { IsOf layouts.ipo payload.now }
     ensures { Means payload.now result }
@@ -134,6 +143,7 @@ pub(crate) fn ipo_of(payload: &[u8]) -> Msg
 }
 
 /// The message that a payload of the layout `collar` means.
+#[inline(always)]
 pub(crate) fn collar_of(payload: &[u8]) -> Msg
     requires { IsOf layouts.collar payload.now }
     ensures { Means payload.now result }
@@ -149,6 +159,7 @@ pub(crate) fn collar_of(payload: &[u8]) -> Msg
 }
 
 /// The message that a payload of the layout `operational` means.
+#[inline(always)]
 pub(crate) fn operational_of(payload: &[u8]) -> Msg
     requires { IsOf layouts.operational payload.now }
     ensures { Means payload.now result }
@@ -162,6 +173,7 @@ pub(crate) fn operational_of(payload: &[u8]) -> Msg
 }
 
 /// The message that a payload of the layout `add` means.
+#[inline(always)]
 pub(crate) fn add_of(payload: &[u8]) -> Msg
     requires { IsOf layouts.add payload.now }
     ensures { Means payload.now result }
@@ -177,6 +189,7 @@ pub(crate) fn add_of(payload: &[u8]) -> Msg
 }
 
 /// The message that a payload of the layout `add_mpid` means.
+#[inline(always)]
 pub(crate) fn add_mpid_of(payload: &[u8]) -> Msg
     requires { IsOf layouts.add_mpid payload.now }
     ensures { Means payload.now result }
@@ -193,6 +206,7 @@ pub(crate) fn add_mpid_of(payload: &[u8]) -> Msg
 }
 
 /// The message that a payload of the layout `execute` means.
+#[inline(always)]
 pub(crate) fn execute_of(payload: &[u8]) -> Msg
     requires { IsOf layouts.execute payload.now }
     ensures { Means payload.now result }
@@ -206,6 +220,7 @@ pub(crate) fn execute_of(payload: &[u8]) -> Msg
 }
 
 /// The message that a payload of the layout `execute_price` means.
+#[inline(always)]
 pub(crate) fn execute_price_of(payload: &[u8]) -> Msg
     requires { IsOf layouts.execute_price payload.now }
     ensures { Means payload.now result }
@@ -221,6 +236,7 @@ pub(crate) fn execute_price_of(payload: &[u8]) -> Msg
 }
 
 /// The message that a payload of the layout `cancel` means.
+#[inline(always)]
 pub(crate) fn cancel_of(payload: &[u8]) -> Msg
     requires { IsOf layouts.cancel payload.now }
     ensures { Means payload.now result }
@@ -233,6 +249,7 @@ pub(crate) fn cancel_of(payload: &[u8]) -> Msg
 }
 
 /// The message that a payload of the layout `delete` means.
+#[inline(always)]
 pub(crate) fn delete_of(payload: &[u8]) -> Msg
     requires { IsOf layouts.delete payload.now }
     ensures { Means payload.now result }
@@ -244,6 +261,7 @@ pub(crate) fn delete_of(payload: &[u8]) -> Msg
 }
 
 /// The message that a payload of the layout `replace` means.
+#[inline(always)]
 pub(crate) fn replace_of(payload: &[u8]) -> Msg
     requires { IsOf layouts.replace payload.now }
     ensures { Means payload.now result }
@@ -258,6 +276,7 @@ pub(crate) fn replace_of(payload: &[u8]) -> Msg
 }
 
 /// The message that a payload of the layout `trade` means.
+#[inline(always)]
 pub(crate) fn trade_of(payload: &[u8]) -> Msg
     requires { IsOf layouts.trade payload.now }
     ensures { Means payload.now result }
@@ -274,6 +293,7 @@ pub(crate) fn trade_of(payload: &[u8]) -> Msg
 }
 
 /// The message that a payload of the layout `cross` means.
+#[inline(always)]
 pub(crate) fn cross_of(payload: &[u8]) -> Msg
     requires { IsOf layouts.cross payload.now }
     ensures { Means payload.now result }
@@ -289,6 +309,7 @@ pub(crate) fn cross_of(payload: &[u8]) -> Msg
 }
 
 /// The message that a payload of the layout `broken` means.
+#[inline(always)]
 pub(crate) fn broken_of(payload: &[u8]) -> Msg
     requires { IsOf layouts.broken payload.now }
     ensures { Means payload.now result }
@@ -300,6 +321,7 @@ pub(crate) fn broken_of(payload: &[u8]) -> Msg
 }
 
 /// The message that a payload of the layout `imbalance` means.
+#[inline(always)]
 pub(crate) fn imbalance_of(payload: &[u8]) -> Msg
     requires { IsOf layouts.imbalance payload.now }
     ensures { Means payload.now result }
@@ -319,6 +341,7 @@ pub(crate) fn imbalance_of(payload: &[u8]) -> Msg
 }
 
 /// The message that a payload of the layout `retail` means.
+#[inline(always)]
 pub(crate) fn retail_of(payload: &[u8]) -> Msg
     requires { IsOf layouts.retail payload.now }
     ensures { Means payload.now result }

@@ -76,7 +76,7 @@ fn set_trading<S: Store>(store: &mut S, locate: u16, state: Trading)
     if let Some(known) = store.stock(locate) {
         let row = StockRow {
             trading: Some(state),
-            ..known
+            ..*known
         };
         store.update_stock(locate, row);
     }
@@ -91,7 +91,7 @@ fn set_regsho<S: Store>(store: &mut S, locate: u16, action: u8)
     if let Some(known) = store.stock(locate) {
         let row = StockRow {
             regsho: Some(action),
-            ..known
+            ..*known
         };
         store.update_stock(locate, row);
     }
@@ -182,7 +182,7 @@ pub(crate) fn apply<S: Store>(
     match msg {
         Msg::System(_, m) => store.set_event(m.event),
         Msg::Directory(head, m) => {
-            let row = with_directory(store.stock(head.locate), m);
+            let row = with_directory(store.stock(head.locate).copied(), m);
             return store.set_stock(head.locate, row);
         }
         Msg::Trading(head, m) => set_trading(store, head.locate, state_of(m)),

@@ -23,10 +23,10 @@ fn refuse_unless(holds: bool, fault: Fault) -> Result<(), Fault>
 }
 
 // The locate code has a directory row.
-fn listed<S: Store>(store: &S, locate: u16) -> Result<StockRow, Fault>
+fn listed<S: Store>(store: &S, locate: u16) -> Result<&StockRow, Fault>
     requires { Holds (S.held store.now) locate }
     ensures fault { result_err result ≡ listed (S.held store.now).world locate }
-    ensures row { IfOk result (λ row. stock_row (S.held store.now).world locate ≡ Some row) }
+    ensures row { IfOk result (λ row. stock_row (S.held store.now).world locate ≡ Some row.now) }
 {
     store.stock(locate).ok_or(Fault::NoDirectory)
 }
@@ -113,7 +113,7 @@ fn check_stock<S: Store>(store: &S, locate: u16, stock: &[u8; 8]) -> Result<(), 
     ensures { let w = (S.held store.now).world in
         result_err result ≡ first_fault (listed w locate ∷ names_stock w locate stock.now ∷ []) }
 {
-    names_stock(&listed(store, locate)?, stock)
+    names_stock(listed(store, locate)?, stock)
 }
 
 // The checks of a message that names a stock and a side.

@@ -45,7 +45,7 @@ impl<A: Allocator + Copy> Rows<A> {
     pub fn status(&self, locate: u16) -> Status
         ensures { result ≡ status self.now locate }
     {
-        Status::of(self.stock(locate))
+        Status::of(self.stock(locate).copied())
     }
 
     /// A stock's live orders, by rising reference.

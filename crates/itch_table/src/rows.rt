@@ -128,8 +128,8 @@ impl<A: Allocator + Copy> Store for Rows<A> {
 
     ghost has_room = { λ _. Unit {0} };
 
-    fn stock(&self, locate: u16) -> Option<StockRow> {
-        self.stocks.get(&locate).copied()
+    fn stock(&self, locate: u16) -> Option<&StockRow> {
+        self.stocks.get(&locate)
     }
 
     fn order(&self, locate: u16, reference: u64) -> Option<OrderRow> {

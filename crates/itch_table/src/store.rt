@@ -1,6 +1,7 @@
 //! Rows that the table can be followed over.
 ghost use Rattle.std.specs.Prelude.{◌≡◌, ◌≤◌, ◌<◌, Some, None, map, IsSome, OnOk, OnErr};
 ghost use Rattle.std.specs.List.{list_any};
+ghost use Rattle.std.specs.Option.{option_copied};
 ghost use Rattle.itch_table.specs.World.{live, stock_row};
 ghost use Rattle.itch_table.specs.Held.{Held, Holds, on_world};
 ghost use Rattle.itch_table.specs.Table.{less_shares, with_order, with_replaced, with_stock, with_trade, without_order};
@@ -23,9 +24,9 @@ pub trait Store {
     ghost has_room: { Self → Type 0 };
 
     /// What is known of a stock that has a directory row.
-    fn stock(&self, locate: u16) -> Option<StockRow>
+    fn stock(&self, locate: u16) -> Option<&StockRow>
         requires { Holds (held self.now) locate }
-        ensures { result ≡ stock_row (held self.now).world locate };
+        ensures { option_copied result ≡ stock_row (held self.now).world locate };
 
     /// The order that lives under a reference.
     fn order(&self, locate: u16, reference: u64) -> Option<OrderRow>

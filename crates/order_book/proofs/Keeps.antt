@@ -10,13 +10,13 @@ use Rattle.itch_table.specs.declared.order.OrderRow.{OrderRow}
 use Rattle.itch_table.specs.declared.order.Side.{Side}
 use Rattle.itch_table.specs.declared.order.Side.TheVariants.{Buy, Sell}
 use Rattle.order_book.specs.Orders.{Orders, orders_in, reduced_by}
-use Rattle.order_book.specs.Kept.{AreChanged, AreKept, BothSides, LevelMap, SameLevels, levels_on, lowered, raised, shares_on}
+use Rattle.order_book.specs.Kept.{AreChanged, LevelsAreKept, BothSides, LevelMap, SameLevels, levels_on, lowered, raised, shares_on}
 use Rattle.order_book.proofs.LevelChanges.{lowered_if, raised_if, shares_of_levels}
 use Rattle.order_book.proofs.SharesFit.{fit_insert, fit_remove, row_fits, shares_at-le}
 use Rattle.order_book.proofs.Sums.{shares-insert, shares-remove, shares-update}
 
-module _ {orders : Orders} {old : BothSides} (kept : AreKept orders old) where
-  pub kept_same : {new : BothSides} → SameLevels old new → AreKept orders new
+module _ {orders : Orders} {old : BothSides} (kept : LevelsAreKept orders old) where
+  pub kept_same : {new : BothSides} → SameLevels old new → LevelsAreKept orders new
   kept_same same = record { levels_are = λ side. same side ∙ kept.levels_are side; shares_fit = kept.shares_fit }
 
   -- the shares at a price are those of the orders
@@ -33,18 +33,18 @@ module _ {orders : Orders} {old : BothSides} (kept : AreKept orders old) where
       changed s ∙ ap (λ (m : LevelMap). if same_side side s then change m else m) (kept.levels_are s)
 
   module _ (k : ℕ) (row : OrderRow) where
-    pub kept_insert : {new : BothSides} → get orders k ≡ None → 1 ≤ row.shares → row.shares < 2 ^ 32
-        → AreChanged old new row.side (λ levels. raised levels row.price row.shares) → AreKept (insert orders k row) new
-    kept_insert none some fits changed = record {
+    pub kept_insert : {new : BothSides} → get orders k ≡ None → row.shares < 2 ^ 32
+        → AreChanged old new row.side (λ levels. raised levels row.price row.shares) → LevelsAreKept (insert orders k row) new
+    kept_insert none fits changed = record {
       levels_are = λ s.
           changed_levels row.side (λ levels. raised levels row.price row.shares) s changed
-          ∙ sym (raised_if (same_side row.side s) (orders_in orders) (orders_in (insert orders k row)) s row.price row.shares some
+          ∙ sym (raised_if (same_side row.side s) (orders_in orders) (orders_in (insert orders k row)) s row.price row.shares
           (λ q. shares-insert s q orders k row none));
       shares_fit = fit_insert orders k row kept.shares_fit fits;
     }
 
     module _ (there : get orders k ≡ Some row) where
-      pub kept_remove : {new : BothSides} → AreChanged old new row.side (λ levels. lowered levels row.price row.shares) → AreKept (remove orders k) new
+      pub kept_remove : {new : BothSides} → AreChanged old new row.side (λ levels. lowered levels row.price row.shares) → LevelsAreKept (remove orders k) new
       kept_remove changed = record {
         levels_are = λ s.
             changed_levels row.side (λ levels. lowered levels row.price row.shares) s changed
@@ -64,7 +64,7 @@ module _ {orders : Orders} {old : BothSides} (kept : AreKept orders old) where
           own_side Sell = refl
 
       kept_reduce : {new : BothSides} (shares : ℕ) → shares ≤ row.shares → AreChanged old new row.side (λ levels. lowered levels row.price shares)
-          → AreKept (insert orders k (record row { shares = row.shares - shares })) new
+          → LevelsAreKept (insert orders k (record row { shares = row.shares - shares })) new
       kept_reduce shares enough changed =
           let left : OrderRow = record row { shares = row.shares - shares } in
           record {
@@ -84,18 +84,18 @@ module _ {orders : Orders} {old : BothSides} (kept : AreKept orders old) where
 
       -- shares came off the order, which is gone where none are left
       pub kept_reduced : {new : BothSides} (shares : ℕ) → shares ≤ row.shares → AreChanged old new row.side (λ levels. lowered levels row.price shares)
-          → AreKept (reduced_by orders k row shares) new
+          → LevelsAreKept (reduced_by orders k row shares) new
       kept_reduced {new = new} shares enough changed = by_test (row.shares == shares) refl
         where
           by_test : (b : Bool) → (row.shares == shares) ≡ b
-              → AreKept (if b then remove orders k else insert orders k (record row { shares = row.shares - shares })) new
+              → LevelsAreKept (if b then remove orders k else insert orders k (record row { shares = row.shares - shares })) new
           by_test true is =
               let whole : shares ≡ row.shares = grind (arith, nat_tests) in
               kept_remove (subst (λ n. AreChanged old new row.side (λ levels. lowered levels row.price n)) whole changed)
           by_test false is = kept_reduce shares enough changed
 
 -- a book without orders has no levels
-pub kept_empty : (both : BothSides) → ((side : Side) → levels_on both side ≡ empty) → AreKept empty both
+pub kept_empty : (both : BothSides) → ((side : Side) → levels_on both side ≡ empty) → LevelsAreKept empty both
 kept_empty both none = record {
   levels_are = λ side. none side ∙ sym (no_levels side);
   shares_fit = λ q. rw (get-empty {X = OrderRow} nat_cmp q) tt;

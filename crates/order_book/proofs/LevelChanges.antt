@@ -1,5 +1,5 @@
 -- The levels of a side after one change of the orders, from the shares at each price.
-use Rattle.std.proofs.Common.{◌≡◌, ℕ, ◌+◌, ◌-◌, ◌≤◌, ◌==◌, List, Some, Bool, true, false, cond, ap, sym, ◌∙◌, arith}
+use Rattle.std.proofs.Common.{◌≡◌, ℕ, ◌+◌, ◌-◌, ◌==◌, List, Bool, true, false, cond, ap, sym, ◌∙◌, arith}
 use Rattle.std.specs.Prelude.{if◌then◌else◌}
 use Rattle.std.specs.Ordering.{eq_by_cmp, nat_cmp}
 use Rattle.std.specs.Cmp.{nat_cmp_total}
@@ -22,29 +22,29 @@ shares_of_levels orders side price =
     ap (λ o. unwrap_or o 0) (get_level_map orders side price) ∙ unwrap_positive (shares_at orders side price)
 
 module _ (old new : List Order) (side : Side) (price shares : ℕ) where
-  raised_at : (q all : ℕ) → 1 ≤ shares → all ≡ (if price == q then shares else 0) + shares_at old side q
-      → positive all ≡ cond (eq_by_cmp nat_cmp q price) (Some (shares_at old side price + shares)) (positive (shares_at old side q))
-  raised_at q all some more = grind (arith, common_steps, nat_tests)
+  get-with_shares : (levels : LevelMap) (n q : ℕ) → get (with_shares levels price n) q ≡ cond (eq_by_cmp nat_cmp q price) (positive n) (get levels q)
+  get-with_shares levels n q = grind (arith, common_steps, nat_tests, get-insert nat_cmp_total levels price n q, get-remove nat_cmp_total levels price q)
 
-  levels_raised : 1 ≤ shares → ((q : ℕ) → shares_at new side q ≡ (if price == q then shares else 0) + shares_at old side q)
+  raised_at : (q all : ℕ) → all ≡ (if price == q then shares else 0) + shares_at old side q
+      → positive all ≡ cond (eq_by_cmp nat_cmp q price) (positive (shares_at old side price + shares)) (positive (shares_at old side q))
+  raised_at q all more = grind (arith, common_steps, nat_tests)
+
+  levels_raised : ((q : ℕ) → shares_at new side q ≡ (if price == q then shares else 0) + shares_at old side q)
       → level_map new side ≡ raised (level_map old side) price shares
-  levels_raised some more = same_map nat_cmp_total nat_cmp-IsAntisymmetric _ _ (λ q.
+  levels_raised more = same_map nat_cmp_total nat_cmp-IsAntisymmetric _ _ (λ q.
       grind (
         arith,
         common_steps,
         get_level_map new side q,
         get_level_map old side q,
         shares_of_levels old side price,
-        raised_at q (shares_at new side q) some (more q),
-        get-insert nat_cmp_total (level_map old side) price (shares_on (level_map old side) price + shares) q,
+        raised_at q (shares_at new side q) (more q),
+        get-with_shares (level_map old side) (shares_on (level_map old side) price + shares) q,
       ))
 
   lowered_at : (q all : ℕ) → (if price == q then shares else 0) + all ≡ shares_at old side q
       → positive all ≡ cond (eq_by_cmp nat_cmp q price) (positive (shares_at old side price - shares)) (positive (shares_at old side q))
   lowered_at q all less = grind (arith, common_steps, nat_tests)
-
-  get-with_shares : (levels : LevelMap) (n q : ℕ) → get (with_shares levels price n) q ≡ cond (eq_by_cmp nat_cmp q price) (positive n) (get levels q)
-  get-with_shares levels n q = grind (arith, common_steps, nat_tests, get-insert nat_cmp_total levels price n q, get-remove nat_cmp_total levels price q)
 
   levels_lowered : ((q : ℕ) → (if price == q then shares else 0) + shares_at new side q ≡ shares_at old side q)
       → level_map new side ≡ lowered (level_map old side) price shares
@@ -64,11 +64,11 @@ module _ (old new : List Order) (side : Side) (price shares : ℕ) where
 abbrev pub share_if : Bool → ℕ → ℕ → ℕ → ℕ
 share_if same price shares q = if same then (if price == q then shares else 0) else 0
 
-pub raised_if : (same : Bool) (old new : List Order) (side : Side) (price shares : ℕ) → 1 ≤ shares
+pub raised_if : (same : Bool) (old new : List Order) (side : Side) (price shares : ℕ)
     → ((q : ℕ) → shares_at new side q ≡ share_if same price shares q + shares_at old side q)
     → level_map new side ≡ (if same then raised (level_map old side) price shares else level_map old side)
-raised_if true old new side price shares some more = levels_raised old new side price shares some more
-raised_if false old new side price shares some more = levels_same old new side price shares (λ q. omega (arith, more q))
+raised_if true old new side price shares more = levels_raised old new side price shares more
+raised_if false old new side price shares more = levels_same old new side price shares (λ q. omega (arith, more q))
 
 pub lowered_if : (same : Bool) (old new : List Order) (side : Side) (price shares : ℕ)
     → ((q : ℕ) → share_if same price shares q + shares_at new side q ≡ shares_at old side q)

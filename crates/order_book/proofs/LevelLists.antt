@@ -169,8 +169,10 @@ module _ (side : Side) (levels : List Level) (price index : ℕ) (level : Level)
       ∙ ap (λ (m : LevelMap). maps.remove m level.price) (sym map_whole) ∙ ap (maps.remove (by_price levels)) at_price
 
   module _ (shares : ℕ) where
-    pub found_raised : by_price (set levels index (record { price = level.price; shares = level.shares + shares })) ≡ raised (by_price levels) price shares
-    found_raised = by_price-set (level.shares + shares) ∙ ap (λ n. maps.insert (by_price levels) price (n + shares)) (sym shares_found)
+    pub found_raised : 1 ≤ shares → by_price (set levels index (record { price = level.price; shares = level.shares + shares })) ≡ raised (by_price levels) price shares
+    found_raised some =
+        by_price-set (level.shares + shares) ∙ ap (λ n. maps.insert (by_price levels) price (n + shares)) (sym shares_found)
+        ∙ sym (with_some (by_price levels) price (shares_on (by_price levels) price + shares) (λ none. omega arith))
 
     lowered_is : lowered (by_price levels) price shares ≡ with_shares (by_price levels) price (level.shares - shares)
     lowered_is = ap (λ n. with_shares (by_price levels) price (n - shares)) shares_found
@@ -220,11 +222,12 @@ module _ (side : Side) (levels : List Level) (price index : ℕ) (sorted : AreIn
     pub in_order-insert : AreInOrder side (insert levels index (record { price = price; shares = shares }))
     in_order-insert = sorted_with (side_cmp side) _ (drop index levels) (take index levels) (gap_split shares)
 
-    pub missing_raised : by_price (insert levels index (record { price = price; shares = shares })) ≡ raised (by_price levels) price shares
-    missing_raised =
+    pub missing_raised : 1 ≤ shares → by_price (insert levels index (record { price = price; shares = shares })) ≡ raised (by_price levels) price shares
+    missing_raised some =
         by_price-with side (take index levels) (record { price = price; shares = shares }) (drop index levels) (gap_split shares)
         ∙ ap (λ (ls : List Level). maps.insert (by_price ls) price shares) joined
         ∙ ap (maps.insert (by_price levels) price) (omega (arith, shares_missing))
+        ∙ sym (with_some (by_price levels) price (shares_on (by_price levels) price + shares) (λ none. omega arith))
 
     pub missing_lowered : shares ≤ shares_on (by_price levels) price → by_price levels ≡ lowered (by_price levels) price shares
     missing_lowered enough =

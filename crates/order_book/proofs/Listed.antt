@@ -17,7 +17,7 @@ use Rattle.itch_table.specs.declared.order.Level.{Level}
 use Rattle.itch_table.specs.declared.order.Side.{Side}
 use Rattle.itch_table.specs.declared.order.Side.TheVariants.{Buy, Sell}
 use Rattle.itch_table.proofs.MapViews.{ordered_entries}
-use Rattle.order_book.specs.Kept.{AreInOrder, LevelMap, by_price, listed}
+use Rattle.order_book.specs.Kept.{AreInOrder, LevelMap, by_price, shown}
 use Rattle.order_book.proofs.InOrder.{IsSplit, sorted_with}
 use Rattle.order_book.proofs.LevelLists.{by_price-with, side_cmp}
 
@@ -75,7 +75,7 @@ by_price-reverse (level ∷ levels) sorted =
 
 -- ---- either side
 
-pub listed_is : (side : Side) (levels : List Level) → AreInOrder side levels → listed side (by_price levels) ≡ reverse levels
+pub listed_is : (side : Side) (levels : List Level) → AreInOrder side levels → shown side (by_price levels) ≡ reverse levels
 listed_is Buy levels sorted = ap reverse (rising levels sorted)
 listed_is Sell levels sorted =
     ap (λ (m : LevelMap). map level_of (maps.entries m)) (sym (by_price-reverse levels sorted))

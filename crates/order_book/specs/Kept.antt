@@ -23,23 +23,23 @@ LevelMap = FinMap nat_cmp ℕ
 abbrev pub shares_on : LevelMap → ℕ → ℕ
 shares_on levels price = unwrap_or (maps.get levels price) 0
 
--- shares more at a price
-abbrev pub raised : LevelMap → ℕ → ℕ → LevelMap
-raised levels price shares = maps.insert levels price (shares_on levels price + shares)
-
 -- a price has these shares, and no level where there are none
 abbrev pub with_shares : LevelMap → ℕ → ℕ → LevelMap
 with_shares levels price shares =
     if shares == 0 then maps.remove levels price else maps.insert levels price shares
+
+-- shares more at a price
+abbrev pub raised : LevelMap → ℕ → ℕ → LevelMap
+raised levels price shares = with_shares levels price (shares_on levels price + shares)
 
 -- shares fewer at a price
 abbrev pub lowered : LevelMap → ℕ → ℕ → LevelMap
 lowered levels price shares = with_shares levels price (shares_on levels price - shares)
 
 -- a side's levels as they are shown, with the best first: bids by falling price, asks by rising price
-abbrev pub listed : Side → LevelMap → List Level
-listed Buy levels = reverse (map level_of (maps.entries levels))
-listed Sell levels = map level_of (maps.entries levels)
+abbrev pub shown : Side → LevelMap → List Level
+shown Buy levels = reverse (map level_of (maps.entries levels))
+shown Sell levels = map level_of (maps.entries levels)
 
 -- ---- one side's levels in a list
 
@@ -110,10 +110,10 @@ abbrev pub SharesFit : Orders → Type 0
 SharesFit orders = (reference : ℕ) → IfSome (maps.get orders reference) (λ row. row.shares < 2 ^ 32)
 
 -- the levels that are kept are those of the orders, and no order has more shares than 32 bits hold
-pub record AreKept (orders : Orders) (both : BothSides) : Type 0 where
+pub record LevelsAreKept (orders : Orders) (both : BothSides) : Type 0 where
   pub levels_are : (side : Side) → levels_on both side ≡ level_map (orders_in orders) side
   pub shares_fit : SharesFit orders
 
 -- a book's rows, which are few enough that a `u32` counts them and the shares of a level fit a `u64`, and their levels
 abbrev pub IsBook : List (ℕ × OrderRow) → BothSides → Type 0
-IsBook rows both = (length rows < 2 ^ 32) × AreKept (maps.from_entries rows) both
+IsBook rows both = (length rows < 2 ^ 32) × LevelsAreKept (maps.from_entries rows) both

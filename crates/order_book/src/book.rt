@@ -5,7 +5,7 @@ ghost use Rattle.itch_table.specs.Levels.{levels, shares_at, top};
 ghost use Rattle.order_book.specs.Orders.{order_in, orders_in, reduced, replaced, added};
 
 use crate::levels::Levels;
-use crate::rows::{copied, listed, reduce_row};
+use crate::rows::{as_orders, copied, reduce_row};
 use itch_table::{Level, Order, OrderRow, Side, Top};
 use std::alloc::{AllocError, Allocator};
 use std::collections::BTreeMap;
@@ -172,7 +172,7 @@ impl<A: Allocator + Copy> Book<A> {
         // They are few enough for `levels_of`.
         ensures few { length (orders_in self.now) < 2 ^ 32 }
     {
-        listed(alloc, &self.orders)
+        as_orders(alloc, &self.orders)
     }
 
     /// A book with the same orders, whose memory is that of `alloc`. An error says that memory was refused.

@@ -2,7 +2,7 @@
 ghost use Rattle.std.specs.Prelude.{◌≡◌, ◌+◌, ◌<◌, ◌≤◌, ◌^◌, IfErr, IfOk, OnOk};
 ghost use Rattle.std.specs.FinMap as maps;
 ghost use Rattle.itch_table.specs.Levels.{first_level};
-ghost use Rattle.order_book.specs.Kept.{AreInOrder, IsFound, IsGap, listed, lowered, price_cmp, raised, shares_on};
+ghost use Rattle.order_book.specs.Kept.{AreInOrder, IsFound, IsGap, shown, lowered, price_cmp, raised, shares_on};
 
 use itch_table::{Level, Side};
 use std::alloc::{AllocError, Allocator};
@@ -45,6 +45,9 @@ impl<A: Allocator> Model for Ladder<A> {
     ghost invariant = { λ l. AreInOrder l.side l.levels.items };
 }
 
+// How many levels are looked at one by one, the best first, before all are searched by halves.
+const NEAR: usize = 8;
+
 // How a price stands to another, where a worse one is less.
 fn compare(side: Side, price: u32, other: u32) -> Ordering
     ensures { result ≡ price_cmp side price other }
@@ -55,13 +58,33 @@ fn compare(side: Side, price: u32, other: u32) -> Ordering
     }
 }
 
-// The index of the level at a price, or else the index at which it would stand.
-fn index_of(levels: &[Level], side: Side, price: u32) -> Result<usize, usize>
+// The same as `index_of`, by halves.
+fn search(levels: &[Level], side: Side, price: u32) -> Result<usize, usize>
     requires { AreInOrder side levels.now }
     ensures found { IfOk result (IsFound levels.now price) }
     ensures missing { IfErr result (IsGap side levels.now price) }
 {
     levels.binary_search_by(|level| compare(side, level.price, price))
+}
+
+// The index of the level at a price, or else the index at which it would stand. Most changes are near the best level.
+fn index_of(levels: &[Level], side: Side, price: u32) -> Result<usize, usize>
+    requires { AreInOrder side levels.now }
+    ensures found { IfOk result (IsFound levels.now price) }
+    ensures missing { IfErr result (IsGap side levels.now price) }
+{
+    let mut end = levels.len();
+    for _ in 0..NEAR {
+        if end == 0 {
+            return Err(0);
+        }
+        match compare(side, levels[end - 1].price, price) {
+            Ordering::Less => return Err(end),
+            Ordering::Equal => return Ok(end - 1),
+            Ordering::Greater => end -= 1,
+        }
+    }
+    search(levels, side, price)
 }
 
 impl<A: Allocator + Copy> Ladder<A> {
@@ -88,7 +111,7 @@ impl<A: Allocator + Copy> Ladder<A> {
 
     /// The best level, or zeros.
     pub fn best(&self) -> Level
-        ensures { result ≡ first_level (listed self.now.side self.now.levels) }
+        ensures { result ≡ first_level (shown self.now.side self.now.levels) }
     {
         self.levels.last().copied().unwrap_or(Level {
             price: 0,
@@ -98,7 +121,7 @@ impl<A: Allocator + Copy> Ladder<A> {
 
     /// The levels, with the best first. An error says that memory was refused.
     pub fn list(&self, alloc: A) -> Result<Vec<Level, A>, AllocError>
-        ensures { IfOk result (λ list. list.items ≡ listed self.now.side self.now.levels) }
+        ensures { IfOk result (λ list. list.items ≡ shown self.now.side self.now.levels) }
     {
         self.levels.iter().rev().copied().collect(alloc)
     }
@@ -123,8 +146,9 @@ impl<A: Allocator + Copy> Ladder<A> {
         self.levels.reserve(1)
     }
 
-    /// Adds shares at a price, where there is room for one more level.
+    /// Adds shares at a price, at least one, where there is room for one more level.
     pub fn raise(&mut self, price: u32, shares: u32)
+        requires some { 1 ≤ shares }
         requires room { 1 ≤ self.old.room }
         requires fits { shares_on self.old.levels price + shares < 2 ^ 64 }
         ensures side { self.new.side ≡ self.old.side }

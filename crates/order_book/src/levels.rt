@@ -3,7 +3,7 @@ ghost use Rattle.std.specs.Prelude.{◌≡◌, ◌+◌, ◌<◌, ◌≤◌, ◌^
 ghost use Rattle.std.specs.FinMap as maps;
 ghost use Rattle.itch_table.specs.Levels.{first_level};
 ghost use Rattle.itch_table.specs.declared.order.Side.{Side};
-ghost use Rattle.order_book.specs.Kept.{AreChanged, SameLevels, levels_on, listed, lowered, raised, room_on, shares_on};
+ghost use Rattle.order_book.specs.Kept.{AreChanged, SameLevels, levels_on, shown, lowered, raised, room_on, shares_on};
 
 use crate::ladder::Ladder;
 use itch_table::{Level, Side};
@@ -62,7 +62,7 @@ impl<A: Allocator + Copy> Levels<A> {
 
     /// The best level of a side, or zeros.
     pub fn best(&self, side: Side) -> Level
-        ensures { result ≡ first_level (listed side (levels_on self.now side)) }
+        ensures { result ≡ first_level (shown side (levels_on self.now side)) }
     {
         match side {
             Side::Buy => self.bids.best(),
@@ -72,7 +72,7 @@ impl<A: Allocator + Copy> Levels<A> {
 
     /// A side's levels, with the best first. An error says that memory was refused.
     pub fn list(&self, alloc: A, side: Side) -> Result<Vec<Level, A>, AllocError>
-        ensures { IfOk result (λ list. list.items ≡ listed side (levels_on self.now side)) }
+        ensures { IfOk result (λ list. list.items ≡ shown side (levels_on self.now side)) }
     {
         match side {
             Side::Buy => self.bids.list(alloc),
@@ -101,8 +101,9 @@ impl<A: Allocator + Copy> Levels<A> {
         }
     }
 
-    /// Adds shares to a side at a price, where there is room for one more level.
+    /// Adds shares to a side at a price, at least one, where there is room for one more level.
     pub fn raise(&mut self, side: Side, price: u32, shares: u32)
+        requires some { 1 ≤ shares }
         requires room { 1 ≤ room_on self.old side }
         requires fits { shares_on (levels_on self.old side) price + shares < 2 ^ 64 }
         ensures { AreChanged self.old self.new side (λ levels. raised levels price shares) }

@@ -11,7 +11,7 @@ use std::alloc::{AllocError, Allocator};
 use std::collections::BTreeMap;
 
 /// The rows as orders, by rising reference.
-pub fn listed<A: Allocator + Copy>(
+pub fn as_orders<A: Allocator + Copy>(
     alloc: A,
     rows: &BTreeMap<u64, OrderRow, A>,
 ) -> Result<Vec<Order, A>, AllocError>

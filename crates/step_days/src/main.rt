@@ -23,7 +23,7 @@ fn measure<R: Runtime + AllocGlobal>(rt: &R, path: &str) -> anyhow::Result<()> {
         return Err(anyhow!("the file can't be loaded"));
     };
     let loaded = start.elapsed(rt)?;
-    let tally = step_all(rt.alloc(), &day)?;
+    let tally = step_all(rt.alloc(), &day).map_err(|halt| anyhow!("{halt:?}"))?;
     let stepped = start.elapsed(rt)?;
     println!(rt;
         "applied {} passed {} refused {}",

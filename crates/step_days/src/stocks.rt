@@ -1,5 +1,4 @@
 //! A machine for each stock of a day.
-use anyhow::anyhow;
 use binaryfile::Day;
 use itch_table::{Outcome, Part, part};
 use std::alloc::{AllocError, Allocator};
@@ -34,33 +33,42 @@ fn places<A: Allocator + Copy>(alloc: A) -> Result<Vec<Option<Stock<A>>, A>, All
     Ok(places)
 }
 
+/// Why a day's machines weren't stepped to its end.
+#[derive(Debug, Clone, Copy, PartialEq, Eq)]
+pub enum Halt {
+    /// Memory was refused.
+    NoMemory,
+    /// A stock's machine isn't at its place.
+    NoMachine,
+}
+
 // Hands a payload to the machine of its stock, which is new at the stock's first message, and answers its outcome.
 fn take<A: Allocator + Copy>(
     alloc: A,
     places: &mut [Option<Stock<A>>],
     payload: &[u8],
-) -> anyhow::Result<Outcome> {
+) -> Result<Outcome, Halt> {
     let locate = match part(payload) {
         Part::Nowhere(outcome) => return Ok(outcome),
         Part::Locate(locate) => locate,
     };
     let Some(place) = places.get_mut(usize::from(locate)) else {
-        return Err(anyhow!("there is no place for the stock's machine"));
+        return Err(Halt::NoMachine);
     };
     if place.is_none() {
         *place = Some(Stock::new(alloc, locate));
     }
     match place {
         Some(stock) if stock.locate() == locate && stock.steps() < u32::MAX => {
-            Ok(stock.step(payload)?)
+            stock.step(payload).map_err(|_| Halt::NoMemory)
         }
-        _ => Err(anyhow!("a stock's machine isn't at its place")),
+        _ => Err(Halt::NoMachine),
     }
 }
 
 /// Steps the machines of all stocks over a day, and answers how many messages had each outcome.
-pub fn step_all<A: Allocator + Copy>(alloc: A, day: &Day<A>) -> anyhow::Result<Tally> {
-    let mut places = places(alloc)?;
+pub fn step_all<A: Allocator + Copy>(alloc: A, day: &Day<A>) -> Result<Tally, Halt> {
+    let mut places = places(alloc).map_err(|_| Halt::NoMemory)?;
     let mut tally = Tally {
         applied: 0,
         passed: 0,

@@ -7,7 +7,7 @@ use Rattle.itch_table.specs.RunningTotals.{plus_trade}
 use Rattle.itch_table.specs.declared.status.Totals.{Totals}
 use Rattle.itch_table.specs.declared.trades.TradeRow.{TradeRow}
 use Rattle.itch_table.proofs.Edited.{mapped_more}
-use Rattle.stock_machine.specs.StockTrades.{AreKept, IsOther, broken_trade, is_unbroken_trade}
+use Rattle.stock_machine.specs.StockTrades.{TotalsAreKept, IsOther, broken_trade, is_unbroken_trade}
 use Rattle.stock_machine.proofs.KeptTrades.{kept_broken, others_stay}
 use Rattle.stock_machine.proofs.Ranges.{map_unchanged, mapped_whole}
 
@@ -16,9 +16,9 @@ pub record AreBroken (m : ℕ) (old new : List TradeRow) (totals : Totals) (risi
   pub done : take place new ≡ map (broken_trade m) (take place old)
   pub rest : drop place new ≡ drop place old
   pub long : length new ≡ length old
-  pub kept : AreKept new totals rising
+  pub kept : TotalsAreKept new totals rising
 
-pub none_broken : (m : ℕ) (old : List TradeRow) (totals : Totals) (rising : Bool) (start : ℕ) → AreKept old totals rising → All (IsOther m) (take start old) → AreBroken m old old totals rising start
+pub none_broken : (m : ℕ) (old : List TradeRow) (totals : Totals) (rising : Bool) (start : ℕ) → TotalsAreKept old totals rising → All (IsOther m) (take start old) → AreBroken m old old totals rising start
 none_broken m old totals rising start kept before = record {
   done = sym (map_unchanged (broken_trade m) (take start old) (others_stay m (take start old) before));
   rest = refl;
@@ -32,7 +32,7 @@ all_broken m old new totals rising end b after =
 
 module _ (m : ℕ) (old new : List TradeRow) (totals : Totals) (rising : Bool) (place : ℕ) (lt : place < length old) (b : AreBroken m old new totals rising place) (t : TradeRow) (at : t ≡ get_or new place t) where
   -- the next place, where it holds the trade as it is after the match number is broken
-  next : (u : TradeRow) (totals : Totals) → broken_trade m t ≡ u → AreKept (set new place u) totals rising → AreBroken m old (set new place u) totals rising (place + 1)
+  next : (u : TradeRow) (totals : Totals) → broken_trade m t ≡ u → TotalsAreKept (set new place u) totals rising → AreBroken m old (set new place u) totals rising (place + 1)
   next u totals e kept =
       let long = b.long in
       record {

@@ -10,7 +10,7 @@ use Rattle.itch_table.specs.RunningTotals.{Within, plus_trade}
 use Rattle.itch_table.specs.Trades.{is_printed, is_unprinted, totals_of}
 use Rattle.itch_table.specs.declared.status.Totals.{Totals}
 use Rattle.itch_table.specs.declared.trades.TradeRow.{TradeRow}
-use Rattle.stock_machine.specs.StockTrades.{AreKept, IsOther, IsRising, broken_trade, is_unbroken_trade}
+use Rattle.stock_machine.specs.StockTrades.{TotalsAreKept, IsOther, IsRising, broken_trade, is_unbroken_trade}
 
 -- ---- trades with another match number
 
@@ -81,7 +81,7 @@ rises_same ts us rising long same h on i j d le lt = omega (arith, h on i j d le
 
 -- ---- all that is kept
 
-module _ (ts : List TradeRow) (totals : Totals) (rising : Bool) (kept : AreKept ts totals rising) where
+module _ (ts : List TradeRow) (totals : Totals) (rising : Bool) (kept : TotalsAreKept ts totals rising) where
   module _ (i : ℕ) (t : TradeRow) (lt : i < length ts) (at : get_or ts i t ≡ t) where
     left : plus_trade (totals_of (set ts i (record t { broken = true }))) t ≡ totals
     left = totals_broken ts i t lt at ∙ sym kept.sums
@@ -96,7 +96,7 @@ module _ (ts : List TradeRow) (totals : Totals) (rising : Bool) (kept : AreKept 
         (λ other. ap (λ (t : TradeRow). t.match_no) (get_or-set_other ts i k (record t { broken = true }) e other))
         (cases_eq k i)
 
-    pub kept_broken : (less : Totals) → plus_trade less t ≡ totals → AreKept (set ts i (record t { broken = true })) less rising
+    pub kept_broken : (less : Totals) → plus_trade less t ≡ totals → TotalsAreKept (set ts i (record t { broken = true })) less rising
     kept_broken less e =
         let long = length-set ts i (record t { broken = true }) in
         record {

@@ -1,9 +1,7 @@
 -- Where trades with a match number stand, where match numbers never fall.
-use Rattle.std.proofs.Common.{◌≡◌, ℕ, ◌≤◌, ◌==◌, leb, ltb, true, false, List, length, arith}
+use Rattle.std.proofs.Common.{◌≡◌, ℕ, ◌==◌, leb, ltb, true, false, List, arith}
 use Rattle.std.specs.List.Sorted.{IsPartitionPoint}
-use Rattle.std.proofs.lemmas.Bool.{cases_lt}
 use Rattle.std.proofs.lemmas.Bool.Decides.{nat_tests}
-use mathlib.Core.Logic.{⊎_elim}
 use Rattle.itch_table.specs.declared.trades.TradeRow.{TradeRow}
 
 -- match numbers below one stand before a place, and those up to it before another
@@ -18,16 +16,3 @@ below_other m n below = grind (arith, nat_tests)
 
 pub above_other : (m n : ℕ) → leb n m ≡ false → (n == m) ≡ false
 above_other m n above = grind (arith, nat_tests)
-
-both : (m n : ℕ) → ltb n m ≡ true → leb n m ≡ false → ⊥
-both m n below above = grind (arith, nat_tests)
-
-none : TradeRow
-none = record { match_no = 0; shares = 0; price = 0; printed = false; broken = false }
-
-pub in_order : (m : ℕ) (ts : List TradeRow) (start end : ℕ) → start ≤ length ts → IsStart m ts start → IsEnd m ts end → start ≤ end
-in_order m ts start end bound below above =
-    ⊎_elim
-    (λ less. absurd (both m _ (below.0 end none (omega arith) less) (above.1 end none (omega arith) (omega arith))))
-    (λ le. le)
-    (cases_lt end start)

@@ -23,7 +23,7 @@ abbrev pub IsRising : List TradeRow → Bool → Type 0
 IsRising trades rising = rising ≡ true → IsNonDecreasingBy (λ t. t.match_no) trades
 
 -- the totals over the trades are kept beside them, and whether match numbers rise
-pub record AreKept (trades : List TradeRow) (totals : Totals) (rising : Bool) : Type 0 where
+pub record TotalsAreKept (trades : List TradeRow) (totals : Totals) (rising : Bool) : Type 0 where
   pub sums : totals ≡ totals_of trades
   pub within : Within totals (length trades)
   pub rises : IsRising trades rising

@@ -124,8 +124,8 @@ impl<A: Allocator + Copy> Store for Rows<A> {
 
     ghost has_room = { λ r. HasRoomForRows r.world };
 
-    fn stock(&self, _locate: u16) -> Option<StockRow> {
-        self.known
+    fn stock(&self, _locate: u16) -> Option<&StockRow> {
+        self.known.as_ref()
     }
 
     fn order(&self, _locate: u16, reference: u64) -> Option<OrderRow> {

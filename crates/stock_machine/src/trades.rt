@@ -25,7 +25,7 @@ impl<A: Allocator> Model for Trades<A> {
     ghost use Rattle.std.specs.Prelude.{List};
     ghost use Rattle.itch_table.specs.declared.trades.TradeRow.{TradeRow};
     ghost use Rattle.itch_table.specs.contracts.trades.TradeRow as trade_row;
-    ghost use Rattle.stock_machine.specs.StockTrades.{AreKept};
+    ghost use Rattle.stock_machine.specs.StockTrades.{TotalsAreKept};
 
     ghost Value = { List TradeRow };
 
@@ -33,7 +33,7 @@ impl<A: Allocator> Model for Trades<A> {
 
     ghost view = { λ s. s.rows.items };
 
-    ghost invariant = { λ s. AreKept s.rows.items s.totals s.rising };
+    ghost invariant = { λ s. TotalsAreKept s.rows.items s.totals s.rising };
 }
 
 impl<A: Allocator> Trades<A> {
@@ -140,6 +140,7 @@ fn places(rows: &[TradeRow], rising: bool, match_no: u64) -> (usize, usize)
         return (0, rows.len());
     }
     let start = rows.partition_point(|trade| trade.match_no < match_no);
-    let end = rows.partition_point(|trade| trade.match_no <= match_no);
-    (start, end)
+    let rest = &rows[start..];
+    let count = rest.partition_point(|trade| trade.match_no <= match_no);
+    (start, start + count)
 }

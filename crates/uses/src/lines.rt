@@ -6,6 +6,7 @@ use binaryfile::{Feed, Sink};
 use itch_engine::{ProgFault, replay_run};
 use std::alloc::Allocator;
 use std::io::{self, Read, Write};
+use std::thread::Threads;
 
 /// A writer that keeps nothing of what it is given but how many lines it was.
 #[derive(Debug, Clone, Copy, PartialEq, Eq)]
@@ -31,8 +32,10 @@ impl Write for LineCounter {
 
 /// How many lines the report of a day file has.
 ///
-/// Any reader and any writer will do: a feed and a sink wrap them, and remember their failures.
-pub fn report_lines<A: Allocator + Copy, R: Read>(
+/// Any reader and any writer will do: a feed and a sink wrap them, and remember their failures. The threads of `rt`
+/// help to split a long day.
+pub fn report_lines<T: Threads + Sync, A: Allocator + Copy + Send + Sync, R: Read>(
+    rt: &T,
     alloc: A,
     feed: &mut Feed<R>,
 ) -> Result<u64, ProgFault>
@@ -40,7 +43,7 @@ pub fn report_lines<A: Allocator + Copy, R: Read>(
     ensures read { IsErrOf result ProgFault.Read ↔ HasFailed feed.new }
 {
     let mut counter = LineCounter { lines: 0 };
-    replay_run(alloc, feed, &mut Sink::new(&mut counter), 1)?;
+    replay_run(rt, alloc, feed, &mut Sink::new(&mut counter), 1)?;
     Ok(counter.lines)
 }
 
@@ -54,7 +57,7 @@ mod tests {
         rt: HostRuntime,
     ) -> Result<(), Fail> {
         let file = b"\x00\x01O\x00\x01A\x00\x01A".as_slice();
-        assert_eq!(rt; report_lines(rt.alloc(), &mut Feed::new(file))?, 3);
+        assert_eq!(rt; report_lines(&rt, rt.alloc(), &mut Feed::new(file))?, 3);
         Ok(())
     }
 }

@@ -11,9 +11,11 @@ use crate::report::day::Report;
 use binaryfile::{Feed, Sink, read_to_end, send};
 use std::alloc::Allocator;
 use std::io::{Read, Write};
+use std::thread::Threads;
 
 // The report of a file that is given in hexadecimal digits, and how many of its messages are refused.
-fn report_of_digits<A: Allocator + Copy>(
+fn report_of_digits<R: Threads + Sync, A: Allocator + Copy + Send + Sync>(
+    rt: &R,
     alloc: A,
     input: Vec<u8, A>,
 ) -> Result<Report<A>, ProgFault>
@@ -21,19 +23,18 @@ fn report_of_digits<A: Allocator + Copy>(
     ensures fault { IfErr result (Fails digits_replayer input.items) }
 {
     let bytes = decode_digits(alloc, input)?;
-    report_of_file(alloc, bytes)
+    report_of_file(rt, alloc, bytes, 1)
 }
 
 /// Reads a day file that is given in hexadecimal digits, replays it and writes the report, as [`replay_run`] does.
 ///
-/// Spaces and line feeds are passed over. [`ProgFault::TooManyBytes`] comes above [`MOST_HEX_BYTES`] bytes of input,
-/// and
-/// [`ProgFault::BadHex`] only where there is an odd number of digits, or a byte that is no hexadecimal digit, no
-/// space and
-/// no line feed.
+/// It is split for one worker. Spaces and line feeds are passed over. [`ProgFault::TooManyBytes`] comes above
+/// [`MOST_HEX_BYTES`] bytes of input, and [`ProgFault::BadHex`] only where there is an odd number of digits, or a byte
+/// that is no hexadecimal digit, no space and no line feed.
 ///
 /// [`replay_run`]: crate::replay_run
-pub fn hex_run<A: Allocator + Copy, R: Read, W: Write>(
+pub fn hex_run<T: Threads + Sync, A: Allocator + Copy + Send + Sync, R: Read, W: Write>(
+    rt: &T,
     alloc: A,
     feed: &mut Feed<R>,
     sink: &mut Sink<W>,
@@ -41,7 +42,7 @@ pub fn hex_run<A: Allocator + Copy, R: Read, W: Write>(
     ensures { Runs digits_replayer R.remaining W.contents feed.old feed.new sink.old sink.new result }
 {
     let input = read_to_end(alloc, feed, MOST_HEX_BYTES)?;
-    let report = report_of_digits(alloc, input)?;
+    let report = report_of_digits(rt, alloc, input)?;
     send(sink, &report.text)?;
     Ok(report.refused)
 }

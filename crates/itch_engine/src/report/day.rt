@@ -1,24 +1,19 @@
-//! A whole day through the machine, and the report of it.
-ghost use Rattle.std.specs.Prelude.{◌≡◌, ◌++◌, ◌<◌, ◌^◌, length, IfOk, OnOk, count_by};
-ghost use Rattle.std.specs.List.{flat_map};
+//! A whole day through the machines of its stocks, and the report of it.
+ghost use Rattle.std.specs.Prelude.{◌≡◌, ◌++◌, ◌<◌, ◌≤◌, ◌^◌, length, IfOk, OnOk, count_by};
+ghost use Rattle.std.specs.List.{All, flat_map};
+ghost use Rattle.byte_strings.specs.Bytes.{AreBytes};
 ghost use Rattle.byte_strings.specs.Extending.{Extends};
-ghost use Rattle.itch_table.specs.World.{orders_of, status, totals};
-ghost use Rattle.itch_table.specs.Levels.{levels};
-ghost use Rattle.itch_table.specs.After.{after, outcomes};
-ghost use Rattle.itch_engine.specs.Report.{stock_lines, report_of, report_of_file, refused_count};
+ghost use Rattle.day_core.specs.Replaying.{IsReplayed};
+ghost use Rattle.itch_engine.specs.Report.{machine_lines, report_of_file, refused_count};
 
 use crate::report::messages::{count_refused, put_refused_lines, put_summary};
 use crate::report::stock::put_stock;
 use binaryfile::Day;
-use itch_table::{Outcome, Plain, Side, levels_of};
+use day_core::{Replayed, SplitFault, replay_parts, split};
+use itch_table::Side;
 use std::alloc::{AllocError, Allocator};
-
-// A machine after a day, and the outcomes of its messages in order.
-#[derive(Drop)]
-struct Replayed<A: Allocator> {
-    outcomes: Vec<Outcome, A>,
-    plain: Plain<A>,
-}
+use std::thread::Threads;
+use stock_machine::Stock;
 
 /// The report of a day, and how many of its messages were refused.
 #[derive(Drop)]
@@ -27,88 +22,100 @@ pub(crate) struct Report<A: Allocator> {
     pub refused: u32,
 }
 
-// A machine that has taken all messages of a day, and their outcomes.
-fn replay<A: Allocator + Copy>(alloc: A, day: &Day<A>) -> Result<Replayed<A>, AllocError>
-    ensures outcomes { IfOk result (λ replayed. replayed.outcomes.items ≡ outcomes day.now.payloads) }
-    ensures world { IfOk result (λ replayed.
-        replayed.plain.world ≡ after day.now.payloads (length day.now.payloads)) }
-    ensures few { length day.now.payloads < 2 ^ 32 }
+// A day, replayed by its parts for this many workers, one after another.
+fn replay<R: Threads + Sync, A: Allocator + Copy + Send + Sync>(
+    rt: &R,
+    alloc: A,
+    day: &Day<A>,
+    workers: u32,
+) -> Result<Replayed<A>, AllocError>
+    requires { (1 ≤ workers) × (workers ≤ 64) }
+    ensures { IfOk result (λ replayed. IsReplayed day.now.payloads
+        replayed.outcomes.items replayed.stocks.items replayed.event) }
 {
-    let mut plain = Plain::new(alloc);
-    let mut outcomes = Vec::with_capacity(alloc, day.len() as usize)?;
-    for payload in day.payloads() {
-        outcomes.push(plain.step(payload)?)?;
+    match split(rt, alloc, day, workers) {
+        Ok(parts) => replay_parts(alloc, &parts, day),
+        Err(SplitFault::Memory) => Err(AllocError),
+        Err(SplitFault::Workers) => unreachable!(),
     }
-    Ok(Replayed { outcomes, plain })
 }
 
-// Adds the lines of the stock of a locate code.
+// Adds the lines of a stock.
 fn put_stock_of<A: Allocator + Copy>(
     alloc: A,
     text: &mut Vec<u8, A>,
-    plain: &Plain<A>,
-    locate: u16,
+    stock: &Stock<A>,
 ) -> Result<(), AllocError>
-    ensures { Extends text.old text.new (stock_lines plain.now.world locate) result }
+    ensures { Extends text.old text.new (machine_lines stock.now) result }
 {
-    let status = plain.status(locate);
-    let orders = plain.orders(alloc, locate)?;
-    let bids = levels_of(alloc, &orders, Side::Buy)?;
-    let asks = levels_of(alloc, &orders, Side::Sell)?;
-    put_stock(text, locate, &status, &bids, &asks, plain.totals(locate))
+    let bids = stock.levels(alloc, Side::Buy)?;
+    let asks = stock.levels(alloc, Side::Sell)?;
+    put_stock(
+        text,
+        stock.locate(),
+        &stock.status(),
+        &bids,
+        &asks,
+        stock.totals(),
+    )
 }
 
 // Adds the lines of these stocks.
 fn put_stocks<A: Allocator + Copy>(
     alloc: A,
     text: &mut Vec<u8, A>,
-    plain: &Plain<A>,
-    locates: &[u16],
+    stocks: &[Stock<A>],
 ) -> Result<(), AllocError>
-    ensures { Extends text.old text.new (flat_map (stock_lines plain.now.world) locates.now) result }
+    ensures { Extends text.old text.new (flat_map machine_lines stocks.now) result }
 {
-    for locate in locates {
-        put_stock_of(alloc, text, plain, *locate)?;
+    for stock in stocks {
+        put_stock_of(alloc, text, stock)?;
     }
     Ok(())
 }
 
-// The report of these outcomes and the machine after them.
+// The report of a day that was replayed.
+#[tactic(auto, unfolding(crate::specs::Report::report_of_day))]
 fn report_text<A: Allocator + Copy>(
     alloc: A,
-    outcomes: &[Outcome],
-    plain: &Plain<A>,
-    marked: bool,
-    tail_length: usize,
+    day: &Day<A>,
+    replayed: &Replayed<A>,
 ) -> Result<Vec<u8, A>, AllocError>
-    requires { length outcomes.now < 2 ^ 32 }
-    ensures { IfOk result (λ text. text.items ≡ report_of outcomes.now plain.now.world marked tail_length) }
+    requires few { length day.now.payloads < 2 ^ 32 }
+    requires bytes { All AreBytes day.now.payloads }
+    requires replayed { IsReplayed day.now.payloads
+        replayed.now.outcomes.items replayed.now.stocks.items replayed.now.event }
+    ensures { IfOk result (λ text. text.items ≡ report_of_file day.now) }
 {
     let mut text = Vec::new(alloc);
-    put_refused_lines(&mut text, outcomes)?;
-    put_summary(&mut text, outcomes, marked, tail_length, plain.event())?;
-    let locates = plain.locates(alloc)?;
-    put_stocks(alloc, &mut text, plain, &locates)?;
+    put_refused_lines(&mut text, &replayed.outcomes)?;
+    put_summary(
+        &mut text,
+        &replayed.outcomes,
+        day.marked(),
+        day.tail().len(),
+        replayed.event,
+    )?;
+    put_stocks(alloc, &mut text, &replayed.stocks)?;
     Ok(text)
 }
 
-/// Replays a day, and reports.
-#[tactic(auto, unfolding(crate::specs::Report::report_of_day, crate::specs::Report::refused_count))]
-pub(crate) fn report_of_day<A: Allocator + Copy>(
+/// Replays a day by its parts for this many workers, and reports.
+#[tactic(auto, unfolding(crate::specs::Report::refused_count))]
+pub(crate) fn report_of_day<R: Threads + Sync, A: Allocator + Copy + Send + Sync>(
+    rt: &R,
     alloc: A,
     day: &Day<A>,
+    workers: u32,
 ) -> Result<Report<A>, AllocError>
+    requires workers { (1 ≤ workers) × (workers ≤ 64) }
+    requires few { length day.now.payloads < 2 ^ 32 }
+    requires bytes { All AreBytes day.now.payloads }
     ensures text { IfOk result (λ found. found.text.items ≡ report_of_file day.now) }
     ensures refused { IfOk result (λ found. found.refused ≡ refused_count day.now.payloads) }
 {
-    let replayed = replay(alloc, day)?;
-    let text = report_text(
-        alloc,
-        &replayed.outcomes,
-        &replayed.plain,
-        day.marked(),
-        day.tail().len(),
-    )?;
+    let replayed = replay(rt, alloc, day, workers)?;
+    let text = report_text(alloc, day, &replayed)?;
     let refused = count_refused(&replayed.outcomes) as u32;
     Ok(Report { text, refused })
 }

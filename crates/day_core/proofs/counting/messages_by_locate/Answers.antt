@@ -1,6 +1,6 @@
 use Rattle.std.proofs.Common.{ℕ, sym, subst, ◌∙◌, arith}
 use Rattle.day_core.specs.Dealing.{AreCounts, AreCountsOfPiece}
-use Rattle.day_core.proofs.Counted.{joined, next_piece, pieces_all, sums_fit}
+use Rattle.day_core.proofs.Counted.{next_piece, pieces_all, sums_are, sums_fit}
 use Rattle.day_core.proofs.counting.messages_by_locate.Given as given
 use Rattle.day_core.proofs.counting.messages_by_locate.Goals as goal
 
@@ -22,7 +22,7 @@ pub loop-piece-preserved : goal.loop-piece-preserved
 loop-piece-preserved g c =
     let before = c.loop-piece.invariant in
     let more = found g c.before in
-    joined c.args.day.now.payloads 0 _ _ _ _ before more c.add.new.counts.items (c.add.ensures.long ∙ before.long) (λ k lt. c.add.ensures.sums k (omega (arith, more.long)))
+    sums_are c.args.day.now.payloads 0 _ _ _ _ before more c.add.new.counts.items (c.add.ensures.long ∙ before.long) (λ k lt. c.add.ensures.sums k (omega (arith, more.long)))
 
 pub returns : goal.returns
 returns g c =

@@ -1,27 +1,35 @@
-use Rattle.std.proofs.Common.{leb, ltb, get_or, rules}
-use Rattle.std.proofs.lemmas.List.Sorted.{IsPartitionPoint-from_clause, IsPartitionedBy-leb, IsPartitionedBy-ltb}
+use Rattle.std.proofs.Common.{◌≡◌, ℕ, ◌-◌, List, length, drop, leb, ltb, get_or, ap, sym, ◌∙◌, subst, arith, length-drop, rules}
+use Rattle.std.specs.List.{All, slice_range}
+use Rattle.std.specs.List.Sorted.{IsNonDecreasingBy}
+use Rattle.std.proofs.lemmas.List.{drop-drop, take_all}
+use Rattle.std.proofs.lemmas.List.Sorted.{IsNonDecreasingBy-drop, IsPartitionPoint-from_clause, IsPartitionedBy-leb, IsPartitionedBy-ltb}
 use Rattle.itch_table.specs.declared.trades.TradeRow.{TradeRow}
 use Rattle.stock_machine.specs.StockTrades.{IsOther}
-use Rattle.stock_machine.proofs.Places.{IsStart, IsEnd, above_other, below_other, in_order}
+use Rattle.stock_machine.proofs.Places.{IsStart, IsEnd, above_other, below_other}
 use Rattle.stock_machine.proofs.Ranges.{all_before, all_after}
 use Rattle.stock_machine.proofs.trades.places.Goals as goal
 
-is_start : (c : goal.After-partition_point-end) → IsStart c.args.match_no c.args.rows.now c.partition_point-start.result
+abbrev number : TradeRow → ℕ
+number t = t.match_no
+
+is_start : (c : goal.After-partition_point-count) → IsStart c.args.match_no c.args.rows.now c.partition_point-start.result
 is_start c =
-    let number = λ (t : TradeRow). t.match_no in
     let rows = c.args.rows.now in
     let parted = IsPartitionedBy-ltb number rows c.args.match_no (c.requires c.if-not-rising.false) in
-    IsPartitionPoint-from_clause (λ (t : TradeRow). ltb t.match_no c.args.match_no) rows c.partition_point-start.result c.partition_point-start.ensures.partitioned parted (λ a r q k. search rules)
+    IsPartitionPoint-from_clause (λ (t : TradeRow). ltb t.match_no c.args.match_no) rows _ c.partition_point-start.ensures.partitioned parted (λ a r q k. search rules)
 
-is_end : (c : goal.After-partition_point-end) → IsEnd c.args.match_no c.args.rows.now c.partition_point-end.result
+-- the trades from a place on
+rest_is : (xs : List TradeRow) (n : ℕ) → slice_range xs n (length xs) ≡ drop n xs
+rest_is xs n = take_all (length xs - n) (drop n xs) (omega (arith, length-drop n xs))
+
+is_end : (c : goal.After-partition_point-count) → IsEnd c.args.match_no (slice_range c.args.rows.now c.partition_point-start.result (length c.args.rows.now)) c.partition_point-count.result
 is_end c =
-    let number = λ (t : TradeRow). t.match_no in
     let rows = c.args.rows.now in
-    let parted = IsPartitionedBy-leb number rows c.args.match_no (c.requires c.if-not-rising.false) in
-    IsPartitionPoint-from_clause (λ (t : TradeRow). leb t.match_no c.args.match_no) rows c.partition_point-end.result c.partition_point-end.ensures.partitioned parted (λ a r q k. search rules)
-
-pub returns-clause-order : goal.returns-clause-order
-returns-clause-order c = in_order c.args.match_no c.args.rows.now _ _ c.partition_point-start.ensures.bound (is_start c) (is_end c)
+    let start = c.partition_point-start.result in
+    let rest = slice_range rows start (length rows) in
+    let sorted = IsNonDecreasingBy-drop number start rows (c.requires c.if-not-rising.false) in
+    let parted = IsPartitionedBy-leb number rest c.args.match_no (subst (λ (ts : List TradeRow). IsNonDecreasingBy number ts) (sym (rest_is rows start)) sorted) in
+    IsPartitionPoint-from_clause (λ (t : TradeRow). leb t.match_no c.args.match_no) rest _ c.partition_point-count.ensures.partitioned parted (λ a r q k. search rules)
 
 pub returns-clause-before : goal.returns-clause-before
 returns-clause-before c =
@@ -33,4 +41,8 @@ pub returns-clause-after : goal.returns-clause-after
 returns-clause-after c =
     let m = c.args.match_no in
     let rows = c.args.rows.now in
-    all_after (IsOther m) rows _ (λ k d low high. above_other m (get_or rows k d).match_no ((is_end c).1 k d low high))
+    let start = c.partition_point-start.result in
+    let count = c.partition_point-count.result in
+    let rest = slice_range rows start (length rows) in
+    subst (λ (ts : List TradeRow). All (IsOther m) ts) (ap (drop count) (rest_is rows start) ∙ drop-drop count start rows)
+    (all_after (IsOther m) rest count (λ k d low high. above_other m (get_or rest k d).match_no ((is_end c).1 k d low high)))

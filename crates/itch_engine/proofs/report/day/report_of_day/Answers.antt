@@ -4,12 +4,6 @@ use Rattle.itch_table.proofs.Days.{length-outcomes_until}
 use Rattle.itch_engine.specs.Report.{is_refused}
 use Rattle.itch_engine.proofs.report.day.report_of_day.Goals as goal
 
-pub report_text-requires : goal.report_text-requires
-report_text-requires g c =
-    let day = c.args.day.now.payloads in
-    let all = (c.in_ok-replayed.ensures {u = tt}) in
-    omega (arith, ap length (c.deref.ensures.value ∙ all.outcomes), length-outcomes_until day (length day), all.few)
-
 pub overflow_cast-refused : goal.overflow_cast-refused
 overflow_cast-refused g c =
     let day = c.args.day.now.payloads in
@@ -18,9 +12,9 @@ overflow_cast-refused g c =
       fits = omega (
         arith,
         c.count_refused-refused.ensures,
-        ap length (c.deref-2.ensures.value ∙ all.outcomes),
-        count_by-le-length is_refused c.deref-2.result.now,
+        ap length (c.deref.ensures.value ∙ all.outcomes_are),
+        count_by-le-length is_refused c.deref.result.now,
         length-outcomes_until day (length day),
-        all.few,
+        c.requires.few,
       );
     }

@@ -26,7 +26,7 @@ invariant_of-self-2 g c =
     let added = with_row rows orders c.self.view_is c.insert.new.self.entries order.reference c.row.result c.in_ok-insert.ensures.updates.0
     ∙ ap (λ (row : OrderRow). maps.insert orders order.reference row) c.row.ensures in (
       grind (arith, common_steps, count, c.requires.few, c.in_ok-insert.ensures.len),
-      rw added (kept_insert (kept_same kept c.reserve.ensures.same) order.reference (row_of order) none c.requires.some fits c.raise.ensures),
+      rw added (kept_insert (kept_same kept c.reserve.ensures.same) order.reference (row_of order) none fits c.raise.ensures),
     )
 
 pub returns-clause-ok : goal.returns-clause-ok

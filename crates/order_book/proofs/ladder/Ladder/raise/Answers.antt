@@ -18,7 +18,7 @@ pub returns-in-Ok-clause-levels : goal.returns-in-Ok-clause-levels
 returns-in-Ok-clause-levels g c =
     let found = rw c.deref.ensures.value at c.in-Ok.ensures.found in
     rw (← c.self.view_is, ← c.from-shares.ensures) (
-    found_raised c.self.inside.side c.self.inside.levels.items c.args.price c.in-Ok.index c.index_mut.result.now c.self.invariant found c.index_mut.ensures.value c.from-shares.result
+    found_raised c.self.inside.side c.self.inside.levels.items c.args.price c.in-Ok.index c.index_mut.result.now c.self.invariant found c.index_mut.ensures.value c.from-shares.result (omega (arith, c.requires.some, c.from-shares.ensures))
     )
 
 pub invariant_of-self-in-Err : goal.invariant_of-self-in-Err
@@ -32,5 +32,5 @@ returns-in-Err-clause-levels g c =
     let gap = rw c.deref.ensures.value at c.in-Err.ensures.missing in
     let inserted = rw c.unwrap.ensures at c.insert.ensures.items in
     rw (inserted, ← c.self.view_is, ← c.from-shares.ensures) (
-    missing_raised c.self.inside.side c.self.inside.levels.items c.args.price c.in-Err.index c.self.invariant gap c.from-shares.result
+    missing_raised c.self.inside.side c.self.inside.levels.items c.args.price c.in-Err.index c.self.invariant gap c.from-shares.result (omega (arith, c.requires.some, c.from-shares.ensures))
     )
