@@ -1,7 +1,7 @@
 -- All workers of a day, and how far each has come. Of this project.
-use Rattle.std.specs.Prelude.{◌≡◌, ◌+◌, ◌<◌, ◌%◌, ℕ, List, Option, Some, None, length, slice_index, slice_index_or, slice_set}
+use Rattle.std.specs.Prelude.{◌≡◌, ◌+◌, ◌<◌, ℕ, List, Option, Some, None, length, slice_index, slice_index_or, slice_set}
 use Rattle.day_core.specs.declared.merging.Piece.{Piece}
-use Rattle.day_core.specs.Owners.{own_of, owner, piece_of}
+use Rattle.day_core.specs.Owners.{own_of, piece_of}
 use Rattle.day_core.specs.Standing.{Standing}
 
 -- a day, and how many of its own messages each of its workers has done

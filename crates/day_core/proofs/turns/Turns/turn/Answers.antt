@@ -1,9 +1,8 @@
-use Rattle.std.proofs.Common.{◌≡◌, List, map, set, ap, sym, ◌∙◌, subst, arith}
+use Rattle.std.proofs.Common.{set, ap, ◌∙◌, subst, arith}
 use Rattle.std.proofs.lemmas.List.{set-get_or}
 use Rattle.std.proofs.lemmas.Result.{IfErr-weaker, IfOk-weaker}
 use Rattle.day_core.specs.Cells.{AnswersTurn}
 use Rattle.day_core.specs.Crew.{Crew, TurnsWorker}
-use Rattle.day_core.specs.Standing.{Standing}
 use Rattle.day_core.proofs.Crewing.{crew_of, crew_turned}
 use Rattle.day_core.proofs.turns.Turns.turn.Goals as goal
 
