@@ -3,7 +3,7 @@ ghost use Rattle.std.specs.Prelude.{◌≡◌, IfOk};
 
 use crate::days::{parts_of, two_stocks};
 use binaryfile::Day;
-use day_core::{Parts, Piece, Replayed, Runner, Turned, replay_parts};
+use day_core::{Parts, Piece, Replayed, Runner, Turned, Turns, replay_parts};
 use itch_table::{Fault, Outcome, Top};
 use refusing::{Refusal, Refusing};
 use std::alloc::Allocator;
@@ -204,4 +204,53 @@ fn a_turn_without_memory_is_tried_again(rt: HostRuntime) -> Result<(), Fail> {
         &day,
         turned(5, Outcome::Applied, 0),
     )
+}
+
+// Takes a turn of one of the day's workers, which does this message.
+fn take_of_day<'d, A: Allocator + Copy>(
+    turns: &mut Turns<'d, A>,
+    worker: u32,
+    message: u32,
+    outcome: Outcome,
+) -> Result<(), Fail> {
+    let answer = turns.turn(worker)?;
+    same("a turn", &answer, &Some(Piece { message, outcome }))
+}
+
+// Looks at stocks 1 and 2, which show these words.
+fn look_at_both<'d, A: Allocator + Copy>(
+    case: &str,
+    turns: &Turns<'d, A>,
+    one: [u64; 4],
+    two: [u64; 4],
+) -> Result<(), Fail> {
+    same(case, &(turns.look(1), turns.look(2)), &(one, two))
+}
+
+#[test]
+fn turns_of_a_day_come_in_any_order(rt: HostRuntime) -> Result<(), Fail> {
+    let day = two_stocks(rt.alloc())?;
+    let mut turns = Turns::new(&rt, rt.alloc(), &day, 2).map_err(|_| Fail::new("no turns"))?;
+    same("a turn of no worker", &turns.turn(2)?, &None)?;
+    look_at_both("before the first turn", &turns, [0; 4], [0; 4])?;
+    take_of_day(&mut turns, 1, 1, Outcome::Applied)?;
+    take_of_day(&mut turns, 1, 3, Outcome::Applied)?;
+    let one = [3, 100 << 32, 10, 0];
+    look_at_both("one worker ahead", &turns, one, [0; 4])?;
+    take_of_day(&mut turns, 0, 2, Outcome::Applied)?;
+    look_at_both("a stock without orders", &turns, one, [2, 0, 0, 0])?;
+    take_of_day(&mut turns, 0, 4, Outcome::Applied)?;
+    let two = [4, 200 << 32, 20, 0];
+    look_at_both("a bid each", &turns, one, two)?;
+    same("a turn of a worker that is through", &turns.turn(0)?, &None)?;
+    take_of_day(&mut turns, 1, 5, Outcome::Applied)?;
+    look_at_both("the first bid deleted", &turns, [5, 0, 0, 0], two)?;
+    take_of_day(&mut turns, 1, 6, Outcome::Refused(Fault::NoDirectory))?;
+    take_of_day(&mut turns, 1, 7, Outcome::Refused(Fault::ReferenceUnknown))?;
+    look_at_both("a refused delete", &turns, [7, 0, 0, 0], two)?;
+    same("the words of stock 3", &turns.look(3), &[6, 0, 0, 0])?;
+    same("the words of no stock", &turns.look(9), &[0; 4])?;
+    let steps = turns.stock(2).map(|stock| stock.steps());
+    same("the steps of stock 2", &steps, &Some(2))?;
+    same("no stock", &turns.stock(9).is_none(), &true)
 }

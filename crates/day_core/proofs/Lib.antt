@@ -9,3 +9,4 @@ mod Running
 mod Whole
 mod Crews
 mod Showing
+mod Crewing

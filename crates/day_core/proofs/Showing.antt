@@ -1,5 +1,5 @@
 -- What the cells of a worker's stocks show after one message more.
-use Rattle.std.proofs.Common.{◌≡◌, ℕ, zero, suc, ◌+◌, ◌<◌, ◌≤◌, List, [], ◌∷◌, length, get_or, set, take, refl, sym, ap, subst, ◌∙◌, arith, inl, inr}
+use Rattle.std.proofs.Common.{◌≡◌, ℕ, zero, suc, ◌+◌, ◌<◌, ◌≤◌, List, [], ◌∷◌, length, get_or, map, replicate, set, take, refl, sym, ap, subst, ◌∙◌, arith, inl, inr}
 use Rattle.std.specs.List.{Contains}
 use Rattle.std.proofs.lemmas.Bool.{cases_Bool, cases_lt}
 use Rattle.std.proofs.lemmas.List.{get_or-map, take_all}
@@ -80,3 +80,15 @@ pub looks_there : (s : Standing) (cells : List (List ℕ)) (locate place : ℕ) 
 looks_there s cells locate place d words show listed is at =
     at ∙ ap (λ (cs : List (List ℕ)). get_or cs place d) show ∙ get_or-map (λ l. shown s.day s.workers l s.done) (own_stocks s) place 0 d listed
     ∙ ap (λ (l : ℕ). shown s.day s.workers l s.done) is
+
+pub all_same : {X Y : Type 0} (f : X → Y) (y : Y) → ((x : X) → f x ≡ y) → (xs : List X) → replicate (length xs) y ≡ map f xs
+all_same f y same [] = refl
+all_same f y same (x ∷ xs) = λ i. sym (same x) i ∷ all_same f y same xs i
+
+-- before the first turn each stock's cell is four zeros
+pub cells_first : (s : Standing) (cells : List (List ℕ)) → s.done ≡ 0 → cells ≡ replicate (length (own_stocks s)) (0 ∷ 0 ∷ 0 ∷ 0 ∷ []) → CellsShow s cells
+cells_first s cells none zeros =
+    zeros ∙ all_same (λ locate. shown s.day s.workers locate s.done) (0 ∷ 0 ∷ 0 ∷ 0 ∷ []) first (own_stocks s)
+  where
+    first : (locate : ℕ) → shown s.day s.workers locate s.done ≡ 0 ∷ 0 ∷ 0 ∷ 0 ∷ []
+    first locate = let nowhere = progress_first s.day s.workers locate in rw (none, nowhere, top_after-none s.day locate) refl

@@ -1,4 +1,5 @@
 pub mod Cells
+pub mod Crew
 pub mod Dealing
 pub mod Merging
 pub mod Owners

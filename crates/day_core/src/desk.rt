@@ -41,6 +41,16 @@ fn to_words(message: u32, best: &Top) -> [u64; 4]
 }
 
 impl<A: Allocator + Copy> Desk<A> {
+    /// A worker that has done nothing yet. An error says that memory was refused.
+    pub fn new(alloc: A, parts: &Parts<A>, worker: u32) -> Result<Desk<A>, AllocError>
+        requires { worker < parts.now.workers }
+        ensures { IfOk result (λ desk. desk ≡ first_standing parts.now worker) }
+    {
+        let runner = Runner::new(alloc, parts, worker)?;
+        let cells = vec![in alloc; [0; 4]; runner.stock_count()]?;
+        Ok(Desk { runner, cells })
+    }
+
     /// Does the worker's next message, sets the cell of its stock, and answers what became of it; none, with nothing
     /// changed, exactly where the worker is through. An error says that memory was refused, and leaves all as it was.
     pub fn turn(&mut self, day: &Day<A>) -> Result<Option<Piece>, AllocError>
@@ -64,6 +74,17 @@ impl<A: Allocator + Copy> Desk<A> {
         match self.runner.place_of(locate) {
             Some(place) => self.cells[place],
             None => [0; 4],
+        }
+    }
+
+    /// The machine of one of the worker's stocks; none where it isn't one of them.
+    pub fn stock(&self, locate: u16) -> Option<&Stock<A>>
+        ensures { MatchOption result (¬ Contains (own_stocks self.now) locate)
+            (λ stock. stock.now ≡ machine_at self.now locate) }
+    {
+        match self.runner.place_of(locate) {
+            Some(place) => Some(self.runner.stock_at(place)),
+            None => None,
         }
     }
 }

@@ -9,9 +9,11 @@ mod places;
 mod replaying;
 mod runner;
 mod splitting;
+mod turns;
 
 pub use merging::{MergeFault, Piece, merge};
 pub use parts::Parts;
 pub use replaying::{Replayed, replay_parts};
 pub use runner::{Runner, Turned};
 pub use splitting::{SplitFault, split};
+pub use turns::Turns;

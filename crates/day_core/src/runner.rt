@@ -156,6 +156,13 @@ impl<A: Allocator + Copy> Runner<A> {
 }
 
 impl<A: Allocator> Runner<A> {
+    /// How many stocks the worker has.
+    pub fn stock_count(&self) -> usize
+        ensures { result ≡ length (own_stocks self.now) }
+    {
+        self.stocks.len()
+    }
+
     /// The machine of one of the worker's stocks, by its place among them.
     pub fn stock_at(&self, place: usize) -> &Stock<A>
         requires { place < length (own_stocks self.now) }

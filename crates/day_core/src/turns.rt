@@ -1,0 +1,113 @@
+//! All workers of a day without threads, in any order.
+ghost use Rattle.std.specs.Prelude.{◌≡◌, ◌%◌, ◌<◌, ◌⊎◌, ◌↔◌, IfOk, IsErrOf, MatchOption, OnErr, map, replicate, slice_index};
+ghost use Rattle.std.specs.List.{Contains, range_with_len};
+ghost use Rattle.itch_table.specs.Shows.{locates_of_day};
+ghost use Rattle.day_core.specs.Owners.{machine_of, progress};
+ghost use Rattle.day_core.specs.Standing.{first_standing};
+ghost use Rattle.day_core.specs.Cells.{shown};
+ghost use Rattle.day_core.specs.Crew.{TurnsWorker, workers_of};
+
+use crate::desk::Desk;
+use crate::merging::Piece;
+use crate::parts::Parts;
+use crate::splitting::{SplitFault, split};
+use binaryfile::Day;
+use std::alloc::{AllocError, Allocator};
+use std::marker::Model;
+use std::thread::Threads;
+use stock_machine::Stock;
+
+/// All workers of a day without threads, whose turns come in any order, and the words that screens read of each stock.
+///
+/// It is seen as the day, and how many of its own messages each worker has done. All is of this project.
+#[derive(Drop)]
+pub struct Turns<'d, A: Allocator> {
+    day: &'d Day<A>,
+    desks: Vec<Desk<A>, A>,
+}
+
+impl<'d, A: Allocator> Model for Turns<'d, A> {
+    ghost use Rattle.std.specs.Prelude.{map};
+    ghost use Rattle.day_core.specs.Crew.{AreDesks, Crew};
+
+    ghost Value = { Crew };
+
+    ghost view = { λ t. record { day = t.day.now.payloads; done = map (λ d. d.done) t.desks.items } };
+
+    ghost invariant = { λ t. AreDesks t.day.now.payloads t.desks.items };
+}
+
+// The workers of a day before their first turn, in the order of their numbers.
+fn new_desks<A: Allocator + Copy>(alloc: A, parts: &Parts<A>) -> Result<Vec<Desk<A>, A>, AllocError>
+    ensures desks { IfOk result (λ desks.
+        desks.items ≡ map (first_standing parts.now) (range_with_len 0 parts.now.workers)) }
+    ensures some { 0 < parts.now.workers }
+{
+    let workers = parts.workers();
+    let mut desks = Vec::with_capacity(alloc, workers as usize)?;
+    for worker in 0..workers {
+        desks.push(Desk::new(alloc, parts, worker)?)?;
+    }
+    Ok(desks)
+}
+
+impl<'d, A: Allocator + Copy + Send + Sync> Turns<'d, A> {
+    /// The workers of a day, from 1 to 64, before their first turn.
+    ///
+    /// [`SplitFault::Workers`] where the number is another, which is looked at first, and else [`SplitFault::Memory`]
+    /// where memory is refused.
+    pub fn new<R: Threads + Sync>(
+        rt: &R,
+        alloc: A,
+        day: &'d Day<A>,
+        workers: u32,
+    ) -> Result<Turns<'d, A>, SplitFault>
+        ensures new { IfOk result (λ turns.
+            turns ≡ record { day = day.now.payloads; done = replicate workers 0 }) }
+        ensures workers { IsErrOf result SplitFault.Workers ↔ ((workers ≡ 0) ⊎ (64 < workers)) }
+    {
+        let parts = match split(rt, alloc, day, workers) {
+            Ok(parts) => parts,
+            Err(fault) => return Err(fault),
+        };
+        let desks = new_desks(alloc, &parts)?;
+        Ok(Turns { day, desks })
+    }
+}
+
+impl<'d, A: Allocator + Copy> Turns<'d, A> {
+    /// Does the next message of a worker, sets the words of its stock, and answers what became of it; none, with nothing
+    /// changed, exactly where the worker is through or isn't one. An error says that memory was refused, and leaves all
+    /// as it was.
+    pub fn turn(&mut self, worker: u32) -> Result<Option<Piece>, AllocError>
+        ensures turned { IfOk result (TurnsWorker self.old self.new worker) }
+        ensures err { OnErr result (self.new ≡ self.old) }
+    {
+        let place = worker as usize;
+        if place >= self.desks.len() {
+            return Ok(None);
+        }
+        self.desks[place].turn(self.day)
+    }
+
+    /// The four words that a screen reads of a stock: those of the last of its messages that its worker has done; four
+    /// zeros before the first, and where no message of the day is of the stock.
+    pub fn look(&self, locate: u16) -> [u64; 4]
+        ensures { result ≡ shown self.now.day (workers_of self.now) locate
+            (slice_index self.now.done (locate % workers_of self.now)) }
+    {
+        let owner = usize::from(locate) % self.desks.len();
+        self.desks[owner].look(locate)
+    }
+
+    /// The machine of a stock after the last of its messages that its worker has done; none where no message of the day
+    /// is of the stock.
+    pub fn stock(&self, locate: u16) -> Option<&Stock<A>>
+        ensures { MatchOption result (¬ Contains (locates_of_day self.now.day) locate) (λ stock.
+            stock.now ≡ machine_of self.now.day locate (progress self.now.day (workers_of self.now) locate
+            (slice_index self.now.done (locate % workers_of self.now)))) }
+    {
+        let owner = usize::from(locate) % self.desks.len();
+        self.desks[owner].stock(locate)
+    }
+}
