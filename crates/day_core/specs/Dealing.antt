@@ -11,13 +11,14 @@ pub record AreCounts (day : List (List ℕ)) (from to : ℕ) (counts : List ℕ)
   pub long : length counts ≡ 0x1_0000
   pub each : (locate : ℕ) → locate < 0x1_0000 → slice_index counts locate + steps_of day locate from ≡ steps_of day locate to
 
--- where a piece of a day begins, by its number from 0, of 16 that make the day
+-- where a chunk of a day begins, by its number from 0, of 16 that make the day
 abbrev pub cut : ℕ → ℕ → ℕ
-cut messages piece = min (piece * (messages / 16 + 1)) messages
+cut messages chunk = min (chunk * (messages / 16 + 1)) messages
 
--- how many messages each stock has in a piece of a day, by its locate code
-abbrev pub AreCountsOfPiece : List (List ℕ) → ℕ → List ℕ → Type 0
-AreCountsOfPiece day piece counts = AreCounts day (cut (length day) piece) (cut (length day) (piece + 1)) counts
+-- how many messages each stock has in a chunk of a day, by its locate code
+abbrev pub AreCountsOfChunk : List (List ℕ) → ℕ → List ℕ → Type 0
+AreCountsOfChunk day chunk counts =
+    AreCounts day (cut (length day) chunk) (cut (length day) (chunk + 1)) counts
 
 -- those of the first messages that are of no stock, with their outcomes, rising
 abbrev pub fixed_until : List (List ℕ) → ℕ → List Piece
