@@ -14,7 +14,7 @@ use Rattle.itch_table.specs.Parts.{part}
 use Rattle.itch_table.specs.Projection.{is_of_stock, steps_of}
 use Rattle.itch_table.proofs.StockDays.{steps-next, steps-none}
 use Rattle.itch_table.specs.Shows.{locates_of_day}
-use Rattle.day_core.specs.Dealing.{AreCounts, AreCountsOfPiece, cut}
+use Rattle.day_core.specs.Dealing.{AreCounts, AreCountsOfChunk, cut}
 
 -- no more messages than there are
 steps_few : (day : List (List ℕ)) (locate n : ℕ) → steps_of day locate n ≤ length day
@@ -74,12 +74,7 @@ module _ (day : List (List ℕ)) (from n : ℕ) (counts : List ℕ) (before : Ar
         omega (arith, next code false off low);
   }
 
--- none of no messages
-pub no_messages : (day : List (List ℕ)) (from : ℕ) (counts : List ℕ) → length counts ≡ 0x1_0000 → ((k : ℕ) → k < 0x1_0000 → get_or counts k 0 ≡ 0)
-    → AreCounts day from from counts
-no_messages day from counts long none = record { long = long; each = λ locate lt. omega (arith, none locate lt) }
-
--- ---- two stretches, one after the other
+-- ---- the counts up to a message, and from it on
 
 module _ (day : List (List ℕ)) (from middle to : ℕ) (counts more : List ℕ) (before : AreCounts day from middle counts) (then : AreCounts day middle to more) where
   pub sums_fit : (k : ℕ) → k < 0x1_0000 → get_or counts k 0 + get_or more k 0 ≤ length day
@@ -89,7 +84,7 @@ module _ (day : List (List ℕ)) (from middle to : ℕ) (counts more : List ℕ)
       → AreCounts day from to both
   sums_are both long sums = record { long = long; each = λ k lt. omega (arith, sums k lt, before.each k lt, then.each k lt) }
 
--- ---- the pieces of a day
+-- ---- the chunks of a day
 
 -- the item that stands beside a number of a range
 beside : {Y : Type 0} (R : ℕ → Y → Type 0) (a n : ℕ) (ys : List Y) (i : ℕ) (d : Y) → AllZip R (range_with_len a n) ys → i < length ys → R (a + i) (get_or ys i d)
@@ -102,28 +97,28 @@ beside R a (suc n) (y ∷ ys) (suc i) d zip lt =
     subst (λ (k : ℕ). R k (get_or ys i d)) same (beside R (a + 1) n ys i d zip.1 (omega arith))
 
 module _ {V E : Type 0} (items : V → List ℕ) (day : List (List ℕ)) where
-  -- what is found in a piece are its counts
+  -- what is found in a chunk are its counts
   abbrev IsFound : ℕ → Result V E → Type 0
-  IsFound piece found = IfOk found (λ (v : V). AreCountsOfPiece day piece (items v))
+  IsFound chunk found = IfOk found (λ (v : V). AreCountsOfChunk day chunk (items v))
 
   abbrev AreFound : List (Result V E) → Type 0
-  AreFound pieces = AllZip IsFound (range_with_len 0 16) pieces
+  AreFound chunks = AllZip IsFound (range_with_len 0 16) chunks
 
-  pub found_from : (pieces given : List (Result V E)) (places : List ℕ) → AllZip IsFound places given → places ≡ range_with_len 0 16 → pieces ≡ given → AreFound pieces
-  found_from pieces given places found all is = subst (λ (rs : List (Result V E)). AreFound rs) (sym is) (subst (λ (ps : List ℕ). AllZip IsFound ps given) all found)
+  pub found_from : (chunks given : List (Result V E)) (places : List ℕ) → AllZip IsFound places given → places ≡ range_with_len 0 16 → chunks ≡ given → AreFound chunks
+  found_from chunks given places found all is = subst (λ (rs : List (Result V E)). AreFound rs) (sym is) (subst (λ (ps : List ℕ). AllZip IsFound ps given) all found)
 
-  -- the counts of the next piece, as a slice that is read from the list of them
-  pub next_piece : (pieces shown : List (Result V E)) (i : ℕ) (d : Result V E) (v : V) (counts : List ℕ) → AreFound pieces → shown ≡ pieces → i < length shown
-      → d ≡ get_or shown i d → d ≡ Ok v → counts ≡ items v → AreCountsOfPiece day i counts
-  next_piece pieces shown i d v counts found same lt here is read =
+  -- the counts of the next chunk, as a slice that is read from the list of them
+  pub next_chunk : (chunks shown : List (Result V E)) (i : ℕ) (d : Result V E) (v : V) (counts : List ℕ) → AreFound chunks → shown ≡ chunks → i < length shown
+      → d ≡ get_or shown i d → d ≡ Ok v → counts ≡ items v → AreCountsOfChunk day i counts
+  next_chunk chunks shown i d v counts found same lt here is read =
       let at = beside IsFound 0 16 shown i d (subst (λ (rs : List (Result V E)). AreFound rs) (sym same) found) lt in
       let number : 0 + i ≡ i = omega arith in
       rw read (rw (number, ← here, is) at at)
 
-  -- as many pieces as there are make the day
-  pub pieces_all : (pieces shown : List (Result V E)) (i : ℕ) → AreFound pieces → shown ≡ pieces → i ≡ length shown → cut (length day) i ≡ length day
-  pieces_all pieces shown i found same is =
-      let long = AllZip-long IsFound (range_with_len 0 16) pieces found in
+  -- as many chunks as there are make the day
+  pub chunks_all : (chunks shown : List (Result V E)) (i : ℕ) → AreFound chunks → shown ≡ chunks → i ≡ length shown → cut (length day) i ≡ length day
+  chunks_all chunks shown i found same is =
+      let long = AllZip-long IsFound (range_with_len 0 16) chunks found in
       let all : i ≡ 16 = is ∙ ap length same ∙ long in
       rw all (omega arith)
 

@@ -1,19 +1,18 @@
 -- The workers' stocks after the whole day, and a worker's way through its messages.
-use Rattle.std.proofs.Common.{◌≡◌, ℕ, ◌+◌, ◌<◌, ◌≤◌, List, [], ◌∷◌, ◌++◌, append-nil, append_assoc, length, Bool, cond, get_or, set, map, take, drop, map-id, refl, sym, ap, ◌∙◌, arith, inl, inr}
+use Rattle.std.proofs.Common.{◌≡◌, ℕ, ◌+◌, ◌<◌, ◌≤◌, List, [], ◌∷◌, ◌++◌, append-nil, length, Bool, cond, get_or, set, map, take, drop, map-id, refl, sym, ap, ◌∙◌, arith, inl, inr}
 use Rattle.std.specs.List.{flat_map, range_with_len}
 use Rattle.std.proofs.lemmas.Bool.{cases_eq, cases_lt, eq-eqb, ne_eqb}
 use Rattle.std.proofs.lemmas.Grind.{flat_map-append}
-use Rattle.std.proofs.lemmas.List.{drop_more, get_or-set_same, get_or-set_other, get_or_append_left, get_or_push, get_or-map, length-drop, length-map, length-set, length_push, map-append, map-set, take_all, take_more}
+use Rattle.std.proofs.lemmas.List.{drop_more, get_or-set_same, get_or-set_other, get_or_append_left, get_or_push, get_or-map, length-drop, length-map, length-set, length_push, map-set}
 use Rattle.std.proofs.lemmas.List.FromFn.{map-range_with_len_more}
 use Rattle.std.proofs.lemmas.Nat.{mod_below}
 use Rattle.itch_table.specs.Shows.{locates_of_day}
 use Rattle.stock_machine.specs.StockRows.{StockMachine}
 use Rattle.day_core.specs.declared.merging.Piece.{Piece}
-use Rattle.day_core.specs.declared.runner.Turned.{Turned}
 use Rattle.day_core.specs.Owners.{machine_of, own_locates, own_of, owner, piece_of, progress}
 use Rattle.day_core.specs.Replaying.{AreCrews, codes_by, last_machine, pieces_by, pieces_until}
 use Rattle.day_core.specs.Splitting.{Split}
-use Rattle.day_core.specs.Standing.{IsTurned, Standing, machine_at, own_messages, own_stocks}
+use Rattle.day_core.specs.Standing.{Standing, machine_at, own_messages, own_stocks}
 use Rattle.day_core.proofs.Progress.{machine_last}
 use Rattle.day_core.proofs.Running.{code_owner, codes_are, map_same}
 
@@ -32,30 +31,6 @@ does_none first before none = record {
   noted = rw none (sym (append-nil before));
 }
 
-pub does_more : (first old new : Standing) (before pieces : List Piece) (turned : Turned) → HasDone first old before pieces → IsTurned old turned → new ≡ record old { done = old.done + 1 }
-    → HasDone first new before (pieces ++ turned.piece ∷ [])
-does_more first old new before pieces turned has is moved =
-    let own = own_messages first in
-    let list : own_messages old ≡ own = ap own_messages has.same in
-    let number : new.done ≡ old.done + 1 = ap (λ (s : Standing). s.done) moved in
-    let lt : old.done < length own = omega (arith, is.more, ap length list) in
-    let day : old.day ≡ first.day = ap (λ (s : Standing). s.day) has.same in
-    let piece : turned.piece ≡ piece_of first.day (get_or own old.done 0) =
-    is.piece ∙ ap (λ (xs : List ℕ). piece_of old.day (get_or xs old.done 0)) list ∙ ap (λ (d : List (List ℕ)). piece_of d (get_or own old.done 0)) day
-    in
-    record {
-      same =
-          moved ∙ ap (λ (s : Standing). let next : Standing = record s { done = s.done + 1 } in next) has.same
-          ∙ ap (λ (d : ℕ). let next : Standing = record first { done = d } in next) (sym number);
-      within = omega (arith, number, lt);
-      noted =
-          ap (λ (ps : List Piece). ps ++ turned.piece ∷ []) has.noted
-          ∙ ap (λ (p : Piece). (before ++ map (piece_of first.day) (take old.done own)) ++ p ∷ []) piece
-          ∙ append_assoc before _ _
-          ∙ ap (λ (ps : List Piece). before ++ ps) (sym (ap (map (piece_of first.day)) (take_more own old.done 0 lt) ∙ map-append (piece_of first.day) (take old.done own) _))
-          ∙ ap (λ (k : ℕ). before ++ map (piece_of first.day) (take k own)) (sym number);
-    }
-
 -- where it is through its stocks are those after the day
 through : (s : Standing) → s.done ≡ length (own_messages s) → map (machine_at s) (own_stocks s) ≡ map (last_machine s.day) (own_stocks s)
 through s is = map_same (machine_at s) (last_machine s.day) (own_stocks s) (λ k lt.
@@ -68,11 +43,6 @@ pub stocks_through : (first now : Standing) (before pieces : List Piece) → Has
     → map (machine_at now) (own_stocks now) ≡ map (last_machine first.day) (own_stocks first)
 stocks_through first now before pieces has is =
     through now is ∙ ap (λ (s : Standing). map (last_machine s.day) (own_stocks s)) has.same
-
-pub noted_through : (first now : Standing) (before pieces : List Piece) → HasDone first now before pieces → now.done ≡ length (own_messages now)
-    → pieces ≡ before ++ map (piece_of first.day) (own_messages first)
-noted_through first now before pieces has is =
-    has.noted ∙ ap (λ (ns : List ℕ). before ++ map (piece_of first.day) ns) (take_all now.done (own_messages first) (omega (arith, is, ap (λ (s : Standing). length (own_messages s)) has.same)))
 
 -- ---- all workers, one after another
 

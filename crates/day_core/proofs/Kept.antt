@@ -1,7 +1,6 @@
 -- What a test keeps of a range of numbers.
 use Rattle.std.proofs.Common.{◌≡◌, ℕ, zero, suc, ◌+◌, ◌-◌, ◌<◌, ◌≤◌, List, [], ◌∷◌, length, Bool, true, false, cond, get_or, filter, take, refl, ap, arith}
 use Rattle.std.specs.List.{range_with_len}
-use Rattle.std.specs.List.Sorted.{IsStrictlyIncreasing}
 use Rattle.std.proofs.lemmas.Bool.{cases_Bool}
 use Rattle.std.proofs.lemmas.List.Elements.{All-filter, All-from_get_or}
 use Rattle.std.proofs.lemmas.List.FromFn.{get_or-range_with_len, length-range_with_len}
@@ -15,10 +14,10 @@ kept_within p a n i d lt =
     let here = get_or-range_with_len a n k 0 (omega (arith, length-range_with_len a n)) in
     (omega (arith, here), omega (arith, here, below, length-range_with_len a n)))) i d lt
 
-pub range_rises : (a n : ℕ) → IsStrictlyIncreasing (range_with_len a n)
-range_rises a n k lt =
-    let short : k + 1 < n = omega (arith, lt, length-range_with_len a n) in
-    omega (arith, get_or-range_with_len a n k 0 (omega arith), get_or-range_with_len a n (k + 1) 0 short)
+-- a test that gives true nowhere keeps nothing
+pub kept_none : (p : ℕ → Bool) (xs : List ℕ) → ((x : ℕ) → p x ≡ false) → filter p xs ≡ []
+kept_none p [] never = refl
+kept_none p (x ∷ xs) never = rw (never x) (kept_none p xs never)
 
 -- those before one of the numbers kept are all that are kept below it
 pub kept_before : (p : ℕ → Bool) (a n i d : ℕ) → i < length (filter p (range_with_len a n))

@@ -1,14 +1,17 @@
 -- How far a stock is once its worker has done some of its messages.
 use Rattle.std.proofs.Common.{◌≡◌, ℕ, zero, suc, ◌+◌, ◌-◌, ◌<◌, ◌≤◌, List, [], ◌∷◌, ◌++◌, length, Bool, true, false, cond, get_or, filter, take, refl, sym, ap, subst, ◌∙◌, arith, append-nil, inl, inr}
 use Rattle.std.specs.List.{range_with_len}
-use Rattle.std.proofs.lemmas.Bool.{cases_Bool, eq-eqb}
+use Rattle.std.proofs.lemmas.Bool.{cases_Bool, eq-eqb, ne_eqb}
 use Rattle.std.proofs.lemmas.List.{take_all}
 use Rattle.std.proofs.lemmas.List.Elements.{filter_more, filter_passes}
+use Rattle.std.proofs.lemmas.Nat.{mod_below}
+use Rattle.itch_table.specs.declared.outcome.Part.{Part}
+use Rattle.itch_table.specs.declared.outcome.Part.TheVariants.{Locate, Nowhere}
 use Rattle.itch_table.specs.After.{after}
 use Rattle.itch_table.specs.Projection.{is_locate, is_of_stock, only, steps_of}
 use Rattle.itch_table.proofs.StockDays.{other_next, other_part, own_part, steps-next}
 use Rattle.day_core.specs.Owners.{is_own, last_or, machine_of, of_stock, own_of, owner, part_at, progress}
-use Rattle.day_core.proofs.Kept.{kept_before, kept_narrower, kept_within}
+use Rattle.day_core.proofs.Kept.{kept_before, kept_narrower, kept_none, kept_within}
 use Rattle.day_core.proofs.Ranges.{kept_more}
 
 -- a number of a worker's list is that of a message of one of its stocks
@@ -23,6 +26,16 @@ pub own_passes : (workers worker : ℕ) (day : List (List ℕ)) (i d : ℕ) → 
     → is_own workers worker (part_at day (get_or (own_of workers worker day) i d)) ≡ true
 unfolding own_of
 own_passes workers worker day i d lt = filter_passes (λ n. is_own workers worker (part_at day n)) (range_with_len 1 (length day)) i d lt
+
+-- a number that is no worker's owns nothing
+is_own-none : (workers worker : ℕ) (of : Part) → 0 < workers → workers ≤ worker → is_own workers worker of ≡ false
+is_own-none workers worker (Locate locate) some past = ne_eqb _ _ (λ same. omega (arith, same, mod_below locate workers some))
+is_own-none workers worker (Nowhere fixed) some past = refl
+
+pub own_none : (workers worker : ℕ) (day : List (List ℕ)) → 0 < workers → workers ≤ worker → own_of workers worker day ≡ []
+unfolding own_of
+own_none workers worker day some past =
+    kept_none (λ n. is_own workers worker (part_at day n)) (range_with_len 1 (length day)) (λ n. is_own-none workers worker (part_at day n) some past)
 
 -- a stock's machine stays as it is while another's message comes
 pub machine_stays : (day : List (List ℕ)) (locate n : ℕ) → is_of_stock locate (get_or day n []) ≡ false → machine_of day locate (n + 1) ≡ machine_of day locate n

@@ -9,7 +9,8 @@ use Rattle.day_core.specs.Standing.{Standing, own_messages, own_stocks}
 abbrev pub words_at : List (List ℕ) → ℕ → ℕ → List ℕ
 words_at day locate n = words_of n (top_after day locate n)
 
--- the words of a stock once its worker has done some of its messages: those of the last message of the stock among them
+-- the words of a stock once its worker has done some of its messages: those of the last message of the stock
+-- among them
 abbrev pub shown : List (List ℕ) → ℕ → ℕ → ℕ → List ℕ
 shown day workers locate done = words_at day locate (progress day workers locate done)
 
@@ -21,5 +22,6 @@ CellsShow s cells = cells ≡ map (λ locate. shown s.day s.workers locate s.don
 abbrev pub AnswersTurn : Standing → Standing → Option Piece → Type 0
 AnswersTurn old new None = (old.done ≡ length (own_messages old)) × (new ≡ old)
 AnswersTurn old new (Some piece) =
-    (old.done < length (own_messages old)) × (piece ≡ piece_of old.day (slice_index (own_messages old) old.done))
+    (old.done < length (own_messages old))
+    × (piece ≡ piece_of old.day (slice_index (own_messages old) old.done))
     × (new ≡ record old { done = old.done + 1 })

@@ -1,5 +1,5 @@
--- Which worker each message of a day belongs to, and how far a stock is once its worker has done some of its messages.
--- All is of this project.
+-- Which worker each message of a day belongs to, and how far a stock is once its worker has done some of its
+-- messages. All is of this project.
 use Rattle.std.specs.Prelude.{◌==◌, ◌%◌, ℕ, Bool, true, false, List, [], ◌∷◌, length, map, filter, take}
 use Rattle.std.specs.List.{range_with_len}
 use Rattle.itch_table.specs.declared.outcome.Part.{Part}
@@ -26,7 +26,8 @@ is_own workers worker (Nowhere fixed) = false
 
 -- those of the first messages that belong to a worker, by their numbers, rising
 abbrev pub own_until : ℕ → ℕ → List (List ℕ) → ℕ → List ℕ
-own_until workers worker day count = filter (λ n. is_own workers worker (part_at day n)) (range_with_len 1 count)
+own_until workers worker day count =
+    filter (λ n. is_own workers worker (part_at day n)) (range_with_len 1 count)
 
 -- a worker's messages, by their numbers, rising
 unfoldable pub own_of : ℕ → ℕ → List (List ℕ) → List ℕ
@@ -47,7 +48,8 @@ is_nowhere (Nowhere fixed) = true
 
 -- the messages of no stock with their outcomes, rising
 unfoldable pub fixed_pieces : List (List ℕ) → List Piece
-fixed_pieces day = map (piece_of day) (filter (λ n. is_nowhere (part_at day n)) (range_with_len 1 (length day)))
+fixed_pieces day =
+    map (piece_of day) (filter (λ n. is_nowhere (part_at day n)) (range_with_len 1 (length day)))
 
 -- ---- how far a stock is
 
@@ -62,8 +64,13 @@ of_stock day locate numbers = filter (λ n. is_locate locate (part_at day n)) nu
 
 -- the last message of a stock among the first messages that its owner has done, or 0
 unfoldable pub progress : List (List ℕ) → ℕ → ℕ → ℕ → ℕ
-progress day workers locate done = last_or 0 (of_stock day locate (take done (own_of workers (owner workers locate) day)))
+progress day workers locate done =
+    last_or 0 (of_stock day locate (take done (own_of workers (owner workers locate) day)))
 
 -- a stock's machine after the first n messages of a day
 abbrev pub machine_of : List (List ℕ) → ℕ → ℕ → StockMachine
-machine_of day locate n = record { locate = locate; world = only locate (after day n); steps = steps_of day locate n }
+machine_of day locate n = record {
+  locate = locate;
+  world = only locate (after day n);
+  steps = steps_of day locate n;
+}

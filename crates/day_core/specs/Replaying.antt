@@ -13,9 +13,10 @@ use Rattle.day_core.specs.declared.merging.Piece.{Piece}
 abbrev pub last_machine : List (List ℕ) → ℕ → StockMachine
 last_machine day locate = machine_of day locate (length day)
 
--- what a whole day makes: the outcomes of its messages, the machines of its stocks by rising locate code, and the last
--- event
-pub record IsReplayed (day : List (List ℕ)) (all : List Outcome) (stocks : List StockMachine) (event : Option ℕ) : Type 0 where
+-- what a whole day makes: the outcomes of its messages, the machines of its stocks by rising locate code, and
+-- the last event
+pub record IsReplayed (day : List (List ℕ)) (all : List Outcome) (stocks : List StockMachine)
+    (event : Option ℕ) : Type 0 where
   pub outcomes_are : all ≡ outcomes day
   pub stocks_are : stocks ≡ map (last_machine day) (locates_of_day day)
   pub event_is : event ≡ (after day (length day)).event

@@ -1,4 +1,4 @@
--- A day that is split for some workers.
+-- A day that is split for some workers. Of this project.
 use Rattle.std.specs.Prelude.{◌≡◌, ◌<◌, ◌≤◌, ◌^◌, ℕ, List, Option, length, slice_index_or}
 use Rattle.itch_table.specs.After.{after}
 use Rattle.itch_table.specs.Shows.{locates_of_day}
@@ -10,14 +10,16 @@ pub record Split : Type 0 where
   pub day : List (List ℕ)
   pub workers : ℕ
 
--- the parts of a day: the locate codes of its stocks, each worker's messages, the messages of no stock with their
--- outcomes, and the last event
-pub record AreParts (day : List (List ℕ)) (workers : ℕ) (locates : List ℕ) (own : List (List ℕ)) (fixed : List Piece) (event : Option ℕ) : Type 0 where
+-- the parts of a day: the locate codes of its stocks, each worker's messages, the messages of no stock with
+-- their outcomes, and the last event
+pub record AreParts (day : List (List ℕ)) (workers : ℕ) (locates : List ℕ) (own : List (List ℕ))
+    (fixed : List Piece) (event : Option ℕ) : Type 0 where
   pub some : 0 < workers
   pub most : workers ≤ 64
   pub few : length day < 2 ^ 32
   pub locates_are : locates ≡ locates_of_day day
   pub own_long : length own ≡ workers
-  pub own_are : (worker : ℕ) (d : List ℕ) → worker < workers → slice_index_or own worker d ≡ own_of workers worker day
+  pub own_are : (worker : ℕ) (d : List ℕ) → worker < workers
+      → slice_index_or own worker d ≡ own_of workers worker day
   pub fixed_are : fixed ≡ fixed_pieces day
   pub event_is : event ≡ (after day (length day)).event

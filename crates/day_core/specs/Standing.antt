@@ -14,9 +14,14 @@ pub record Standing : Type 0 where
   pub worker : ℕ
   pub done : ℕ
 
--- a worker of a split day that has done so many
+-- a worker of a split day that has done this many of its messages
 abbrev pub standing_in : Split → ℕ → ℕ → Standing
-standing_in split worker done = record { day = split.day; workers = split.workers; worker = worker; done = done }
+standing_in split worker done = record {
+  day = split.day;
+  workers = split.workers;
+  worker = worker;
+  done = done;
+}
 
 -- a worker of a split day that has done nothing yet
 abbrev pub first_standing : Split → ℕ → Standing
@@ -38,8 +43,8 @@ machine_at s locate = machine_of s.day locate (progress s.day s.workers locate s
 abbrev pub new_machine : ℕ → StockMachine
 new_machine locate = record { locate = locate; world = empty_world; steps = 0 }
 
--- what a turn answers of the worker's next message: the message with its outcome, and which of the worker's stocks it
--- is of
+-- what a turn answers of the worker's next message: the message with its outcome, and which of the worker's
+-- stocks it is of
 pub record IsTurned (s : Standing) (turned : Turned) : Type 0 where
   pub more : s.done < length (own_messages s)
   pub piece : turned.piece ≡ piece_of s.day (slice_index (own_messages s) s.done)

@@ -1,7 +1,7 @@
 // How many messages each stock of a day has, and the stocks that have some.
 ghost use Rattle.std.specs.Prelude.{ℕ, ◌≡◌, ◌+◌, ◌^◌, ◌<◌, ◌≤◌, IfOk, filter, length, nat_lt, slice_index};
 ghost use Rattle.std.specs.List.{AllZip, range_with_len};
-ghost use Rattle.day_core.specs.Dealing.{AreCounts, AreCountsOfPiece, cut};
+ghost use Rattle.day_core.specs.Dealing.{AreCounts, AreCountsOfChunk, cut};
 
 use binaryfile::Day;
 use itch_table::{Part, part};
@@ -12,13 +12,13 @@ use std::thread::Threads;
 // How many locate codes there are.
 const LOCATES: usize = 1 << 16;
 
-// In how many pieces the messages of a long day are counted, each by one thread.
-const PIECES: u32 = 16;
+// In how many chunks the messages of a long day are counted, each by one thread.
+const CHUNKS: u32 = 16;
 
-// How many messages a day has at least to be counted in pieces.
+// How many messages a day has at least to be counted in chunks.
 const MANY: u32 = 1 << 17;
 
-// So many counts of none.
+// This many counts, all 0.
 fn no_counts<A: Allocator + Copy>(alloc: A, count: usize) -> Result<Vec<u32, A>, AllocError>
     ensures long { IfOk result (λ counts. length counts.items ≡ count) }
     ensures none { IfOk result (λ counts. (k : ℕ) → k < count → slice_index counts.items k ≡ 0) }
@@ -26,7 +26,7 @@ fn no_counts<A: Allocator + Copy>(alloc: A, count: usize) -> Result<Vec<u32, A>,
     vec![in alloc; 0; count]
 }
 
-// How many messages each stock has in a stretch of a day, by its locate code.
+// How many messages each stock has between two messages of a day, by its locate code.
 fn counts_between<A: Allocator + Copy>(
     alloc: A,
     day: &Day<A>,
@@ -47,38 +47,38 @@ fn counts_between<A: Allocator + Copy>(
     Ok(counts)
 }
 
-// Where a piece of a day begins.
-fn start_of(messages: u32, piece: u32) -> u32
-    ensures { result ≡ cut messages piece }
+// Where a chunk of a day begins.
+fn start_of(messages: u32, chunk: u32) -> u32
+    ensures { result ≡ cut messages chunk }
 {
-    piece.saturating_mul(messages / PIECES + 1).min(messages)
+    chunk.saturating_mul(messages / CHUNKS + 1).min(messages)
 }
 
-// The counts of each piece of a day, by as many threads as there are processors.
-fn counts_by_piece<R: Threads + Sync, A: Allocator + Copy + Send + Sync>(
+// The counts of each chunk of a day, by as many threads as there are processors.
+fn counts_by_chunk<R: Threads + Sync, A: Allocator + Copy + Send + Sync>(
     rt: &R,
     alloc: A,
     day: &Day<A>,
 ) -> Result<Vec<Result<Vec<u32, A>, AllocError>, A>, AllocError>
-    ensures { IfOk result (λ pieces. AllZip
-        (λ piece found. IfOk found (λ counts. AreCountsOfPiece day.now.payloads piece counts.items))
-        (range_with_len 0 16) pieces.items) }
+    ensures { IfOk result (λ chunks. AllZip
+        (λ chunk found. IfOk found (λ counts. AreCountsOfChunk day.now.payloads chunk counts.items))
+        (range_with_len 0 16) chunks.items) }
 {
-    (0..PIECES)
+    (0..CHUNKS)
         .into_par_iter()
         .with_min_len(1)
         .map(
-            |piece: u32| -> Result<Vec<u32, A>, AllocError>
-                requires { piece < 16 }
+            |chunk: u32| -> Result<Vec<u32, A>, AllocError>
+                requires { chunk < 16 }
                 ensures { IfOk result (λ counts.
-                    AreCountsOfPiece day.entry.now.payloads piece counts.items) }
+                    AreCountsOfChunk day.entry.now.payloads chunk counts.items) }
             {
                 let messages = day.len();
                 counts_between(
                     alloc,
                     day,
-                    start_of(messages, piece),
-                    start_of(messages, piece + 1),
+                    start_of(messages, chunk),
+                    start_of(messages, chunk + 1),
                 )
             },
         )
@@ -111,8 +111,8 @@ pub(crate) fn messages_by_locate<R: Threads + Sync, A: Allocator + Copy + Send +
         return counts_between(alloc, day, 0, day.len());
     }
     let mut counts = no_counts(alloc, LOCATES)?;
-    for piece in &counts_by_piece(rt, alloc, day)? {
-        match piece {
+    for chunk in &counts_by_chunk(rt, alloc, day)? {
+        match chunk {
             Ok(more) => add(&mut counts, more),
             Err(_) => return Err(AllocError),
         }

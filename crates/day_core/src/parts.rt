@@ -55,12 +55,15 @@ impl<A: Allocator> Parts<A> {
         self.locates.as_slice()
     }
 
-    /// The messages of a worker's stocks, by their numbers from 1, rising. Workers are numbered from 0.
+    /// The messages of a worker's stocks, by their numbers from 1, rising; none for a number that is no worker's.
+    /// Workers are numbered from 0.
     pub fn own(&self, worker: u32) -> &[u32]
-        requires { worker < self.now.workers }
         ensures { result.now ≡ own_of self.now.workers worker self.now.day }
     {
-        self.own[worker as usize].as_slice()
+        match self.own.get(worker as usize) {
+            Some(list) => list.as_slice(),
+            None => &[],
+        }
     }
 
     /// The messages of no stock, with their outcomes, by rising number.

@@ -25,7 +25,7 @@ impl<A: Allocator> Model for Places<A> {
     ghost invariant = { λ p. ArePlaces p.locates.items p.table.items };
 }
 
-// So many zeros.
+// This many zeros.
 fn zeros<A: Allocator + Copy>(alloc: A, len: usize) -> Result<Vec<u16, A>, AllocError>
     ensures { IfOk result (λ zeros. length zeros.items ≡ len) }
 {

@@ -27,7 +27,8 @@ pub struct Turned {
 
 /// One worker of a day that is split: the machines of its stocks, and how many of its messages it has done.
 ///
-/// It does its messages in their order, one a turn, whatever other workers do. All is of this project.
+/// It does its messages in their order, one a turn, whatever other workers do. The effects of messages are those
+/// of Nasdaq TotalView-ITCH 5.0; the rest is of this project.
 #[derive(Drop)]
 pub struct Runner<A: Allocator> {
     worker: u32,
@@ -108,7 +109,8 @@ fn message_of<'d, A: Allocator>(
 }
 
 impl<A: Allocator + Copy> Runner<A> {
-    /// A worker that has done nothing yet. Workers are numbered from 0. An error says that memory was refused.
+    /// A worker that has done nothing yet. The caller hands a worker below `parts.workers()`; workers are numbered from
+    /// 0. An error says that memory was refused.
     pub fn new(alloc: A, parts: &Parts<A>, worker: u32) -> Result<Runner<A>, AllocError>
         requires { worker < parts.now.workers }
         ensures { IfOk result (λ runner. runner ≡ first_standing parts.now worker) }
@@ -163,7 +165,8 @@ impl<A: Allocator> Runner<A> {
         self.stocks.len()
     }
 
-    /// The machine of one of the worker's stocks, by its place among them.
+    /// The machine of one of the worker's stocks, by its place among them. The caller hands a place below the number of
+    /// its stocks.
     pub fn stock_at(&self, place: usize) -> &Stock<A>
         requires { place < length (own_stocks self.now) }
         ensures { result.now ≡ machine_at self.now (slice_index (own_stocks self.now) place) }

@@ -3,7 +3,7 @@ use Rattle.rayon.specs.Numbers.{nat_range}
 use Rattle.rayon.proofs.ListFacts.{IfOk-then}
 use Rattle.rayon.proofs.ToStd.{nat_range-All}
 use Rattle.day_core.proofs.Counted.{found_from}
-use Rattle.day_core.proofs.counting.counts_by_piece.Goals as goal
+use Rattle.day_core.proofs.counting.counts_by_chunk.Goals as goal
 
 pub collect-requires-clause-ready : goal.collect-requires-clause-ready
 collect-requires-clause-ready g c κs within =
