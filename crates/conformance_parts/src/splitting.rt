@@ -12,7 +12,7 @@ use support::{AAPL, MSFT, same, same_list, system};
 // An entry of an unknown type, of one byte.
 const UNKNOWN: &[u8] = b"\x00\x01O";
 
-// A day that is long enough to be counted in pieces: a message of a stock stands first, and after each 1,000 messages
+// A day that is long enough to be counted in chunks: a message of a stock stands first, and after each 1,000 messages
 // of an unknown type.
 fn long_day<A: Allocator + Copy>(alloc: A) -> Result<Day<A>, Fail> {
     let mut file = Vec::new(alloc);
@@ -118,7 +118,7 @@ fn a_day_without_memory_stays_whole(rt: HostRuntime) -> Result<(), Fail> {
     same("all growths", &heap.asked(), &5)
 }
 
-// Each of the 16 pieces takes a growth at least.
+// Each of the 16 chunks takes a growth at least.
 #[test]
 fn a_long_day_without_memory_has_no_parts(rt: HostRuntime) -> Result<(), Fail> {
     let heap = Refusing::new(rt.alloc(), Refusal::Never);
