@@ -1,7 +1,7 @@
 //! Days that are split among workers.
 use crate::days::{add_entry, day_of, parts_of, two_stocks};
 use binaryfile::Day;
-use day_core::{Parts, Piece, SplitFault, split};
+use day_core::{Piece, SplitFault, split};
 use itch_table::Outcome;
 use refusing::{Refusal, Refusing};
 use std::alloc::Allocator;
@@ -12,7 +12,7 @@ use support::{AAPL, MSFT, same, same_list, system};
 // An entry of an unknown type, of one byte.
 const UNKNOWN: &[u8] = b"\x00\x01O";
 
-// A day that is long enough to be counted in pieces: a message of a stock stands first, and after each 1,000 messages
+// A day that is long enough to be counted in chunks: a message of a stock stands first, and after each 1,000 messages
 // of an unknown type.
 fn long_day<A: Allocator + Copy>(alloc: A) -> Result<Day<A>, Fail> {
     let mut file = Vec::new(alloc);
@@ -27,26 +27,14 @@ fn long_day<A: Allocator + Copy>(alloc: A) -> Result<Day<A>, Fail> {
     day_of(alloc, file)
 }
 
-// The messages of a worker, or none where it isn't one.
-fn own_of<A: Allocator>(parts: &Parts<A>, worker: u32) -> &[u32] {
-    if worker < parts.workers() {
-        parts.own(worker)
-    } else {
-        &[]
-    }
-}
-
 #[test]
 fn each_stock_has_its_worker(rt: HostRuntime) -> Result<(), Fail> {
     let day = two_stocks(rt.alloc())?;
     let parts = parts_of(&rt, rt.alloc(), &day, 2)?;
     same_list("the stocks", parts.locates(), &[1, 2, 3])?;
-    same_list("the messages of worker 0", own_of(&parts, 0), &[2, 4])?;
-    same_list(
-        "the messages of worker 1",
-        own_of(&parts, 1),
-        &[1, 3, 5, 6, 7],
-    )?;
+    same_list("the messages of worker 0", parts.own(0), &[2, 4])?;
+    same_list("the messages of worker 1", parts.own(1), &[1, 3, 5, 6, 7])?;
+    same_list("the messages of no worker", parts.own(2), &[])?;
     same("the messages of no stock", &parts.fixed().len(), &0)?;
     same("the event", &parts.event(), &None)
 }
@@ -87,8 +75,8 @@ fn a_long_day_is_split_whole(rt: HostRuntime) -> Result<(), Fail> {
     let day = long_day(rt.alloc())?;
     let parts = parts_of(&rt, rt.alloc(), &day, 2)?;
     same_list("the stocks", parts.locates(), &[1, 2])?;
-    let even = own_of(&parts, 0);
-    let odd = own_of(&parts, 1);
+    let even = parts.own(0);
+    let odd = parts.own(1);
     same(
         "how many even",
         &(even.len(), even.first().copied()),
@@ -130,7 +118,7 @@ fn a_day_without_memory_stays_whole(rt: HostRuntime) -> Result<(), Fail> {
     same("all growths", &heap.asked(), &5)
 }
 
-// Each of the 16 pieces takes a growth at least.
+// Each of the 16 chunks takes a growth at least.
 #[test]
 fn a_long_day_without_memory_has_no_parts(rt: HostRuntime) -> Result<(), Fail> {
     let heap = Refusing::new(rt.alloc(), Refusal::Never);

@@ -51,7 +51,7 @@ fn runner_of<A: Allocator + Copy>(
     Ok(Runner::new(alloc, parts, worker)?)
 }
 
-// What a turn does that was applied or refused.
+// What a turn answers.
 fn turned(message: u32, outcome: Outcome, place: usize) -> Option<Turned> {
     Some(Turned {
         piece: Piece { message, outcome },
@@ -74,7 +74,7 @@ fn take<A: Allocator + Copy>(
 }
 
 // Takes a worker's turn where memory is refused.
-fn take_none<A: Allocator + Copy>(
+fn take_refused<A: Allocator + Copy>(
     case: &str,
     runner: &mut Runner<A>,
     day: &Day<A>,
@@ -188,9 +188,9 @@ fn a_turn_without_memory_is_tried_again(rt: HostRuntime) -> Result<(), Fail> {
         &day,
         turned(1, Outcome::Applied, 0),
     )?;
-    take_none("an order", &mut runner, &day)?;
+    take_refused("an order", &mut runner, &day)?;
     same("the top after it", &top_of(&runner, 1), &Some(NO_TOP))?;
-    take_none("the same order", &mut runner, &day)?;
+    take_refused("the same order", &mut runner, &day)?;
     heap.restart(Refusal::Never);
     take(
         "with memory",
