@@ -33,21 +33,41 @@ pub fn day_of<A: Allocator + Copy>(alloc: A, file: Vec<u8, A>) -> Result<Day<A>,
     Day::from_bytes(alloc, file, u32::MAX).map_err(|_| Fail::new("no day"))
 }
 
-/// Two stocks with a bid each, and deletes of the first one's bid, of an order of no stock, and of that bid again.
-pub fn two_stocks<A: Allocator + Copy>(alloc: A) -> Result<Day<A>, Fail> {
+// The day of these messages.
+fn day_with<A: Allocator + Copy>(alloc: A, messages: &[Msg]) -> Result<Day<A>, Fail> {
     let mut file = Vec::new(alloc);
-    for msg in [
-        AAPL.directory(),
-        MSFT.directory(),
-        AAPL.add(7, b'B', 10, 100),
-        MSFT.add(7, b'B', 20, 200),
-        AAPL.delete(7),
-        UNLISTED.delete(7),
-        AAPL.delete(7),
-    ] {
-        add_entry(alloc, &mut file, &msg)?;
+    for msg in messages {
+        add_entry(alloc, &mut file, msg)?;
     }
     day_of(alloc, file)
+}
+
+/// Two stocks with a bid each, and deletes of the first one's bid, of an order of no stock, and of that bid again.
+pub fn two_stocks<A: Allocator + Copy>(alloc: A) -> Result<Day<A>, Fail> {
+    day_with(
+        alloc,
+        &[
+            AAPL.directory(),
+            MSFT.directory(),
+            AAPL.add(7, b'B', 10, 100),
+            MSFT.add(7, b'B', 20, 200),
+            AAPL.delete(7),
+            UNLISTED.delete(7),
+            AAPL.delete(7),
+        ],
+    )
+}
+
+/// One stock with a bid above its ask.
+pub fn crossed_book<A: Allocator + Copy>(alloc: A) -> Result<Day<A>, Fail> {
+    day_with(
+        alloc,
+        &[
+            AAPL.directory(),
+            AAPL.add(1, b'B', 100, 1_010_000),
+            AAPL.add(2, b'S', 50, 1_000_000),
+        ],
+    )
 }
 
 /// The parts of a day.

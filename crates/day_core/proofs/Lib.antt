@@ -10,3 +10,4 @@ mod Whole
 mod Crews
 mod Showing
 mod Crewing
+mod Scheduled

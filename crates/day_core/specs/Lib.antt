@@ -5,5 +5,6 @@ pub mod Merging
 pub mod Owners
 pub mod Placed
 pub mod Replaying
+pub mod Schedules
 pub mod Splitting
 pub mod Standing

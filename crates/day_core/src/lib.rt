@@ -6,6 +6,7 @@ mod desk;
 mod merging;
 mod parts;
 mod places;
+mod playing;
 mod replaying;
 mod runner;
 mod splitting;
@@ -13,6 +14,7 @@ mod turns;
 
 pub use merging::{MergeFault, Piece, merge};
 pub use parts::Parts;
+pub use playing::{Event, Seen, play};
 pub use replaying::{Replayed, replay_parts};
 pub use runner::{Runner, Turned};
 pub use splitting::{SplitFault, split};

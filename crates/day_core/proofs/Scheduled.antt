@@ -1,0 +1,113 @@
+-- Schedules, one event more.
+use Rattle.std.proofs.Common.{◌≡◌, ◌≢◌, ℕ, ◌+◌, ◌<◌, List, [], ◌∷◌, ◌++◌, length, get_or, set, take, map, map-id, replicate, eqb, cond, true, false, Option, Some, None, refl, sym, ap, subst, ◌∙◌, arith, inl, inr}
+use Rattle.std.specs.Prelude.{min, count_by, slice_get}
+use Rattle.std.specs.List.{flat_map, range_with_len}
+use Rattle.std.proofs.lemmas.Bool.{cases_eq, eq-eqb, ne_eqb}
+use Rattle.std.proofs.lemmas.Grind.{common_steps, same_number_lists}
+use Rattle.std.proofs.lemmas.List.{flat_map_more, get_or-replicate, get_or-set_same, get_or-set_other, length-set}
+use Rattle.std.proofs.lemmas.List.FromFn.{get_or-map-range_with_len, length-map-range_with_len, map-range_with_len_more}
+use Rattle.std.proofs.lemmas.Nat.{mod_below}
+use Rattle.std.proofs.lemmas.Option.{slice_get-get_or}
+use Rattle.day_core.specs.declared.merging.Piece.{Piece}
+use Rattle.day_core.specs.declared.playing.Event.{Event}
+use Rattle.day_core.specs.declared.playing.Event.TheVariants.{Look, Turn}
+use Rattle.day_core.specs.declared.playing.Seen.{Seen}
+use Rattle.day_core.specs.Cells.{shown}
+use Rattle.day_core.specs.Crew.{Crew, TurnsWorker}
+use Rattle.day_core.specs.Owners.{own_of, owner}
+use Rattle.day_core.specs.Schedules.{Changes, crew_after, done_after, is_turn, seen_at, seen_of, seen_until}
+
+-- one event more to count
+count_more : (worker : ℕ) (event : Event) (before : List Event) → count_by (is_turn worker) (before ++ event ∷ []) ≡ count_by (is_turn worker) before + cond (is_turn worker event) 1 0
+count_more worker event [] = grind (arith, common_steps)
+count_more worker event (first ∷ before) = let rest = count_more worker event before in grind (arith, common_steps, rest)
+
+-- all workers are this far where each is
+crew_is : (day : List (List ℕ)) (workers : ℕ) (events : List Event) (new : Crew) → new.day ≡ day → length new.done ≡ workers
+    → ((k : ℕ) → k < workers → get_or new.done k 0 ≡ done_after day workers events k) → new ≡ crew_after day workers events
+crew_is day workers events new same many each =
+    let far = done_after day workers events in
+    let dones_are : new.done ≡ map far (range_with_len 0 workers) =
+    same_number_lists new.done _ (many ∙ sym (length-map-range_with_len far 0 workers)) (λ k lt.
+    each k (omega (arith, lt, many)) ∙ sym (get_or-map-range_with_len far 0 workers k k 0 (omega (arith, lt, many)) (omega arith)))
+    in
+    λ i. record { day = same i; done = dones_are i }
+
+module _ (day : List (List ℕ)) (workers : ℕ) (before : List Event) where
+  abbrev dones : List ℕ
+  dones = map (done_after day workers before) (range_with_len 0 workers)
+
+  long : length dones ≡ workers
+  long = length-map-range_with_len (done_after day workers before) 0 workers
+
+  done_at : (k : ℕ) → k < workers → get_or dones k 0 ≡ done_after day workers before k
+  done_at k lt = get_or-map-range_with_len (done_after day workers before) 0 workers k k 0 lt (omega arith)
+
+  other_stays : (worker k : ℕ) → k ≢ worker → done_after day workers before k ≡ done_after day workers (before ++ Turn worker ∷ []) k
+  other_stays worker k differ =
+      let none : eqb worker k ≡ false = ne_eqb _ _ (λ e. differ (sym e)) in
+      let more = count_more k (Turn worker) before in
+      grind (arith, common_steps, none, more)
+
+  own_moves : (worker : ℕ) → done_after day workers (before ++ Turn worker ∷ []) worker ≡ min (count_by (is_turn worker) before + 1) (length (own_of workers worker day))
+  own_moves worker =
+      let one : eqb worker worker ≡ true = eq-eqb _ _ refl in
+      let more = count_more worker (Turn worker) before in
+      grind (arith, common_steps, one, more)
+
+  pub turned : (worker : ℕ) (answer : Option Piece) (new : Crew) → TurnsWorker (crew_after day workers before) new worker answer → new ≡ crew_after day workers (before ++ Turn worker ∷ [])
+  turned worker None new h = crew_is day workers (before ++ Turn worker ∷ []) new (ap (λ (c : Crew). c.day) h.1) (ap (λ (c : Crew). length c.done) h.1 ∙ long) (λ k lt.
+      ap (λ (c : Crew). get_or c.done k 0) h.1 ∙ done_at k lt
+      ∙ elim (cases_eq k worker) [
+        | inl same ↦ subst (λ (j : ℕ). j < workers → done_after day workers before j ≡ done_after day workers (before ++ Turn worker ∷ []) j) (sym same) (λ below.
+            let all : done_after day workers before worker ≡ length (own_of workers worker day) =
+            sym (done_at worker below) ∙ h.0 (omega (arith, below, long)) ∙ ap (λ (w : ℕ). length (own_of w worker day)) long in
+            omega (arith, all, own_moves worker)) lt
+        | inr differ ↦ other_stays worker k differ
+      ])
+  turned worker (Some piece) new h =
+      let below : worker < workers = omega (arith, h.0, long) in
+      let is = h.3 in
+      let more : done_after day workers before worker < length (own_of workers worker day) =
+      omega (arith, h.1, done_at worker below, ap (λ (w : ℕ). length (own_of w worker day)) long) in
+      crew_is day workers (before ++ Turn worker ∷ []) new (ap (λ (c : Crew). c.day) is) (ap (λ (c : Crew). length c.done) is ∙ length-set dones worker _ ∙ long) (λ k lt.
+      ap (λ (c : Crew). get_or c.done k 0) is
+      ∙ elim (cases_eq k worker) [
+        | inl same ↦ subst (λ (j : ℕ). get_or (set dones worker (get_or dones worker 0 + 1)) j 0 ≡ done_after day workers (before ++ Turn worker ∷ []) j) (sym same)
+            (get_or-set_same dones worker _ 0 (omega (arith, below, long)) ∙ omega (arith, done_at worker below, more, own_moves worker))
+        | inr differ ↦ get_or-set_other dones worker k _ 0 differ ∙ done_at k lt ∙ other_stays worker k differ
+      ])
+
+  looked : (screen locate : ℕ) → crew_after day workers before ≡ crew_after day workers (before ++ Look screen locate ∷ [])
+  looked screen locate = crew_is day workers (before ++ Look screen locate ∷ []) (crew_after day workers before) refl long (λ k lt.
+      let more = count_more k (Look screen locate) before in
+      done_at k lt ∙ ap (λ (n : ℕ). min n (length (own_of workers k day))) (sym (more ∙ omega arith)))
+
+  -- an event changes the workers as its place in the schedule says
+  pub changed : (event : Event) (new : Crew) → Changes (crew_after day workers before) event new → new ≡ crew_after day workers (before ++ event ∷ [])
+  changed (Turn worker) new h = turned worker h.0 new h.1
+  changed (Look screen locate) new h = h ∙ looked screen locate
+
+  -- and shows what it says
+  pub shows : 0 < workers → (event : Event) → seen_of (crew_after day workers before) event ≡ seen_at day workers before (Some event)
+  shows some (Turn worker) = refl
+  shows some (Look screen locate) =
+      let words = ap (λ (w : ℕ). shown day w locate (get_or dones (owner w locate) 0)) long
+      ∙ ap (shown day workers locate) (done_at (owner workers locate) (mod_below locate workers some)) in
+      ap (λ (ws : List ℕ). let s : Seen = record { screen = screen; locate = locate; words = ws } in s ∷ []) words
+
+-- before the first event
+pub crew_first : (crew : Crew) → crew ≡ record { day = crew.day; done = replicate (length crew.done) 0 } → crew ≡ crew_after crew.day (length crew.done) []
+crew_first crew zeros = crew_is crew.day (length crew.done) [] crew refl refl (λ k lt.
+    ap (λ (c : Crew). get_or c.done k 0) zeros ∙ get_or-replicate (length crew.done) k 0 0 lt ∙ omega arith)
+
+-- one event more
+pub seen_more : (day : List (List ℕ)) (workers : ℕ) (events : List Event) (i : ℕ) (d : Event) → i < length events
+    → seen_until day workers events (i + 1) ≡ seen_until day workers events i ++ seen_at day workers (take i events) (Some (get_or events i d))
+seen_more day workers events i d lt =
+    let f : ℕ → List Seen = λ j. seen_at day workers (take j events) (slice_get events j) in
+    ap (flat_map f) (range_more 0 i) ∙ sym (flat_map_more f [] (range_with_len 0 i) i)
+    ∙ ap (λ (o : Option Event). seen_until day workers events i ++ seen_at day workers (take i events) o) (slice_get-get_or events i d lt)
+  where
+    range_more : (a n : ℕ) → range_with_len 0 (n + 1) ≡ range_with_len 0 n ++ n ∷ []
+    range_more a n = sym (map-id _) ∙ map-range_with_len_more (λ (k : ℕ). k) 0 n n (omega arith) ∙ ap (λ (l : List ℕ). l ++ n ∷ []) (map-id _)
