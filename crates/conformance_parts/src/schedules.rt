@@ -1,7 +1,8 @@
 //! Schedules of a day: what the looks of screens see between the turns of its workers.
 use crate::days::{crossed_book, two_stocks};
 use binaryfile::Day;
-use day_core::{Event, Seen, SplitFault, play};
+use day_core::{Event, Piece, Seen, SplitFault, Turns, play};
+use itch_table::Outcome;
 use refusing::{Refusal, Refusing};
 use std::alloc::Allocator;
 use std::test::Fail;
@@ -140,4 +141,31 @@ fn a_schedule_without_memory_shows_nothing(rt: HostRuntime) -> Result<(), Fail> 
         )?;
     }
     same("some growths", &(growths > 10 && growths <= 100), &true)
+}
+
+// The words of stock 1, and how many messages its machine has taken.
+fn shown<'d, A: Allocator + Copy>(turns: &Turns<'d, A>) -> ([u64; 4], Option<u32>) {
+    (turns.look(1), turns.stock(1).map(|stock| stock.steps()))
+}
+
+// The directory message needs no memory, and the first order does.
+#[test]
+fn a_refused_turn_leaves_what_looks_show(rt: HostRuntime) -> Result<(), Fail> {
+    let heap = Refusing::new(rt.alloc(), Refusal::Never);
+    let day = crossed_book(&heap)?;
+    let mut turns = Turns::new(&rt, &heap, &day, 1)?;
+    let piece = |message| {
+        Some(Piece {
+            message,
+            outcome: Outcome::Applied,
+        })
+    };
+    heap.restart(Refusal::From(1));
+    same("a directory message", &turns.turn(0), &Ok(piece(1)))?;
+    same("an order without memory", &turns.turn(0).is_err(), &true)?;
+    same("after it", &shown(&turns), &([1, 0, 0, 0], Some(1)))?;
+    heap.restart(Refusal::Never);
+    same("an order with memory", &turns.turn(0), &Ok(piece(2)))?;
+    let words = [2, 0x000f_6950_0000_0000, 100, 0];
+    same("after the order", &shown(&turns), &(words, Some(2)))
 }

@@ -3,6 +3,7 @@
 
 mod counting;
 mod desk;
+mod laws;
 mod merging;
 mod parts;
 mod places;
@@ -12,6 +13,7 @@ mod runner;
 mod splitting;
 mod turns;
 
+pub use laws::days_come_to_their_end;
 pub use merging::{MergeFault, Piece, merge};
 pub use parts::Parts;
 pub use playing::{Event, Seen, play};
