@@ -30,8 +30,9 @@ pub struct Seen {
     pub screen: u32,
     /// The stock's locate code.
     pub locate: u16,
-    /// The stock's best bid and ask as four words: the number of the last message done that is of the stock, the prices,
-    /// the bid's shares, and the ask's; four zeros before the first.
+    /// The stock's best bid and ask as four words: the number of the last message done that is of the stock; the bid's
+    /// price times 2^32 and the ask's price, in 1/10,000 of a currency unit; the bid's shares; and the ask's. Four zeros
+    /// before the first message.
     pub words: [u64; 4],
 }
 
