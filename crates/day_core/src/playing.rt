@@ -82,8 +82,8 @@ fn watch<A: Allocator + Copy>(
 
 /// Runs a whole schedule of a day that is split for this many workers, from 1 to 64: what the looks see, in their order.
 ///
-/// A turn of a worker that is through, or of a number that is no worker's, does nothing. Looks of one stock never go
-/// back: each shows the stock's best bid and ask after the last of its messages that its worker has done by then.
+/// A turn of a worker that is through, or of a number that is no worker's, does nothing. A look shows the stock's best
+/// bid and ask after the last of its messages that its worker has done by then.
 /// [`SplitFault::Workers`] where the number of workers is another, which is looked at first, and else
 /// [`SplitFault::Memory`] where memory is refused. Schedules are of this project.
 pub fn play<R: Threads + Sync, A: Allocator + Copy + Send + Sync>(
