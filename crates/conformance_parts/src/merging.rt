@@ -26,7 +26,7 @@ fn lists_of<A: Allocator + Copy>(
     Ok(lists)
 }
 
-// The outcomes of the first two messages of a day of so many, put together of two lists.
+// The outcomes of the first two messages of a day of this many, put together of two lists.
 fn merged<A: Allocator + Copy>(
     alloc: A,
     messages: u32,

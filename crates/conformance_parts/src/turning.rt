@@ -3,7 +3,7 @@ ghost use Rattle.std.specs.Prelude.{◌≡◌, IfOk};
 
 use crate::days::{parts_of, two_stocks};
 use binaryfile::Day;
-use day_core::{Parts, Piece, Replayed, Runner, Turned, Turns, replay_parts};
+use day_core::{Parts, Piece, ReplayedDay, Runner, Turned, Turns, replay_parts};
 use itch_table::{Fault, Outcome, Top};
 use refusing::{Refusal, Refusing};
 use std::alloc::Allocator;
@@ -108,7 +108,7 @@ fn a_worker_does_its_messages_in_order(rt: HostRuntime) -> Result<(), Fail> {
     take("turn 4", &mut runner, &day, turned(6, unlisted, 1))?;
     take("turn 5", &mut runner, &day, turned(7, unknown, 0))?;
     take(
-        "a turn of a worker that is through",
+        "a turn of a worker that has done all of its messages",
         &mut runner,
         &day,
         None,
@@ -122,7 +122,7 @@ fn a_worker_does_its_messages_in_order(rt: HostRuntime) -> Result<(), Fail> {
 }
 
 // What a replay of the two stocks answers.
-fn same_day<A: Allocator + Copy>(replayed: &Replayed<A>) -> Result<(), Fail> {
+fn same_day<A: Allocator + Copy>(replayed: &ReplayedDay<A>) -> Result<(), Fail> {
     same_list("the outcomes", &replayed.outcomes, &OUTCOMES)?;
     let [one, two, three] = replayed.stocks.as_slice() else {
         return Err(Fail::new("not three stocks"));
@@ -242,7 +242,7 @@ fn turns_of_a_day_come_in_any_order(rt: HostRuntime) -> Result<(), Fail> {
     take_of_day(&mut turns, 0, 4, Outcome::Applied)?;
     let two = [4, 200 << 32, 20, 0];
     look_at_both("a bid each", &turns, one, two)?;
-    same("a turn of a worker that is through", &turns.turn(0)?, &None)?;
+    same("a turn of a worker that has done all of its messages", &turns.turn(0)?, &None)?;
     take_of_day(&mut turns, 1, 5, Outcome::Applied)?;
     look_at_both("the first bid deleted", &turns, [5, 0, 0, 0], two)?;
     take_of_day(&mut turns, 1, 6, Outcome::Refused(Fault::NoDirectory))?;

@@ -14,7 +14,7 @@ use Rattle.itch_table.specs.Parts.{part}
 use Rattle.itch_table.specs.Projection.{is_of_stock, steps_of}
 use Rattle.itch_table.proofs.StockDays.{steps-next, steps-none}
 use Rattle.itch_table.specs.Shows.{locates_of_day}
-use Rattle.day_core.specs.Dealing.{AreCounts, AreCountsOfChunk, cut}
+use Rattle.day_core.specs.Counting.{AreCounts, AreCountsOfChunk, cut}
 
 -- no more messages than there are
 steps_few : (day : List (List ℕ)) (locate n : ℕ) → steps_of day locate n ≤ length day

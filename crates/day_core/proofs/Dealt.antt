@@ -1,5 +1,5 @@
 -- A day that is being dealt to its workers, one message more.
-use Rattle.std.proofs.Common.{◌≡◌, ℕ, ◌+◌, ◌-◌, ◌%◌, ◌^◌, ◌<◌, ◌≤◌, List, [], ◌∷◌, ◌++◌, length, drop, get_or, set, map, filter, replicate, cond, Option, None, refl, ap, sym, ◌∙◌, arith, inl, inr, subst, append-nil}
+use Rattle.std.proofs.Common.{◌≡◌, ℕ, ◌+◌, ◌-◌, ◌%◌, ◌<◌, ◌≤◌, List, [], ◌∷◌, ◌++◌, length, drop, get_or, set, map, filter, replicate, cond, Option, None, refl, ap, sym, ◌∙◌, arith, inl, inr, subst, append-nil}
 use Rattle.std.specs.List.{range_with_len}
 use Rattle.std.proofs.lemmas.Bool.{cases_eq, eq-eqb, ne_eqb}
 use Rattle.std.proofs.lemmas.Nat.{mod_below}
@@ -20,11 +20,9 @@ use Rattle.itch_table.proofs.Days.{after-next, after-none}
 use Rattle.itch_table.proofs.NoStock.{system_sets_event}
 use Rattle.itch_table.proofs.StockDays.{outcomes_stay_fixed}
 use Rattle.day_core.specs.declared.merging.Piece.{Piece}
-use Rattle.day_core.specs.Dealing.{AreDealt, fixed_until}
-use Rattle.itch_table.specs.Shows.{locates_of_day}
-use Rattle.day_core.specs.Splitting.{AreParts}
-use Rattle.day_core.proofs.Ranges.{kept_more}
-use Rattle.day_core.specs.Owners.{fixed_pieces, is_nowhere, is_own, own_of, own_until, part_at, piece_of}
+use Rattle.day_core.specs.Splitting.{AreDealt}
+use Rattle.day_core.proofs.Kept.{kept_more}
+use Rattle.day_core.specs.Owners.{fixed_until, is_nowhere, is_own, own_until, part_at, piece_of}
 
 -- a stock's message leaves the event
 event_stays : (shape : Shape) (locate : ℕ) (event : Option ℕ) → part_of_shape shape ≡ Locate locate → event_with shape event ≡ event
@@ -138,19 +136,4 @@ dealt_none day workers own fixed empty none = record {
   own_are = λ worker d lt. rw empty (get_or-replicate workers worker [] d lt);
   fixed_are = none;
   event_is = sym (ap (λ (w : World). w.event) (after-none day));
-}
-
--- a day that is dealt whole is in parts
-pub parts_are : (day : List (List ℕ)) (workers : ℕ) (locates : List ℕ) (own : List (List ℕ)) (fixed : List Piece) (event : Option ℕ) → 0 < workers → workers ≤ 64
-    → length day < 2 ^ 32 → locates ≡ locates_of_day day → AreDealt day workers (length day) own fixed event → AreParts day workers locates own fixed event
-unfolding own_of fixed_pieces
-parts_are day workers locates own fixed event some most few listed dealt = record {
-  some = some;
-  most = most;
-  few = few;
-  locates_are = listed;
-  own_long = dealt.own_long;
-  own_are = dealt.own_are;
-  fixed_are = dealt.fixed_are;
-  event_is = dealt.event_is;
 }

@@ -1,10 +1,16 @@
 -- What a test keeps of a range of numbers.
-use Rattle.std.proofs.Common.{◌≡◌, ℕ, zero, suc, ◌+◌, ◌-◌, ◌<◌, ◌≤◌, List, [], ◌∷◌, length, Bool, true, false, cond, get_or, filter, take, refl, ap, arith}
+use Rattle.std.proofs.Common.{◌≡◌, ℕ, zero, suc, ◌+◌, ◌-◌, ◌<◌, ◌≤◌, List, [], ◌∷◌, ◌++◌, length, Bool, true, false, cond, get_or, filter, take, refl, ap, sym, ◌∙◌, map-id, arith, inl, inr}
 use Rattle.std.specs.List.{range_with_len}
 use Rattle.std.proofs.lemmas.Bool.{cases_Bool}
 use Rattle.std.proofs.lemmas.List.Elements.{All-filter, All-from_get_or}
-use Rattle.std.proofs.lemmas.List.FromFn.{get_or-range_with_len, length-range_with_len}
-use Rattle.std.proofs.Common.{inl, inr}
+use Rattle.std.proofs.lemmas.List.FromFn.{filter_of_map_range_with_len_more, get_or-range_with_len, length-range_with_len}
+
+-- one number more
+pub kept_more : (p : ℕ → Bool) (a n last : ℕ) → a + n ≡ last
+    → filter p (range_with_len a (n + 1)) ≡ filter p (range_with_len a n) ++ cond (p last) (last ∷ []) []
+kept_more p a n last is =
+    ap (filter p) (sym (map-id _)) ∙ filter_of_map_range_with_len_more p (λ (i : ℕ). i) a n last is
+    ∙ ap (λ (l : List ℕ). filter p l ++ cond (p last) (last ∷ []) []) (map-id _)
 
 -- each number kept is in the range
 pub kept_within : (p : ℕ → Bool) (a n i d : ℕ) → i < length (filter p (range_with_len a n))

@@ -1,5 +1,4 @@
 mod Merged
-mod Ranges
 mod Counted
 mod Dealt
 mod Kept
@@ -7,7 +6,7 @@ mod Placing
 mod Progress
 mod Running
 mod Whole
-mod Crews
+mod StocksByWorker
 mod Showing
-mod Crewing
+mod Turning
 mod Scheduled

@@ -1,7 +1,7 @@
 -- How far a stock is once its worker has done some of its messages.
 use Rattle.std.proofs.Common.{◌≡◌, ℕ, zero, suc, ◌+◌, ◌-◌, ◌<◌, ◌≤◌, List, [], ◌∷◌, ◌++◌, length, Bool, true, false, cond, get_or, filter, take, refl, sym, ap, subst, ◌∙◌, arith, append-nil, inl, inr}
 use Rattle.std.specs.List.{range_with_len}
-use Rattle.std.proofs.lemmas.Bool.{cases_Bool, eq-eqb, ne_eqb}
+use Rattle.std.proofs.lemmas.Bool.{cases_Bool, cases_lt, eq-eqb, ne_eqb}
 use Rattle.std.proofs.lemmas.List.{take_all}
 use Rattle.std.proofs.lemmas.List.Elements.{filter_more, filter_passes}
 use Rattle.std.proofs.lemmas.Nat.{mod_below}
@@ -11,8 +11,7 @@ use Rattle.itch_table.specs.After.{after}
 use Rattle.itch_table.specs.Projection.{is_locate, is_of_stock, only, steps_of}
 use Rattle.itch_table.proofs.StockDays.{other_next, other_part, own_part, steps-next}
 use Rattle.day_core.specs.Owners.{is_own, last_or, machine_of, of_stock, own_of, owner, part_at, progress}
-use Rattle.day_core.proofs.Kept.{kept_before, kept_narrower, kept_none, kept_within}
-use Rattle.day_core.proofs.Ranges.{kept_more}
+use Rattle.day_core.proofs.Kept.{kept_before, kept_more, kept_narrower, kept_none, kept_within}
 
 -- a number of a worker's list is that of a message of one of its stocks
 pub own_within : (workers worker : ℕ) (day : List (List ℕ)) (i d : ℕ) → i < length (own_of workers worker day)
@@ -72,6 +71,26 @@ until_more day locate n before =
           ∙ before ∙ sym (machine_stays day locate n (rw here at off))
     ]
 
+-- it is one of the messages until then
+within_more : (day : List (List ℕ)) (locate n : ℕ) → last_until day locate n ≤ n → last_until day locate (n + 1) ≤ n + 1
+within_more day locate n before =
+    let q = λ (m : ℕ). is_locate locate (part_at day m) in
+    let xs = filter q (range_with_len 1 n) in
+    let next : last_until day locate (n + 1) ≡ last_or 0 (xs ++ cond (q (n + 1)) ((n + 1) ∷ []) []) = ap (last_or 0) (kept_more q 1 n (n + 1) (omega arith)) in
+    elim (cases_Bool (q (n + 1))) [
+      | inl on ↦
+          let here : last_until day locate (n + 1) ≡ n + 1 = next ∙ ap (λ (b : Bool). last_or 0 (xs ++ cond b ((n + 1) ∷ []) [])) on ∙ last_push 0 xs (n + 1) in
+          omega (arith, here)
+      | inr off ↦
+          let there : last_until day locate (n + 1) ≡ last_until day locate n =
+          next ∙ ap (λ (b : Bool). last_or 0 (xs ++ cond b ((n + 1) ∷ []) [])) off ∙ ap (last_or 0) (append-nil xs) in
+          omega (arith, before, there)
+    ]
+
+last_within : (day : List (List ℕ)) (locate n : ℕ) → last_until day locate n ≤ n
+last_within day locate zero = omega arith
+last_within day locate (suc n) = subst (λ (k : ℕ). last_until day locate k ≤ k) (omega arith) (within_more day locate n (last_within day locate n))
+
 machine_until : (day : List (List ℕ)) (locate n : ℕ) → UntilLast day locate n
 machine_until day locate zero = refl
 machine_until day locate (suc n) = subst (UntilLast day locate) (omega arith) (until_more day locate n (machine_until day locate n))
@@ -103,18 +122,59 @@ module _ (day : List (List ℕ)) (workers locate : ℕ) where
   narrower : (n : ℕ) → of_this n ≡ true → is_own workers (owner workers locate) (part_at day n) ≡ true
   narrower n on = rw (own_part locate (part_at day n) on) (eq-eqb _ _ refl)
 
-  -- before the next message of its worker the stock is where it is
-  pub machine_next : (done d : ℕ) → done < length own → machine_of day locate (progress day workers locate done) ≡ machine_of day locate (get_or own done d - 1)
+  -- before the next message of its worker a stock's last message is the last of the day's that is the stock's
+  progress_before : (done d : ℕ) → done < length own → progress day workers locate done ≡ last_until day locate (get_or own done d - 1)
   unfolding progress own_of
-  machine_next done d lt =
-      ap (λ (xs : List ℕ). machine_of day locate (last_or 0 (filter of_this xs))) (kept_before (λ n. is_own workers (owner workers locate) (part_at day n)) 1 (length day) done d lt)
-      ∙ ap (λ (xs : List ℕ). machine_of day locate (last_or 0 xs)) (kept_narrower (λ n. is_own workers (owner workers locate) (part_at day n)) of_this (range_with_len 1 (get_or own done d - 1)) narrower)
-      ∙ machine_until day locate (get_or own done d - 1)
+  progress_before done d lt =
+      ap (λ (xs : List ℕ). last_or 0 (filter of_this xs)) (kept_before (λ n. is_own workers (owner workers locate) (part_at day n)) 1 (length day) done d lt)
+      ∙ ap (last_or 0) (kept_narrower (λ n. is_own workers (owner workers locate) (part_at day n)) of_this (range_with_len 1 (get_or own done d - 1)) narrower)
 
-  -- where its worker is through the stock is that after the day
-  pub machine_last : machine_of day locate (progress day workers locate (length own)) ≡ machine_of day locate (length day)
+  -- and where its worker has done all of its messages, the last of all
+  progress_last : progress day workers locate (length own) ≡ last_until day locate (length day)
   unfolding progress own_of
-  machine_last =
-      ap (λ (xs : List ℕ). machine_of day locate (last_or 0 (filter of_this xs))) (take_all (length own) own (omega arith))
-      ∙ ap (λ (xs : List ℕ). machine_of day locate (last_or 0 xs)) (kept_narrower (λ n. is_own workers (owner workers locate) (part_at day n)) of_this (range_with_len 1 (length day)) narrower)
-      ∙ machine_until day locate (length day)
+  progress_last =
+      ap (λ (xs : List ℕ). last_or 0 (filter of_this xs)) (take_all (length own) own (omega arith))
+      ∙ ap (last_or 0) (kept_narrower (λ n. is_own workers (owner workers locate) (part_at day n)) of_this (range_with_len 1 (length day)) narrower)
+
+  -- past the last of its worker's messages a stock stays where it is
+  past_all : (done : ℕ) → length own ≤ done → progress day workers locate done ≡ progress day workers locate (length own)
+  unfolding progress
+  past_all done past = ap (λ (l : List ℕ). last_or 0 (of_stock day locate l)) (take_all done own past ∙ sym (take_all (length own) own (omega arith)))
+
+  pub past_end : (done : ℕ) → length own ≤ done → progress day workers locate (done + 1) ≡ progress day workers locate done
+  past_end done past = past_all (done + 1) (omega (arith, past)) ∙ sym (past_all done past)
+
+  -- the machine is as its last message left it
+  pub machine_next : (done d : ℕ) → done < length own → machine_of day locate (progress day workers locate done) ≡ machine_of day locate (get_or own done d - 1)
+  machine_next done d lt = ap (machine_of day locate) (progress_before done d lt) ∙ machine_until day locate (get_or own done d - 1)
+
+  pub machine_last : machine_of day locate (progress day workers locate (length own)) ≡ machine_of day locate (length day)
+  machine_last = ap (machine_of day locate) progress_last ∙ machine_until day locate (length day)
+
+  -- ---- a stock goes through the day's messages, and never back
+
+  pub progress_within : (done : ℕ) → progress day workers locate done ≤ length day
+  progress_within done = elim (cases_lt done (length own)) [
+    | inl lt ↦ omega (arith, progress_before done 0 lt, last_within day locate (get_or own done 0 - 1), own_within workers (owner workers locate) day done 0 lt)
+    | inr past ↦ omega (arith, past_all done past, progress_last, last_within day locate (length day))
+  ]
+
+  progress_step : (done : ℕ) → progress day workers locate done ≤ progress day workers locate (done + 1)
+  progress_step done = elim (cases_lt done (length own)) [
+    | inl lt ↦ elim (cases_Bool (of_this (get_or own done 0))) [
+      | inl on ↦ omega (arith, progress_before done 0 lt, last_within day locate (get_or own done 0 - 1), progress_moved done 0 lt on)
+      | inr off ↦ omega (arith, progress_kept done 0 lt off)
+    ]
+    | inr past ↦ omega (arith, past_end done past)
+  ]
+
+  progress_more : (done more : ℕ) → progress day workers locate done ≤ progress day workers locate (done + more)
+  progress_more done zero = omega (arith, ap (progress day workers locate) (let none : done + 0 ≡ done = omega arith in none))
+  progress_more done (suc more) =
+      let next : done + suc more ≡ done + more + 1 = omega arith in
+      omega (arith, progress_more done more, progress_step (done + more), ap (progress day workers locate) next)
+
+  pub progress_rises : (done later : ℕ) → done ≤ later → progress day workers locate done ≤ progress day workers locate later
+  progress_rises done later le =
+      let all : done + (later - done) ≡ later = omega (arith, le) in
+      omega (arith, progress_more done (later - done), ap (progress day workers locate) all)

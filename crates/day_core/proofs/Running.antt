@@ -22,7 +22,7 @@ use Rattle.itch_table.proofs.StockDays.{is_own_part, only-empty, own_next, steps
 use Rattle.stock_machine.specs.StockRows.{StockMachine}
 use Rattle.day_core.specs.declared.merging.Piece.{Piece}
 use Rattle.day_core.specs.Owners.{is_own, machine_of, own_locates, own_of, owner, part_at, piece_of, progress}
-use Rattle.day_core.specs.Standing.{IsRunner, IsTurned, Standing, machine_at, new_machine, own_messages, standing_in, own_stocks}
+use Rattle.day_core.specs.Workers.{IsRunner, IsTurned, WorkerState, machine_at, new_machine, worker_messages, state_in, worker_locates}
 use Rattle.day_core.specs.Splitting.{Split}
 use Rattle.day_core.proofs.Progress.{machine_next, own_within, own_passes, progress_first, progress_kept, progress_moved}
 
@@ -120,17 +120,17 @@ map_same f g (l ∷ ls) each =
 
 -- ---- one message more, and what is kept for each of a worker's stocks
 
-module _ (s : Standing) (n place : ℕ) (more : s.done < length (own_messages s)) (next : n ≡ get_or (own_messages s) s.done 0) (listed : place < length (own_stocks s)) (owned : part_at s.day n ≡ Locate (get_or (own_stocks s) place 0)) where
+module _ (s : WorkerState) (n place : ℕ) (more : s.done < length (worker_messages s)) (next : n ≡ get_or (worker_messages s) s.done 0) (listed : place < length (worker_locates s)) (owned : part_at s.day n ≡ Locate (get_or (worker_locates s) place 0)) where
   abbrev code : ℕ → ℕ
-  code k = get_or (own_stocks s) k 0
+  code k = get_or (worker_locates s) k 0
 
-  mine : (k : ℕ) → k < length (own_stocks s) → owner s.workers (code k) ≡ s.worker
+  mine : (k : ℕ) → k < length (worker_locates s) → owner s.workers (code k) ≡ s.worker
   mine k lt = code_owner s.workers s.worker s.day k 0 lt
 
-  room : (k : ℕ) → k < length (own_stocks s) → s.done < length (own_of s.workers (owner s.workers (code k)) s.day)
+  room : (k : ℕ) → k < length (worker_locates s) → s.done < length (own_of s.workers (owner s.workers (code k)) s.day)
   room k lt = rw (mine k lt) more
 
-  here : (k : ℕ) → k < length (own_stocks s) → get_or (own_of s.workers (owner s.workers (code k)) s.day) s.done 0 ≡ n
+  here : (k : ℕ) → k < length (worker_locates s) → get_or (own_of s.workers (owner s.workers (code k)) s.day) s.done 0 ≡ n
   here k lt = ap (λ (w : ℕ). get_or (own_of s.workers w s.day) s.done 0) (mine k lt) ∙ sym next
 
   -- its stock has come as far as the message
@@ -138,34 +138,34 @@ module _ (s : Standing) (n place : ℕ) (more : s.done < length (own_messages s)
   progress_here = progress_moved s.day s.workers (code place) s.done 0 (room place listed) (rw (here place listed) (is_own_part (code place) _ owned)) ∙ here place listed
 
   -- and another stays where it is
-  progress_there : (k : ℕ) → k < length (own_stocks s) → k ≢ place → progress s.day s.workers (code k) (s.done + 1) ≡ progress s.day s.workers (code k) s.done
+  progress_there : (k : ℕ) → k < length (worker_locates s) → k ≢ place → progress s.day s.workers (code k) (s.done + 1) ≡ progress s.day s.workers (code k) s.done
   progress_there k lt differ =
       let other : is_locate (code k) (part_at s.day n) ≡ false = rw owned (ne_eqb _ _ (λ e. differ (sym (code_once s.workers s.worker s.day place k listed lt e)))) in
       progress_kept s.day s.workers (code k) s.done 0 (room k lt) (rw (here k lt) other)
 
-  pub values_after : {X : Type 0} (f : ℕ → ℕ → X) (values : List X) (v : X) → values ≡ map (λ l. f l (progress s.day s.workers l s.done)) (own_stocks s) → v ≡ f (code place) n
-      → set values place v ≡ map (λ l. f l (progress s.day s.workers l (s.done + 1))) (own_stocks s)
+  pub values_after : {X : Type 0} (f : ℕ → ℕ → X) (values : List X) (v : X) → values ≡ map (λ l. f l (progress s.day s.workers l s.done)) (worker_locates s) → v ≡ f (code place) n
+      → set values place v ≡ map (λ l. f l (progress s.day s.workers l (s.done + 1))) (worker_locates s)
   values_after f values v are is =
       let before = λ (l : ℕ). f l (progress s.day s.workers l s.done) in
-      let long : length values ≡ length (own_stocks s) = ap length are ∙ length-map (own_stocks s) before in
-      map_by_all (λ l. f l (progress s.day s.workers l (s.done + 1))) (own_stocks s) (set values place v) (length-set values place v ∙ long) (λ k d below.
+      let long : length values ≡ length (worker_locates s) = ap length are ∙ length-map (worker_locates s) before in
+      map_by_all (λ l. f l (progress s.day s.workers l (s.done + 1))) (worker_locates s) (set values place v) (length-set values place v ∙ long) (λ k d below.
       elim (cases_eq k place) [
         | inl same ↦
             ap (λ (j : ℕ). get_or (set values place v) j d) same ∙ get_or-set_same values place v d (omega (arith, listed, long)) ∙ is
             ∙ ap (f (code place)) (sym progress_here) ∙ ap (λ (j : ℕ). f (code j) (progress s.day s.workers (code j) (s.done + 1))) (sym same)
         | inr differ ↦
             get_or-set_other values place k v d differ
-            ∙ ap (λ xs. get_or xs k d) are ∙ get_or-map before (own_stocks s) k 0 d below
+            ∙ ap (λ xs. get_or xs k d) are ∙ get_or-map before (worker_locates s) k 0 d below
             ∙ ap (f (code k)) (sym (progress_there k below differ))
       ])
 
 -- ---- a worker's next message
 
-module _ (s : Standing) (own locates : List ℕ) (stocks : List StockMachine) (runner : IsRunner s own locates stocks) (n : ℕ) (more : s.done < length own) (next : n ≡ get_or own s.done n) where
-  within_own : s.done < length (own_messages s)
+module _ (s : WorkerState) (own locates : List ℕ) (stocks : List StockMachine) (runner : IsRunner s own locates stocks) (n : ℕ) (more : s.done < length own) (next : n ≡ get_or own s.done n) where
+  within_own : s.done < length (worker_messages s)
   within_own = omega (arith, ap length runner.own_is)
 
-  pub next_is : n ≡ get_or (own_messages s) s.done 0
+  pub next_is : n ≡ get_or (worker_messages s) s.done 0
   next_is = next ∙ get_or_default own s.done n 0 more ∙ ap (λ (xs : List ℕ). get_or xs s.done 0) runner.own_is
 
   pub next_within : (1 ≤ n) × (n ≤ length s.day)
@@ -193,7 +193,7 @@ module _ (s : Standing) (own locates : List ℕ) (stocks : List StockMachine) (r
   pub stocks_after : (place : ℕ) (m : StockMachine) → place < length locates → part_at s.day n ≡ Locate (get_or locates place 0) → m ≡ machine_of s.day (get_or locates place 0) n
       → set stocks place m ≡ map (machine_at (record s { done = s.done + 1 })) locates
   stocks_after place m lt owned stepped =
-      let then : Standing = record s { done = s.done + 1 } in
+      let then : WorkerState = record s { done = s.done + 1 } in
       let is = runner.locates_are in
       values_after s n place within_own next_is (omega (arith, lt, ap length is)) (owned ∙ ap (λ (xs : List ℕ). Locate (get_or xs place 0)) is)
       (machine_of s.day) stocks m (runner.stocks_are ∙ ap (map (machine_at s)) is) (stepped ∙ ap (λ (xs : List ℕ). machine_of s.day (get_or xs place 0) n) is)
@@ -248,7 +248,7 @@ codes_are workers worker day = refl
 
 pub runner_new : (split : Split) (worker : ℕ) (own locates : List ℕ) (stocks : List StockMachine)
     → own ≡ own_of split.workers worker split.day → locates ≡ own_locates split.workers worker split.day → stocks ≡ map new_machine locates
-    → IsRunner (standing_in split worker 0) own locates stocks
+    → IsRunner (state_in split worker 0) own locates stocks
 runner_new split worker own locates stocks own_is codes made = record {
   own_is = own_is;
   within = omega arith;

@@ -1,5 +1,5 @@
 -- Schedules, one event more.
-use Rattle.std.proofs.Common.{◌≡◌, ◌≢◌, ℕ, ◌+◌, ◌<◌, List, [], ◌∷◌, ◌++◌, length, get_or, set, take, map, map-id, replicate, eqb, cond, true, false, Option, Some, None, refl, sym, ap, subst, ◌∙◌, arith, inl, inr}
+use Rattle.std.proofs.Common.{◌≡◌, ◌≢◌, ℕ, ◌+◌, ◌<◌, ◌≤◌, List, [], ◌∷◌, ◌++◌, length, get_or, set, take, map, map-id, replicate, eqb, cond, true, false, Option, Some, None, refl, sym, ap, subst, ◌∙◌, arith, inl, inr}
 use Rattle.std.specs.Prelude.{min, count_by, slice_get}
 use Rattle.std.specs.List.{flat_map, range_with_len}
 use Rattle.std.proofs.lemmas.Bool.{cases_eq, eq-eqb, ne_eqb}
@@ -13,9 +13,10 @@ use Rattle.day_core.specs.declared.playing.Event.{Event}
 use Rattle.day_core.specs.declared.playing.Event.TheVariants.{Look, Turn}
 use Rattle.day_core.specs.declared.playing.Seen.{Seen}
 use Rattle.day_core.specs.Cells.{shown}
-use Rattle.day_core.specs.Crew.{Crew, TurnsWorker}
-use Rattle.day_core.specs.Owners.{own_of, owner}
-use Rattle.day_core.specs.Schedules.{Changes, crew_after, done_after, is_turn, seen_at, seen_of, seen_until}
+use Rattle.day_core.specs.Turns.{TurnsState, TurnsWorker}
+use Rattle.day_core.specs.Owners.{own_of, owner, progress}
+use Rattle.day_core.proofs.Progress.{progress_rises}
+use Rattle.day_core.specs.Schedules.{Changes, turns_after, done_after, is_turn, seen_at, seen_of, seen_until}
 
 -- one event more to count
 count_more : (worker : ℕ) (event : Event) (before : List Event) → count_by (is_turn worker) (before ++ event ∷ []) ≡ count_by (is_turn worker) before + cond (is_turn worker event) 1 0
@@ -23,9 +24,9 @@ count_more worker event [] = grind (arith, common_steps)
 count_more worker event (first ∷ before) = let rest = count_more worker event before in grind (arith, common_steps, rest)
 
 -- all workers are this far where each is
-crew_is : (day : List (List ℕ)) (workers : ℕ) (events : List Event) (new : Crew) → new.day ≡ day → length new.done ≡ workers
-    → ((k : ℕ) → k < workers → get_or new.done k 0 ≡ done_after day workers events k) → new ≡ crew_after day workers events
-crew_is day workers events new same many each =
+turns_are : (day : List (List ℕ)) (workers : ℕ) (events : List Event) (new : TurnsState) → new.day ≡ day → length new.done ≡ workers
+    → ((k : ℕ) → k < workers → get_or new.done k 0 ≡ done_after day workers events k) → new ≡ turns_after day workers events
+turns_are day workers events new same many each =
     let far = done_after day workers events in
     let dones_are : new.done ≡ map far (range_with_len 0 workers) =
     same_number_lists new.done _ (many ∙ sym (length-map-range_with_len far 0 workers)) (λ k lt.
@@ -55,9 +56,9 @@ module _ (day : List (List ℕ)) (workers : ℕ) (before : List Event) where
       let more = count_more worker (Turn worker) before in
       grind (arith, common_steps, one, more)
 
-  pub turned : (worker : ℕ) (answer : Option Piece) (new : Crew) → TurnsWorker (crew_after day workers before) new worker answer → new ≡ crew_after day workers (before ++ Turn worker ∷ [])
-  turned worker None new h = crew_is day workers (before ++ Turn worker ∷ []) new (ap (λ (c : Crew). c.day) h.1) (ap (λ (c : Crew). length c.done) h.1 ∙ long) (λ k lt.
-      ap (λ (c : Crew). get_or c.done k 0) h.1 ∙ done_at k lt
+  pub turned : (worker : ℕ) (answer : Option Piece) (new : TurnsState) → TurnsWorker (turns_after day workers before) new worker answer → new ≡ turns_after day workers (before ++ Turn worker ∷ [])
+  turned worker None new h = turns_are day workers (before ++ Turn worker ∷ []) new (ap (λ (c : TurnsState). c.day) h.1) (ap (λ (c : TurnsState). length c.done) h.1 ∙ long) (λ k lt.
+      ap (λ (c : TurnsState). get_or c.done k 0) h.1 ∙ done_at k lt
       ∙ elim (cases_eq k worker) [
         | inl same ↦ subst (λ (j : ℕ). j < workers → done_after day workers before j ≡ done_after day workers (before ++ Turn worker ∷ []) j) (sym same) (λ below.
             let all : done_after day workers before worker ≡ length (own_of workers worker day) =
@@ -70,26 +71,26 @@ module _ (day : List (List ℕ)) (workers : ℕ) (before : List Event) where
       let is = h.3 in
       let more : done_after day workers before worker < length (own_of workers worker day) =
       omega (arith, h.1, done_at worker below, ap (λ (w : ℕ). length (own_of w worker day)) long) in
-      crew_is day workers (before ++ Turn worker ∷ []) new (ap (λ (c : Crew). c.day) is) (ap (λ (c : Crew). length c.done) is ∙ length-set dones worker _ ∙ long) (λ k lt.
-      ap (λ (c : Crew). get_or c.done k 0) is
+      turns_are day workers (before ++ Turn worker ∷ []) new (ap (λ (c : TurnsState). c.day) is) (ap (λ (c : TurnsState). length c.done) is ∙ length-set dones worker _ ∙ long) (λ k lt.
+      ap (λ (c : TurnsState). get_or c.done k 0) is
       ∙ elim (cases_eq k worker) [
         | inl same ↦ subst (λ (j : ℕ). get_or (set dones worker (get_or dones worker 0 + 1)) j 0 ≡ done_after day workers (before ++ Turn worker ∷ []) j) (sym same)
             (get_or-set_same dones worker _ 0 (omega (arith, below, long)) ∙ omega (arith, done_at worker below, more, own_moves worker))
         | inr differ ↦ get_or-set_other dones worker k _ 0 differ ∙ done_at k lt ∙ other_stays worker k differ
       ])
 
-  looked : (screen locate : ℕ) → crew_after day workers before ≡ crew_after day workers (before ++ Look screen locate ∷ [])
-  looked screen locate = crew_is day workers (before ++ Look screen locate ∷ []) (crew_after day workers before) refl long (λ k lt.
+  looked : (screen locate : ℕ) → turns_after day workers before ≡ turns_after day workers (before ++ Look screen locate ∷ [])
+  looked screen locate = turns_are day workers (before ++ Look screen locate ∷ []) (turns_after day workers before) refl long (λ k lt.
       let more = count_more k (Look screen locate) before in
       done_at k lt ∙ ap (λ (n : ℕ). min n (length (own_of workers k day))) (sym (more ∙ omega arith)))
 
   -- an event changes the workers as its place in the schedule says
-  pub changed : (event : Event) (new : Crew) → Changes (crew_after day workers before) event new → new ≡ crew_after day workers (before ++ event ∷ [])
+  pub changed : (event : Event) (new : TurnsState) → Changes (turns_after day workers before) event new → new ≡ turns_after day workers (before ++ event ∷ [])
   changed (Turn worker) new h = turned worker h.0 new h.1
   changed (Look screen locate) new h = h ∙ looked screen locate
 
   -- and shows what it says
-  pub shows : 0 < workers → (event : Event) → seen_of (crew_after day workers before) event ≡ seen_at day workers before (Some event)
+  pub shows : 0 < workers → (event : Event) → seen_of (turns_after day workers before) event ≡ seen_at day workers before (Some event)
   shows some (Turn worker) = refl
   shows some (Look screen locate) =
       let words = ap (λ (w : ℕ). shown day w locate (get_or dones (owner w locate) 0)) long
@@ -97,9 +98,9 @@ module _ (day : List (List ℕ)) (workers : ℕ) (before : List Event) where
       ap (λ (ws : List ℕ). let s : Seen = record { screen = screen; locate = locate; words = ws } in s ∷ []) words
 
 -- before the first event
-pub crew_first : (crew : Crew) → crew ≡ record { day = crew.day; done = replicate (length crew.done) 0 } → crew ≡ crew_after crew.day (length crew.done) []
-crew_first crew zeros = crew_is crew.day (length crew.done) [] crew refl refl (λ k lt.
-    ap (λ (c : Crew). get_or c.done k 0) zeros ∙ get_or-replicate (length crew.done) k 0 0 lt ∙ omega arith)
+pub turns_first : (turns : TurnsState) → turns ≡ record { day = turns.day; done = replicate (length turns.done) 0 } → turns ≡ turns_after turns.day (length turns.done) []
+turns_first turns zeros = turns_are turns.day (length turns.done) [] turns refl refl (λ k lt.
+    ap (λ (c : TurnsState). get_or c.done k 0) zeros ∙ get_or-replicate (length turns.done) k 0 0 lt ∙ omega arith)
 
 -- one event more
 pub seen_more : (day : List (List ℕ)) (workers : ℕ) (events : List Event) (i : ℕ) (d : Event) → i < length events
@@ -111,3 +112,15 @@ seen_more day workers events i d lt =
   where
     range_more : (a n : ℕ) → range_with_len 0 (n + 1) ≡ range_with_len 0 n ++ n ∷ []
     range_more a n = sym (map-id _) ∙ map-range_with_len_more (λ (k : ℕ). k) 0 n n (omega arith) ∙ ap (λ (l : List ℕ). l ++ n ∷ []) (map-id _)
+
+-- ---- looks never go back
+
+count_rises : (worker : ℕ) (before more : List Event) → count_by (is_turn worker) before ≤ count_by (is_turn worker) (before ++ more)
+count_rises worker [] more = omega arith
+count_rises worker (event ∷ before) more = let rest = count_rises worker before more in grind (arith, common_steps, rest)
+
+pub looks_rise : (day : List (List ℕ)) (workers locate : ℕ) (before more : List Event)
+    → progress day workers locate (done_after day workers before (owner workers locate))
+    ≤ progress day workers locate (done_after day workers (before ++ more) (owner workers locate))
+looks_rise day workers locate before more =
+    progress_rises day workers locate _ _ (omega (arith, count_rises (owner workers locate) before more))

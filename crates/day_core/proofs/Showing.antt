@@ -6,7 +6,7 @@ use Rattle.std.proofs.lemmas.List.{get_or-map, take_all}
 use Rattle.itch_table.specs.declared.order.Top.{Top}
 use Rattle.itch_table.specs.Levels.{top}
 use Rattle.itch_table.specs.Projection.{is_locate}
-use Rattle.itch_table.specs.Shows.{top_after, words_of}
+use Rattle.itch_table.specs.Shows.{Shows, top_after, words_of}
 use Rattle.itch_table.specs.World.{orders_of}
 use Rattle.itch_table.proofs.StockDays.{own_part}
 use Rattle.itch_table.proofs.Tops.{top_after-none, top_after-only}
@@ -15,8 +15,8 @@ use Rattle.day_core.specs.declared.merging.Piece.{Piece}
 use Rattle.day_core.specs.declared.runner.Turned.{Turned}
 use Rattle.day_core.specs.Cells.{CellsShow, shown, words_at}
 use Rattle.day_core.specs.Owners.{last_or, machine_of, of_stock, own_locates, own_of, owner, part_at, progress}
-use Rattle.day_core.specs.Standing.{IsTurned, Standing, machine_at, own_messages, own_stocks}
-use Rattle.day_core.proofs.Progress.{own_passes, own_within, progress_first, progress_kept}
+use Rattle.day_core.specs.Workers.{IsTurned, WorkerState, machine_at, worker_messages, worker_locates}
+use Rattle.day_core.proofs.Progress.{own_passes, own_within, past_end, progress_first, progress_kept, progress_within}
 use Rattle.day_core.proofs.Running.{code_there, progress_here, values_after}
 
 -- the top of a stock's machine after a number of messages of a day
@@ -24,30 +24,25 @@ top_is : (day : List (List ℕ)) (locate n : ℕ) (m : StockMachine) → m ≡ m
 top_is day locate n m is = ap (λ (k : StockMachine). top (orders_of k.world k.locate)) is ∙ sym (top_after-only day locate n)
 
 -- a turn sets the cell of its stock
-pub cells_turned : (s new : Standing) (t : Turned) (cells : List (List ℕ)) (m : StockMachine) (best : Top) (words : List ℕ) → IsTurned s t → new ≡ record s { done = s.done + 1 } → CellsShow s cells
-    → m ≡ machine_at new (get_or (own_stocks new) t.place 0) → best ≡ top (orders_of m.world m.locate) → words ≡ words_of t.piece.message best
+pub cells_turned : (s new : WorkerState) (t : Turned) (cells : List (List ℕ)) (m : StockMachine) (best : Top) (words : List ℕ) → IsTurned s t → new ≡ record s { done = s.done + 1 } → CellsShow s cells
+    → m ≡ machine_at new (get_or (worker_locates new) t.place 0) → best ≡ top (orders_of m.world m.locate) → words ≡ words_of t.piece.message best
     → CellsShow new (set cells t.place words)
 cells_turned s new t cells m best words turned moved show stock is made =
     let n = t.piece.message in
-    let locate = get_or (own_stocks s) t.place 0 in
-    let next : n ≡ get_or (own_messages s) s.done 0 = ap (λ (p : Piece). p.message) turned.piece in
+    let locate = get_or (worker_locates s) t.place 0 in
+    let next : n ≡ get_or (worker_messages s) s.done 0 = ap (λ (p : Piece). p.message) turned.piece in
     let far = progress_here s n t.place turned.more next turned.within turned.stock in
     let stands : m ≡ machine_of s.day locate n =
-    stock ∙ ap (λ (z : Standing). machine_at z (get_or (own_stocks z) t.place 0)) moved ∙ ap (machine_of s.day locate) far
+    stock ∙ ap (λ (z : WorkerState). machine_at z (get_or (worker_locates z) t.place 0)) moved ∙ ap (machine_of s.day locate) far
     in
     let shows : words ≡ words_at s.day locate n = made ∙ ap (words_of n) (is ∙ top_is s.day locate n m stands) in
-    subst (λ (z : Standing). CellsShow z (set cells t.place words)) (sym moved)
+    subst (λ (z : WorkerState). CellsShow z (set cells t.place words)) (sym moved)
     (values_after s n t.place turned.more next turned.within turned.stock (words_at s.day) cells words show shows)
 
 -- ---- a look
 
--- past the last of its worker's messages a stock stays where it is
-past_end : (day : List (List ℕ)) (workers locate done : ℕ) → length (own_of workers (owner workers locate) day) ≤ done → progress day workers locate (done + 1) ≡ progress day workers locate done
-unfolding progress
-past_end day workers locate done past =
-    let own = own_of workers (owner workers locate) day in
-    let same : take (done + 1) own ≡ take done own = take_all (done + 1) own (omega (arith, past)) ∙ sym (take_all done own past) in
-    ap (λ (l : List ℕ). last_or 0 (of_stock day locate l)) same
+pub shows_progress : (day : List (List ℕ)) (workers locate done : ℕ) → Shows day locate (progress day workers locate done) (shown day workers locate done)
+shows_progress day workers locate done = (progress_within day workers locate done, refl)
 
 -- a stock of no message has come nowhere
 progress_absent : (day : List (List ℕ)) (workers locate done : ℕ) → locate < 0x1_0000 → ¬ Contains (own_locates workers (owner workers locate) day) locate → progress day workers locate done ≡ 0
@@ -70,15 +65,15 @@ progress_absent day workers locate (suc done) fits absent = subst (λ (k : ℕ).
           | inr past ↦ past_end day workers locate done past ∙ before
         ]
 
-pub looks_absent : (s : Standing) (locate : ℕ) → locate < 0x1_0000 → owner s.workers locate ≡ s.worker → ¬ Contains (own_stocks s) locate → 0 ∷ 0 ∷ 0 ∷ 0 ∷ [] ≡ shown s.day s.workers locate s.done
+pub looks_absent : (s : WorkerState) (locate : ℕ) → locate < 0x1_0000 → owner s.workers locate ≡ s.worker → ¬ Contains (worker_locates s) locate → 0 ∷ 0 ∷ 0 ∷ 0 ∷ [] ≡ shown s.day s.workers locate s.done
 looks_absent s locate fits mine absent =
     let none = progress_absent s.day s.workers locate s.done fits (rw mine absent) in
     rw (none, top_after-none s.day locate) refl
 
-pub looks_there : (s : Standing) (cells : List (List ℕ)) (locate place : ℕ) (d words : List ℕ) → CellsShow s cells → place < length (own_stocks s) → get_or (own_stocks s) place 0 ≡ locate
+pub looks_there : (s : WorkerState) (cells : List (List ℕ)) (locate place : ℕ) (d words : List ℕ) → CellsShow s cells → place < length (worker_locates s) → get_or (worker_locates s) place 0 ≡ locate
     → words ≡ get_or cells place d → words ≡ shown s.day s.workers locate s.done
 looks_there s cells locate place d words show listed is at =
-    at ∙ ap (λ (cs : List (List ℕ)). get_or cs place d) show ∙ get_or-map (λ l. shown s.day s.workers l s.done) (own_stocks s) place 0 d listed
+    at ∙ ap (λ (cs : List (List ℕ)). get_or cs place d) show ∙ get_or-map (λ l. shown s.day s.workers l s.done) (worker_locates s) place 0 d listed
     ∙ ap (λ (l : ℕ). shown s.day s.workers l s.done) is
 
 pub all_same : {X Y : Type 0} (f : X → Y) (y : Y) → ((x : X) → f x ≡ y) → (xs : List X) → replicate (length xs) y ≡ map f xs
@@ -86,9 +81,9 @@ all_same f y same [] = refl
 all_same f y same (x ∷ xs) = λ i. sym (same x) i ∷ all_same f y same xs i
 
 -- before the first turn each stock's cell is four zeros
-pub cells_first : (s : Standing) (cells : List (List ℕ)) → s.done ≡ 0 → cells ≡ replicate (length (own_stocks s)) (0 ∷ 0 ∷ 0 ∷ 0 ∷ []) → CellsShow s cells
+pub cells_first : (s : WorkerState) (cells : List (List ℕ)) → s.done ≡ 0 → cells ≡ replicate (length (worker_locates s)) (0 ∷ 0 ∷ 0 ∷ 0 ∷ []) → CellsShow s cells
 cells_first s cells none zeros =
-    zeros ∙ all_same (λ locate. shown s.day s.workers locate s.done) (0 ∷ 0 ∷ 0 ∷ 0 ∷ []) first (own_stocks s)
+    zeros ∙ all_same (λ locate. shown s.day s.workers locate s.done) (0 ∷ 0 ∷ 0 ∷ 0 ∷ []) first (worker_locates s)
   where
     first : (locate : ℕ) → shown s.day s.workers locate s.done ≡ 0 ∷ 0 ∷ 0 ∷ 0 ∷ []
     first locate = let nowhere = progress_first s.day s.workers locate in rw (none, nowhere, top_after-none s.day locate) refl

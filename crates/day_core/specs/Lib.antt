@@ -1,10 +1,10 @@
 pub mod Cells
-pub mod Crew
-pub mod Dealing
+pub mod Turns
+pub mod Counting
 pub mod Merging
 pub mod Owners
 pub mod Placed
 pub mod Replaying
 pub mod Schedules
 pub mod Splitting
-pub mod Standing
+pub mod Workers

@@ -1,4 +1,4 @@
--- What pieces make of a day, each of which names a message and what became of it. The rules are of this project.
+-- What pieces make of a day, each of which names a message and what became of it. All is of this project.
 use Rattle.std.specs.Prelude.{◌≡◌, ℕ, List, ◌++◌, ◌==◌, ◌+◌, ◌<◌, ◌≤◌, length, take, count_by, Option, Some, None, MatchOption, IsSome, slice_index_or}
 use Rattle.std.specs.List.{Contains, flat_map}
 use Rattle.itch_table.specs.declared.outcome.Outcome.{Outcome}
@@ -14,7 +14,7 @@ joined lists = flat_map (λ list. list) lists
 abbrev pub named : ℕ → List Piece → ℕ
 named message pieces = count_by (λ piece. piece.message == message) pieces
 
--- a day of so many messages has this one
+-- a day of this many messages has this one
 abbrev pub HasMessage : ℕ → ℕ → Type 0
 HasMessage messages message = (0 < message) × (message ≤ messages)
 
@@ -37,7 +37,8 @@ pub record IsMerged (messages : ℕ) (pieces : List Piece) (outcomes : List Outc
 abbrev pub IsFaulty : ℕ → List Piece → Piece → MergeFault → Type 0
 IsFaulty messages others piece (Double message) =
     (message ≡ piece.message) × HasMessage messages message × (0 < named message others)
-IsFaulty messages others piece (Stranger message) = (message ≡ piece.message) × (¬ HasMessage messages message)
+IsFaulty messages others piece (Stranger message) =
+    (message ≡ piece.message) × (¬ HasMessage messages message)
 IsFaulty messages others piece Memory = ⊥
 IsFaulty messages others piece (Missing message) = ⊥
 
@@ -69,9 +70,10 @@ pub record Holds (pieces : List Piece) (slots : List (Option Outcome)) : Type 0 
   pub slot : (before : ℕ) (d : Option Outcome) → before < length slots
       → MatchOption (slice_index_or slots before d)
       (named (before + 1) pieces ≡ 0)
-      (λ outcome. (named (before + 1) pieces ≡ 1) × Contains pieces (record { message = before + 1; outcome = outcome }))
+      (λ outcome. (named (before + 1) pieces ≡ 1)
+      × Contains pieces (record { message = before + 1; outcome = outcome }))
 
--- the fault is that of a piece of a list, after other pieces and those before it in the list, which are all sound
+-- the fault is that of a piece of a list, after other pieces and those before it there, which are all sound
 abbrev pub Found : ℕ → List Piece → List Piece → MergeFault → Type 0
 Found messages others list fault =
     (place : ℕ) × (place < length list) × AreSound messages (others ++ take place list)

@@ -33,9 +33,13 @@ own_until workers worker day count =
 unfoldable pub own_of : ℕ → ℕ → List (List ℕ) → List ℕ
 own_of workers worker day = own_until workers worker day (length day)
 
+-- those of some locate codes that belong to a worker
+abbrev pub locates_by : ℕ → ℕ → List ℕ → List ℕ
+locates_by workers worker locates = filter (λ locate. owner workers locate == worker) locates
+
 -- the locate codes of a worker's stocks, rising
 unfoldable pub own_locates : ℕ → ℕ → List (List ℕ) → List ℕ
-own_locates workers worker day = filter (λ locate. owner workers locate == worker) (locates_of_day day)
+own_locates workers worker day = locates_by workers worker (locates_of_day day)
 
 -- a message of a day with its outcome
 abbrev pub piece_of : List (List ℕ) → ℕ → Piece
@@ -46,10 +50,13 @@ abbrev pub is_nowhere : Part → Bool
 is_nowhere (Locate locate) = false
 is_nowhere (Nowhere fixed) = true
 
+-- those of the first messages that are of no stock, with their outcomes, rising
+abbrev pub fixed_until : List (List ℕ) → ℕ → List Piece
+fixed_until day count = map (piece_of day) (filter (λ n. is_nowhere (part_at day n)) (range_with_len 1 count))
+
 -- the messages of no stock with their outcomes, rising
 unfoldable pub fixed_pieces : List (List ℕ) → List Piece
-fixed_pieces day =
-    map (piece_of day) (filter (λ n. is_nowhere (part_at day n)) (range_with_len 1 (length day)))
+fixed_pieces day = fixed_until day (length day)
 
 -- ---- how far a stock is
 

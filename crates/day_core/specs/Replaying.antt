@@ -1,11 +1,11 @@
 -- What the workers of a day make of all of it. Of this project.
-use Rattle.std.specs.Prelude.{◌≡◌, ◌++◌, ◌==◌, ◌<◌, ℕ, List, Option, filter, length, map, slice_index_or}
+use Rattle.std.specs.Prelude.{◌≡◌, ◌++◌, ◌<◌, ℕ, List, Option, length, map, slice_index_or}
 use Rattle.std.specs.List.{flat_map, range_with_len}
 use Rattle.itch_table.specs.declared.outcome.Outcome.{Outcome}
 use Rattle.itch_table.specs.After.{after, outcomes}
 use Rattle.itch_table.specs.Shows.{locates_of_day}
 use Rattle.stock_machine.specs.StockRows.{StockMachine}
-use Rattle.day_core.specs.Owners.{fixed_pieces, machine_of, own_of, owner, piece_of}
+use Rattle.day_core.specs.Owners.{fixed_pieces, locates_by, machine_of, own_of, piece_of}
 use Rattle.day_core.specs.Splitting.{Split}
 use Rattle.day_core.specs.declared.merging.Piece.{Piece}
 
@@ -33,13 +33,11 @@ pieces_until split count = flat_map (pieces_by split) (range_with_len 0 count)
 abbrev pub all_pieces : Split → List Piece
 all_pieces split = pieces_until split split.workers ++ fixed_pieces split.day
 
--- those of some locate codes that belong to a worker
-abbrev pub codes_by : Split → ℕ → List ℕ → List ℕ
-codes_by split worker locates = filter (λ locate. owner split.workers locate == worker) locates
-
 -- for each worker the machines after the day of its stocks among those of some locate codes
-pub record AreCrews (split : Split) (locates : List ℕ) (crews : List (List StockMachine)) : Type 0 where
+pub record AreStocksByWorker (split : Split) (locates : List ℕ)
+    (by_worker : List (List StockMachine)) : Type 0 where
   pub some : 0 < split.workers
-  pub long : length crews ≡ split.workers
+  pub long : length by_worker ≡ split.workers
   pub each : (worker : ℕ) (d : List StockMachine) → worker < split.workers
-      → slice_index_or crews worker d ≡ map (last_machine split.day) (codes_by split worker locates)
+      → slice_index_or by_worker worker d
+      ≡ map (last_machine split.day) (locates_by split.workers worker locates)

@@ -6,7 +6,7 @@ use Rattle.day_core.specs.declared.playing.Event.{Event}
 use Rattle.day_core.specs.declared.playing.Event.TheVariants.{Look, Turn}
 use Rattle.day_core.specs.declared.playing.Seen.{Seen}
 use Rattle.day_core.specs.Cells.{shown}
-use Rattle.day_core.specs.Crew.{Crew, TurnsWorker, workers_of}
+use Rattle.day_core.specs.Turns.{TurnsState, TurnsWorker, workers_of}
 use Rattle.day_core.specs.Owners.{own_of, owner}
 
 -- whether an event is a turn of this worker
@@ -16,14 +16,16 @@ is_turn worker (Look screen locate) = false
 
 -- how many of its messages a worker has done after these events: one a turn, as long as it has any
 abbrev pub done_after : List (List ℕ) → ℕ → List Event → ℕ → ℕ
-done_after day workers events worker = min (count_by (is_turn worker) events) (length (own_of workers worker day))
+done_after day workers events worker =
+    min (count_by (is_turn worker) events) (length (own_of workers worker day))
 
 -- how far all workers of a day are after these events
-abbrev pub crew_after : List (List ℕ) → ℕ → List Event → Crew
-crew_after day workers events =
+abbrev pub turns_after : List (List ℕ) → ℕ → List Event → TurnsState
+turns_after day workers events =
     record { day = day; done = map (done_after day workers events) (range_with_len 0 workers) }
 
--- what an event shows after those before it: a look shows a stock as far as its worker has come, and a turn nothing
+-- what an event shows after those before it: a look shows a stock as far as its worker has come, and a turn
+-- nothing
 abbrev pub seen_at : List (List ℕ) → ℕ → List Event → Option Event → List Seen
 seen_at day workers before None = []
 seen_at day workers before (Some (Turn worker)) = []
@@ -46,16 +48,17 @@ seen_by day workers events = seen_until day workers events (length events)
 -- ---- one event
 
 -- what an event changes: a turn what a turn of its worker does, and a look nothing
-abbrev pub Changes : Crew → Event → Crew → Type 0
+abbrev pub Changes : TurnsState → Event → TurnsState → Type 0
 Changes old (Turn worker) new = (answer : Option Piece) × TurnsWorker old new worker answer
 Changes old (Look screen locate) new = new ≡ old
 
 -- what an event shows of workers that are this far
-abbrev pub seen_of : Crew → Event → List Seen
-seen_of crew (Turn worker) = []
-seen_of crew (Look screen locate) =
+abbrev pub seen_of : TurnsState → Event → List Seen
+seen_of turns (Turn worker) = []
+seen_of turns (Look screen locate) =
     record {
       screen = screen;
       locate = locate;
-      words = shown crew.day (workers_of crew) locate (slice_index crew.done (owner (workers_of crew) locate));
+      words =
+          shown turns.day (workers_of turns) locate (slice_index turns.done (owner (workers_of turns) locate));
     } ∷ []

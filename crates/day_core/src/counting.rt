@@ -1,7 +1,7 @@
 // How many messages each stock of a day has, and the stocks that have some.
 ghost use Rattle.std.specs.Prelude.{ℕ, ◌≡◌, ◌+◌, ◌^◌, ◌<◌, ◌≤◌, IfOk, filter, length, nat_lt, slice_index};
 ghost use Rattle.std.specs.List.{AllZip, range_with_len};
-ghost use Rattle.day_core.specs.Dealing.{AreCounts, AreCountsOfChunk, cut};
+ghost use Rattle.day_core.specs.Counting.{AreCounts, AreCountsOfChunk, cut};
 
 use binaryfile::Day;
 use itch_table::{Part, part};

@@ -2,7 +2,6 @@
 #![tactic(auto)]
 
 mod counting;
-mod desk;
 mod laws;
 mod merging;
 mod parts;
@@ -12,12 +11,13 @@ mod replaying;
 mod runner;
 mod splitting;
 mod turns;
+mod worker_cells;
 
-pub use laws::days_come_to_their_end;
+pub use laws::{days_come_to_their_end, looks_never_go_back, looks_show_their_stock};
 pub use merging::{MergeFault, Piece, merge};
 pub use parts::Parts;
 pub use playing::{Event, Seen, play};
-pub use replaying::{Replayed, replay_parts};
+pub use replaying::{ReplayedDay, replay_parts};
 pub use runner::{Runner, Turned};
 pub use splitting::{SplitFault, split};
 pub use turns::Turns;

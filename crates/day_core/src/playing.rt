@@ -1,6 +1,6 @@
 //! Schedules: turns of a day's workers and looks of screens, in any order.
 ghost use Rattle.std.specs.Prelude.{◌≡◌, ◌++◌, ◌<◌, ◌⊎◌, ◌↔◌, IfOk, IsErrOf, OnOk, replicate};
-ghost use Rattle.day_core.specs.Crew.{workers_of};
+ghost use Rattle.day_core.specs.Turns.{workers_of};
 ghost use Rattle.day_core.specs.Schedules.{Changes, seen_by, seen_of};
 
 use crate::splitting::SplitFault;
@@ -31,8 +31,8 @@ pub struct Seen {
     /// The stock's locate code.
     pub locate: u16,
     /// The stock's best bid and ask as four words: the number of the last message done that is of the stock; the bid's
-    /// price times 2^32 and the ask's price, in 1/10,000 of a currency unit; the bid's shares; and the ask's. Four zeros
-    /// before the first message.
+    /// price times 2^32 and the ask's price, in 1/10,000 of a currency unit; the bid's shares; and the ask's. Four
+    /// zeros before the first message.
     pub words: [u64; 4],
 }
 
@@ -80,10 +80,11 @@ fn watch<A: Allocator + Copy>(
     Ok(seen)
 }
 
-/// Runs a whole schedule of a day that is split for this many workers, from 1 to 64: what the looks see, in their order.
+/// Runs a whole schedule of a day that is split for this many workers, from 1 to 64: what the looks see, in order.
 ///
-/// A turn of a worker that is through, or of a number that is no worker's, does nothing. A look shows the stock's best
-/// bid and ask after the last of its messages that its worker has done by then.
+/// A turn of a worker that has done all of its messages, or of a number that is no worker's, does nothing. A look shows
+/// the stock's best bid and ask after the last of its messages that its worker has done by then, so that looks at a
+/// stock never go back ([`looks_never_go_back`](crate::looks_never_go_back)).
 /// [`SplitFault::Workers`] where the number of workers is another, which is looked at first, and else
 /// [`SplitFault::Memory`] where memory is refused. Schedules are of this project.
 pub fn play<R: Threads + Sync, A: Allocator + Copy + Send + Sync>(

@@ -4,8 +4,8 @@ ghost use Rattle.itch_table.specs.After.{outcomes};
 ghost use Rattle.itch_table.specs.Shows.{locates_of_day};
 ghost use Rattle.day_core.specs.Merging.{joined};
 ghost use Rattle.day_core.specs.Owners.{own_locates};
-ghost use Rattle.day_core.specs.Replaying.{AreCrews, IsReplayed, all_pieces, last_machine, pieces_by, pieces_until};
-ghost use Rattle.day_core.specs.Standing.{machine_at, own_stocks};
+ghost use Rattle.day_core.specs.Replaying.{AreStocksByWorker, IsReplayed, all_pieces, last_machine, pieces_by, pieces_until};
+ghost use Rattle.day_core.specs.Workers.{machine_at, worker_locates};
 
 use crate::merging::{MergeFault, Piece, merge};
 use crate::parts::Parts;
@@ -18,7 +18,7 @@ use stock_machine::Stock;
 
 /// What a whole day makes.
 #[derive(Drop)]
-pub struct Replayed<A: Allocator> {
+pub struct ReplayedDay<A: Allocator> {
     /// What became of each message, in order.
     pub outcomes: Vec<Outcome, A>,
     /// The machines of the stocks that have messages in the day, by rising locate code.
@@ -35,8 +35,8 @@ fn do_all<A: Allocator + Copy>(
 ) -> Result<(), AllocError>
     requires day { day.now.payloads ≡ runner.old.day }
     requires none { runner.old.done ≡ 0 }
-    ensures stocks { OnOk result (map (machine_at runner.new) (own_stocks runner.new)
-        ≡ map (last_machine runner.old.day) (own_stocks runner.old)) }
+    ensures stocks { OnOk result (map (machine_at runner.new) (worker_locates runner.new)
+        ≡ map (last_machine runner.old.day) (worker_locates runner.old)) }
     ensures pieces { OnOk result (pieces.new.items
         ≡ pieces.old.items
         ++ pieces_by (record { day = runner.old.day; workers = runner.old.workers }) runner.old.worker) }
@@ -66,7 +66,7 @@ fn run_worker<A: Allocator + Copy>(
     Ok(VecDeque::from_vec(runner.into_stocks()))
 }
 
-// Does the messages of all workers, one worker after another, notes what became of each, and answers their stocks.
+// Does the messages of all workers, one after another, notes what became of each, and answers their stocks.
 fn run_workers<A: Allocator + Copy>(
     alloc: A,
     parts: &Parts<A>,
@@ -76,35 +76,36 @@ fn run_workers<A: Allocator + Copy>(
     requires day { day.now.payloads ≡ parts.now.day }
     requires none { pieces.old.items ≡ [] }
     ensures pieces { OnOk result (pieces.new.items ≡ pieces_until parts.now parts.now.workers) }
-    ensures crews { IfOk result (λ crews. AreCrews parts.now (locates_of_day parts.now.day)
-        (map (λ crew. crew.items) crews.items)) }
+    ensures by_worker { IfOk result (λ by_worker. AreStocksByWorker parts.now (locates_of_day parts.now.day)
+        (map (λ stocks. stocks.items) by_worker.items)) }
 {
     let workers = parts.workers();
-    let mut crews = Vec::with_capacity(alloc, workers as usize)?;
+    let mut by_worker = Vec::with_capacity(alloc, workers as usize)?;
     for worker in 0..workers {
-        let crew = run_worker(alloc, parts, day, worker, pieces)?;
-        crews.push(crew)?;
+        let stocks = run_worker(alloc, parts, day, worker, pieces)?;
+        by_worker.push(stocks)?;
     }
-    Ok(crews)
+    Ok(by_worker)
 }
 
 // The stocks of all workers, by rising locate code.
 fn in_order<A: Allocator + Copy>(
     alloc: A,
     parts: &Parts<A>,
-    crews: Vec<VecDeque<Stock<A>, A>, A>,
+    by_worker: Vec<VecDeque<Stock<A>, A>, A>,
 ) -> Result<Vec<Stock<A>, A>, AllocError>
-    requires { AreCrews parts.now (locates_of_day parts.now.day) (map (λ crew. crew.items) crews.items) }
+    requires { AreStocksByWorker parts.now (locates_of_day parts.now.day)
+        (map (λ stocks. stocks.items) by_worker.items) }
     ensures { IfOk result (λ stocks.
         stocks.items ≡ map (last_machine parts.now.day) (locates_of_day parts.now.day)) }
 {
-    let mut crews = crews;
+    let mut by_worker = by_worker;
     let workers = parts.workers();
     let locates = parts.locates();
     let mut stocks = Vec::with_capacity(alloc, locates.len())?;
     for locate in locates {
         let owner = (u32::from(*locate) % workers) as usize;
-        let Some(stock) = crews[owner].pop_front() else {
+        let Some(stock) = by_worker[owner].pop_front() else {
             unreachable!()
         };
         stocks.push(stock)?;
@@ -162,16 +163,16 @@ pub fn replay_parts<A: Allocator + Copy>(
     alloc: A,
     parts: &Parts<A>,
     day: &Day<A>,
-) -> Result<Replayed<A>, AllocError>
+) -> Result<ReplayedDay<A>, AllocError>
     requires { day.now.payloads ≡ parts.now.day }
     ensures { IfOk result (λ replayed. IsReplayed day.now.payloads
         replayed.outcomes.items replayed.stocks.items replayed.event) }
 {
     let mut pieces = Vec::with_capacity(alloc, day.len() as usize)?;
-    let crews = run_workers(alloc, parts, day, &mut pieces)?;
-    let stocks = in_order(alloc, parts, crews)?;
+    let by_worker = run_workers(alloc, parts, day, &mut pieces)?;
+    let stocks = in_order(alloc, parts, by_worker)?;
     let outcomes = all_outcomes(alloc, parts, day, pieces)?;
-    Ok(Replayed {
+    Ok(ReplayedDay {
         outcomes,
         stocks,
         event: parts.event(),

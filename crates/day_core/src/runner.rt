@@ -4,7 +4,7 @@ ghost use Rattle.std.specs.List.{Contains};
 ghost use Rattle.itch_table.specs.declared.outcome.Part.TheVariants.{Locate};
 ghost use Rattle.itch_table.specs.Projection.{payload_at};
 ghost use Rattle.day_core.specs.Owners.{is_own, own_locates, part_at};
-ghost use Rattle.day_core.specs.Standing.{TakesTurn, first_standing, machine_at, new_machine, own_stocks};
+ghost use Rattle.day_core.specs.Workers.{TakesTurn, first_state, machine_at, new_machine, worker_locates};
 
 use crate::merging::Piece;
 use crate::parts::Parts;
@@ -41,13 +41,13 @@ pub struct Runner<A: Allocator> {
 
 impl<A: Allocator> Model for Runner<A> {
     ghost use Rattle.day_core.specs.Splitting.{Split};
-    ghost use Rattle.day_core.specs.Standing.{IsRunner, Standing, standing_in};
+    ghost use Rattle.day_core.specs.Workers.{IsRunner, WorkerState, state_in};
 
-    ghost Value = { Standing };
+    ghost Value = { WorkerState };
 
-    ghost view = { λ r. standing_in r.parts.value r.worker r.done };
+    ghost view = { λ r. state_in r.parts.value r.worker r.done };
 
-    ghost invariant = { λ r. IsRunner (standing_in r.parts.value r.worker r.done)
+    ghost invariant = { λ r. IsRunner (state_in r.parts.value r.worker r.done)
         r.own.items r.places r.stocks.items };
 }
 
@@ -113,7 +113,7 @@ impl<A: Allocator + Copy> Runner<A> {
     /// 0. An error says that memory was refused.
     pub fn new(alloc: A, parts: &Parts<A>, worker: u32) -> Result<Runner<A>, AllocError>
         requires { worker < parts.now.workers }
-        ensures { IfOk result (λ runner. runner ≡ first_standing parts.now worker) }
+        ensures { IfOk result (λ runner. runner ≡ first_state parts.now worker) }
     {
         let messages = parts.own(worker);
         let mut own = Vec::with_capacity(alloc, messages.len())?;
@@ -132,7 +132,7 @@ impl<A: Allocator + Copy> Runner<A> {
     }
 
     /// Does the worker's next message on the machine of its stock, and answers what became of it; none, with nothing
-    /// changed, exactly where the worker is through. The caller hands the day that was split.
+    /// changed, exactly where the worker has done all of them. The caller hands the day that was split.
     ///
     /// An error says that memory was refused, and leaves the worker as it was, so that its next turn tries the same
     /// message. The stock's best bid and ask after the message are those of its machine: `stock_at(turned.place)`.
@@ -160,7 +160,7 @@ impl<A: Allocator + Copy> Runner<A> {
 impl<A: Allocator> Runner<A> {
     /// How many stocks the worker has.
     pub fn stock_count(&self) -> usize
-        ensures { result ≡ length (own_stocks self.now) }
+        ensures { result ≡ length (worker_locates self.now) }
     {
         self.stocks.len()
     }
@@ -168,23 +168,24 @@ impl<A: Allocator> Runner<A> {
     /// The machine of one of the worker's stocks, by its place among them. The caller hands a place below the number of
     /// its stocks.
     pub fn stock_at(&self, place: usize) -> &Stock<A>
-        requires { place < length (own_stocks self.now) }
-        ensures { result.now ≡ machine_at self.now (slice_index (own_stocks self.now) place) }
+        requires { place < length (worker_locates self.now) }
+        ensures { result.now ≡ machine_at self.now (slice_index (worker_locates self.now) place) }
     {
         &self.stocks[place]
     }
 
     /// The place of a stock among the worker's; none where it isn't one of them.
     pub fn place_of(&self, locate: u16) -> Option<usize>
-        ensures { MatchOption result (¬ Contains (own_stocks self.now) locate) (λ place.
-            (place < length (own_stocks self.now)) × (slice_index (own_stocks self.now) place ≡ locate)) }
+        ensures { MatchOption result (¬ Contains (worker_locates self.now) locate) (λ place.
+            (place < length (worker_locates self.now))
+            × (slice_index (worker_locates self.now) place ≡ locate)) }
     {
         self.places.place_of(locate)
     }
 
     /// The machines of the worker's stocks, by rising locate code.
     pub fn into_stocks(self) -> Vec<Stock<A>, A>
-        ensures { result.items ≡ map (machine_at self) (own_stocks self) }
+        ensures { result.items ≡ map (machine_at self) (worker_locates self) }
     {
         self.stocks
     }

@@ -2,7 +2,7 @@
 ghost use Rattle.std.specs.Prelude.{◌≡◌, ◌++◌, ◌∷◌, ◌<◌, ◌≤◌, ◌⊎◌, ◌↔◌, [], None, IfOk, IsErrOf, OnOk, length, map, replicate, slice_index_or, slice_set};
 ghost use Rattle.itch_layouts.specs.Shapes.{shape_of};
 ghost use Rattle.itch_table.specs.Projection.{event_with};
-ghost use Rattle.day_core.specs.Dealing.{AreDealt};
+ghost use Rattle.day_core.specs.Splitting.{AreDealt};
 ghost use Rattle.day_core.specs.declared.splitting.SplitFault.TheVariants.{Memory};
 
 use crate::counting::{locates_counted, messages_by_locate};

@@ -1,16 +1,15 @@
 //! All workers of a day without threads, in any order.
-ghost use Rattle.std.specs.Prelude.{◌≡◌, ◌%◌, ◌<◌, ◌⊎◌, ◌↔◌, IfOk, IsErrOf, MatchOption, OnErr, map, replicate, slice_index};
+ghost use Rattle.std.specs.Prelude.{◌≡◌, ◌<◌, ◌⊎◌, ◌↔◌, IfOk, IsErrOf, MatchOption, OnErr, map, replicate};
 ghost use Rattle.std.specs.List.{Contains, range_with_len};
-ghost use Rattle.itch_table.specs.Shows.{locates_of_day};
-ghost use Rattle.day_core.specs.Owners.{machine_of, progress};
-ghost use Rattle.day_core.specs.Standing.{first_standing};
-ghost use Rattle.day_core.specs.Cells.{shown};
-ghost use Rattle.day_core.specs.Crew.{TurnsWorker, workers_of};
+ghost use Rattle.itch_table.specs.Shows.{Shows, locates_of_day};
+ghost use Rattle.day_core.specs.Owners.{machine_of};
+ghost use Rattle.day_core.specs.Workers.{first_state};
+ghost use Rattle.day_core.specs.Turns.{TurnsWorker, progress_in};
 
-use crate::desk::Desk;
 use crate::merging::Piece;
 use crate::parts::Parts;
 use crate::splitting::{SplitFault, split};
+use crate::worker_cells::WorkerCells;
 use binaryfile::Day;
 use std::alloc::{AllocError, Allocator};
 use std::marker::Model;
@@ -23,32 +22,35 @@ use stock_machine::Stock;
 #[derive(Drop)]
 pub struct Turns<'d, A: Allocator> {
     day: &'d Day<A>,
-    desks: Vec<Desk<A>, A>,
+    workers: Vec<WorkerCells<A>, A>,
 }
 
 impl<'d, A: Allocator> Model for Turns<'d, A> {
     ghost use Rattle.std.specs.Prelude.{map};
-    ghost use Rattle.day_core.specs.Crew.{AreDesks, Crew};
+    ghost use Rattle.day_core.specs.Turns.{AreWorkers, TurnsState};
 
-    ghost Value = { Crew };
+    ghost Value = { TurnsState };
 
-    ghost view = { λ t. record { day = t.day.now.payloads; done = map (λ d. d.done) t.desks.items } };
+    ghost view = { λ t. record { day = t.day.now.payloads; done = map (λ d. d.done) t.workers.items } };
 
-    ghost invariant = { λ t. AreDesks t.day.now.payloads t.desks.items };
+    ghost invariant = { λ t. AreWorkers t.day.now.payloads t.workers.items };
 }
 
 // The workers of a day before their first turn, in the order of their numbers.
-fn new_desks<A: Allocator + Copy>(alloc: A, parts: &Parts<A>) -> Result<Vec<Desk<A>, A>, AllocError>
-    ensures desks { IfOk result (λ desks.
-        desks.items ≡ map (first_standing parts.now) (range_with_len 0 parts.now.workers)) }
+fn new_worker_cells<A: Allocator + Copy>(
+    alloc: A,
+    parts: &Parts<A>,
+) -> Result<Vec<WorkerCells<A>, A>, AllocError>
+    ensures first { IfOk result (λ workers.
+        workers.items ≡ map (first_state parts.now) (range_with_len 0 parts.now.workers)) }
     ensures some { 0 < parts.now.workers }
 {
-    let workers = parts.workers();
-    let mut desks = Vec::with_capacity(alloc, workers as usize)?;
-    for worker in 0..workers {
-        desks.push(Desk::new(alloc, parts, worker)?)?;
+    let count = parts.workers();
+    let mut workers = Vec::with_capacity(alloc, count as usize)?;
+    for worker in 0..count {
+        workers.push(WorkerCells::new(alloc, parts, worker)?)?;
     }
-    Ok(desks)
+    Ok(workers)
 }
 
 impl<'d, A: Allocator + Copy + Send + Sync> Turns<'d, A> {
@@ -70,44 +72,45 @@ impl<'d, A: Allocator + Copy + Send + Sync> Turns<'d, A> {
             Ok(parts) => parts,
             Err(fault) => return Err(fault),
         };
-        let desks = new_desks(alloc, &parts)?;
-        Ok(Turns { day, desks })
+        let workers = new_worker_cells(alloc, &parts)?;
+        Ok(Turns { day, workers })
     }
 }
 
 impl<'d, A: Allocator + Copy> Turns<'d, A> {
-    /// Does the next message of a worker, sets the words of its stock, and answers what became of it; none, with nothing
-    /// changed, exactly where the worker is through or isn't one. An error says that memory was refused, and leaves all
-    /// as it was.
+    /// Does the next message of a worker, sets the words of its stock, and answers what became of it; none, with
+    /// nothing changed, exactly where the worker has done all of its messages or isn't one. An error says that memory
+    /// was refused, and leaves all as it was.
     pub fn turn(&mut self, worker: u32) -> Result<Option<Piece>, AllocError>
         ensures turned { IfOk result (TurnsWorker self.old self.new worker) }
         ensures err { OnErr result (self.new ≡ self.old) }
     {
         let place = worker as usize;
-        if place >= self.desks.len() {
+        if place >= self.workers.len() {
             return Ok(None);
         }
-        self.desks[place].turn(self.day)
+        let Some(turned) = self.workers[place].turn(self.day)? else {
+            return Ok(None);
+        };
+        Ok(Some(turned.piece))
     }
 
     /// The four words that a screen reads of a stock: those of the last of its messages that its worker has done; four
     /// zeros before the first, and where no message of the day is of the stock.
     pub fn look(&self, locate: u16) -> [u64; 4]
-        ensures { result ≡ shown self.now.day (workers_of self.now) locate
-            (slice_index self.now.done (locate % workers_of self.now)) }
+        ensures { Shows self.now.day locate (progress_in self.now locate) result }
     {
-        let owner = usize::from(locate) % self.desks.len();
-        self.desks[owner].look(locate)
+        let owner = usize::from(locate) % self.workers.len();
+        self.workers[owner].look(locate)
     }
 
     /// The machine of a stock after the last of its messages that its worker has done; none where no message of the day
     /// is of the stock.
     pub fn stock(&self, locate: u16) -> Option<&Stock<A>>
         ensures { MatchOption result (¬ Contains (locates_of_day self.now.day) locate) (λ stock.
-            stock.now ≡ machine_of self.now.day locate (progress self.now.day (workers_of self.now) locate
-            (slice_index self.now.done (locate % workers_of self.now)))) }
+            stock.now ≡ machine_of self.now.day locate (progress_in self.now locate)) }
     {
-        let owner = usize::from(locate) % self.desks.len();
-        self.desks[owner].stock(locate)
+        let owner = usize::from(locate) % self.workers.len();
+        self.workers[owner].stock(locate)
     }
 }

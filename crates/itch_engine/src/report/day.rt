@@ -9,7 +9,7 @@ ghost use Rattle.itch_engine.specs.Report.{machine_lines, report_of_file, refuse
 use crate::report::messages::{count_refused, put_refused_lines, put_summary};
 use crate::report::stock::put_stock;
 use binaryfile::Day;
-use day_core::{Replayed, SplitFault, replay_parts, split};
+use day_core::{ReplayedDay, SplitFault, replay_parts, split};
 use itch_table::Side;
 use std::alloc::{AllocError, Allocator};
 use std::thread::Threads;
@@ -28,7 +28,7 @@ fn replay<R: Threads + Sync, A: Allocator + Copy + Send + Sync>(
     alloc: A,
     day: &Day<A>,
     workers: u32,
-) -> Result<Replayed<A>, AllocError>
+) -> Result<ReplayedDay<A>, AllocError>
     requires { (1 ≤ workers) × (workers ≤ 64) }
     ensures { IfOk result (λ replayed. IsReplayed day.now.payloads
         replayed.outcomes.items replayed.stocks.items replayed.event) }
@@ -79,7 +79,7 @@ fn put_stocks<A: Allocator + Copy>(
 fn report_text<A: Allocator + Copy>(
     alloc: A,
     day: &Day<A>,
-    replayed: &Replayed<A>,
+    replayed: &ReplayedDay<A>,
 ) -> Result<Vec<u8, A>, AllocError>
     requires few { length day.now.payloads < 2 ^ 32 }
     requires bytes { All AreBytes day.now.payloads }

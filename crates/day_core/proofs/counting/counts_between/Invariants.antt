@@ -1,4 +1,4 @@
-use Rattle.day_core.specs.Dealing.{AreCounts}
+use Rattle.day_core.specs.Counting.{AreCounts}
 use Rattle.day_core.proofs.counting.counts_between.Given as goal
 
 abbrev pub invariant-loop-before : goal.invariant-loop-before

@@ -1,6 +1,6 @@
 use Rattle.std.proofs.Common.{◌≡◌, ◌++◌, ◌∷◌, [], ℕ, List, Bool, true, false, cond, ltb, get_or, filter, ap, sym, ◌∙◌, arith, rules, tests, append-nil}
 use Rattle.std.specs.List.{range_with_len}
-use Rattle.day_core.proofs.Ranges.{kept_more}
+use Rattle.day_core.proofs.Kept.{kept_more}
 use Rattle.day_core.proofs.counting.locates_counted.Goals as goal
 use Rattle.day_core.proofs.counting.locates_counted.Goals.{then-count-gt0+in_ok-push, else-count-gt0}
 

@@ -1,5 +1,5 @@
 use Rattle.std.proofs.Common.{ℕ, sym, subst, ◌∙◌, arith}
-use Rattle.day_core.specs.Dealing.{AreCounts, AreCountsOfChunk}
+use Rattle.day_core.specs.Counting.{AreCounts, AreCountsOfChunk}
 use Rattle.day_core.proofs.Counted.{next_chunk, chunks_all, sums_are, sums_fit}
 use Rattle.day_core.proofs.counting.messages_by_locate.Given as given
 use Rattle.day_core.proofs.counting.messages_by_locate.Goals as goal

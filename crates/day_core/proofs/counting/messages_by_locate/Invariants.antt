@@ -1,5 +1,5 @@
 use Rattle.std.proofs.Common.{length}
-use Rattle.day_core.specs.Dealing.{AreCounts, cut}
+use Rattle.day_core.specs.Counting.{AreCounts, cut}
 use Rattle.day_core.proofs.counting.messages_by_locate.Given as goal
 
 abbrev pub invariant-loop-chunk : goal.invariant-loop-chunk

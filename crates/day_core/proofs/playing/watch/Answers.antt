@@ -3,13 +3,13 @@ use Rattle.std.proofs.lemmas.List.{take_more}
 use Rattle.day_core.specs.declared.playing.Event.{Event}
 use Rattle.day_core.specs.declared.playing.Event.TheVariants.{Turn}
 use Rattle.day_core.specs.declared.playing.Seen.{Seen}
-use Rattle.day_core.specs.Crew.{Crew, workers_of}
-use Rattle.day_core.specs.Schedules.{Changes, crew_after, seen_of, seen_until}
-use Rattle.day_core.proofs.Scheduled.{changed, crew_first, seen_more, shows}
+use Rattle.day_core.specs.Turns.{TurnsState, workers_of}
+use Rattle.day_core.specs.Schedules.{Changes, turns_after, seen_of, seen_until}
+use Rattle.day_core.proofs.Scheduled.{changed, turns_first, seen_more, shows}
 use Rattle.day_core.proofs.playing.watch.Goals as goal
 
 pub loop-event-init : goal.loop-event-init
-loop-event-init g c = record { turns = crew_first c.args.turns c.requires.first; seen = c.new-seen.ensures.items }
+loop-event-init g c = record { turns = turns_first c.args.turns c.requires.first; seen = c.new-seen.ensures.items }
 
 pub loop-event-preserved : goal.loop-event-preserved
 loop-event-preserved g c =
@@ -24,13 +24,13 @@ loop-event-preserved g c =
     record {
       turns =
           changed day workers (take i events) event c.happen.new.turns
-          (subst (λ (crew : Crew). Changes crew event c.happen.new.turns) before.turns happened.changes)
-          ∙ ap (crew_after day workers) (sym (take_more events i (Turn 0) lt));
+          (subst (λ (turns : TurnsState). Changes turns event c.happen.new.turns) before.turns happened.changes)
+          ∙ ap (turns_after day workers) (sym (take_more events i (Turn 0) lt));
       seen =
           happened.seen
           ∙ ap (λ (seen : List Seen). seen ++ seen_of c.loop-event.turns event) before.seen
           ∙ ap (λ (seen : List Seen). seen_until day workers events i ++ seen)
-          (ap (λ (crew : Crew). seen_of crew event) before.turns ∙ shows day workers (take i events) c.requires.some event)
+          (ap (λ (turns : TurnsState). seen_of turns event) before.turns ∙ shows day workers (take i events) c.requires.some event)
           ∙ sym (seen_more day workers events i (Turn 0) lt);
     }
 

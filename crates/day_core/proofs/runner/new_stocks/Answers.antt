@@ -1,6 +1,6 @@
 use Rattle.std.proofs.Common.{◌++◌, ◌∷◌, [], List, map, take, ap, sym, ◌∙◌, arith}
 use Rattle.std.proofs.lemmas.List.{map-append, take_all, take_more}
-use Rattle.day_core.specs.Standing.{new_machine}
+use Rattle.day_core.specs.Workers.{new_machine}
 use Rattle.day_core.proofs.Running.{new_is}
 use Rattle.stock_machine.specs.StockRows.{StockMachine}
 use Rattle.day_core.proofs.runner.new_stocks.Goals as goal

@@ -1,5 +1,5 @@
 use Rattle.std.proofs.Common.{◌≡◌, map, take}
-use Rattle.day_core.specs.Standing.{new_machine}
+use Rattle.day_core.specs.Workers.{new_machine}
 use Rattle.day_core.proofs.runner.new_stocks.Given as goal
 
 abbrev pub invariant-loop-locate : goal.invariant-loop-locate

@@ -1,7 +1,7 @@
-use Rattle.std.proofs.Common.{◌<◌, ◌^◌, ℕ, List, length, map, subst, sym, arith}
-use Rattle.day_core.specs.Dealing.{AreCounts}
+use Rattle.std.proofs.Common.{◌<◌, ◌^◌, ℕ, List, length, subst, sym, arith}
+use Rattle.day_core.specs.Counting.{AreCounts}
 use Rattle.day_core.proofs.Counted.{locates_are}
-use Rattle.day_core.proofs.Dealt.{dealt_none, parts_are}
+use Rattle.day_core.proofs.Dealt.{dealt_none}
 use Rattle.day_core.proofs.splitting.parts_of.Goals as goal
 
 pub deal-requires-clause-empty : goal.deal-requires-clause-empty
@@ -14,5 +14,10 @@ invariant_of-result g c =
     let counted = subst (λ (counts : List ℕ). AreCounts day 0 (length day) counts) (sym c.deref.ensures.value) c.in_ok-counts.ensures in
     let locates = locates_are day c.deref.result.now c.in_ok-locates.locates.items counted c.in_ok-locates.ensures in
     let few : length day < 2 ^ 32 = omega (arith, c.len.ensures) in
-    let lists = map (λ list. list.items) c.deal.new.own.items in
-    rw c.of.ensures (parts_are day c.args.workers c.in_ok-locates.locates.items lists c.deal.new.fixed.items c.in_ok-event.event c.requires.some c.requires.most few locates c.in_ok-event.ensures.dealt)
+    rw c.of.ensures (record {
+      some = c.requires.some;
+      most = c.requires.most;
+      few = few;
+      locates_are = locates;
+      dealt = c.in_ok-event.ensures.dealt;
+    })

@@ -10,6 +10,7 @@ abbrev own_in : ℕ → Split → List ℕ
 own_in worker s = own_of s.workers worker s.day
 
 pub returns-in-Some : goal.returns-in-Some
+unfolding own_of
 returns-in-Some g c =
     let lists = c.self.inside.own.items in
     let list = c.in-Some.list.now in
@@ -19,12 +20,12 @@ returns-in-Some g c =
     c.as_slice.ensures.value
     ∙ ap (λ v. v.items) (found.1 ∙ ap (λ vs. get_or vs c.args.worker list) c.deref.ensures.value)
     ∙ sym (get_or-map (λ v. v.items) lists c.args.worker list list.items room)
-    ∙ c.self.invariant.own_are c.args.worker _ (omega (arith, room, long, c.self.invariant.own_long))
+    ∙ c.self.invariant.dealt.own_are c.args.worker _ (omega (arith, room, long, c.self.invariant.dealt.own_long))
     ∙ ap (own_in c.args.worker) c.self.view_is
 
 pub returns-in-None : goal.returns-in-None
 returns-in-None g c =
     let lists = c.self.inside.own.items in
     let long = length-map lists (λ v. v.items) in
-    let past : c.self.inside.workers ≤ c.args.worker = omega (arith, c.in-None.ensures.lookup.3, ap length c.deref.ensures.value, long, c.self.invariant.own_long) in
+    let past : c.self.inside.workers ≤ c.args.worker = omega (arith, c.in-None.ensures.lookup.3, ap length c.deref.ensures.value, long, c.self.invariant.dealt.own_long) in
     sym (own_none c.self.inside.workers c.args.worker c.self.inside.day.value.payloads c.self.invariant.some past) ∙ ap (own_in c.args.worker) c.self.view_is

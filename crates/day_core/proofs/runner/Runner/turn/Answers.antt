@@ -1,6 +1,6 @@
 use Rattle.std.proofs.Common.{◌≡◌, ◌+◌, List, ℕ, length, sym, ap, subst, ◌∙◌, arith, true}
 use Rattle.day_core.specs.Owners.{is_own, own_locates, part_at}
-use Rattle.day_core.specs.Standing.{IsTurned, Standing}
+use Rattle.day_core.specs.Workers.{IsTurned, WorkerState}
 use Rattle.day_core.proofs.Running.{next_own, next_within, runner_after, step_few, step_own, stock_stepped, turned_is}
 use Rattle.day_core.proofs.runner.Runner.turn.Goals as goal
 
@@ -10,12 +10,12 @@ message_of-place-requires-clause-first g c = (next_within _ _ _ _ c.self.invaria
 pub message_of-place-requires-clause-last : goal.message_of-place-requires-clause-last
 message_of-place-requires-clause-last g c =
     let within = next_within _ _ _ _ c.self.invariant _ (omega arith) c.index-message.ensures in
-    omega (arith, within, ap length (c.requires ∙ ap (λ (s : Standing). s.day) (sym c.self.view_is)))
+    omega (arith, within, ap length (c.requires ∙ ap (λ (s : WorkerState). s.day) (sym c.self.view_is)))
 
 pub message_of-place-requires-clause-own : goal.message_of-place-requires-clause-own
 message_of-place-requires-clause-own g c =
     let inside = c.self.inside in
-    let same = c.requires ∙ ap (λ (s : Standing). s.day) (sym c.self.view_is) in
+    let same = c.requires ∙ ap (λ (s : WorkerState). s.day) (sym c.self.view_is) in
     let own = next_own _ _ _ _ c.self.invariant _ (omega arith) c.index-message.ensures in (
       inside.parts.value.workers,
       inside.worker,
@@ -25,19 +25,19 @@ message_of-place-requires-clause-own g c =
 
 pub step-requires-clause-own : goal.step-requires-clause-own
 step-requires-clause-own g c =
-    let same = c.requires ∙ ap (λ (s : Standing). s.day) (sym c.self.view_is) in
+    let same = c.requires ∙ ap (λ (s : WorkerState). s.day) (sym c.self.view_is) in
     let found = c.message_of-place.ensures in
     step_own _ _ _ _ c.self.invariant _ (omega arith) c.index-message.ensures _ same _ c.index_mut.result.now found.within found.stock c.index_mut.ensures.value _ found.payload
 
 pub step-requires-clause-few : goal.step-requires-clause-few
 step-requires-clause-few g c =
-    let same = c.requires ∙ ap (λ (s : Standing). s.day) (sym c.self.view_is) in
+    let same = c.requires ∙ ap (λ (s : WorkerState). s.day) (sym c.self.view_is) in
     let found = c.message_of-place.ensures in
     step_few _ _ _ _ c.self.invariant _ (omega arith) c.index-message.ensures _ same _ c.index_mut.result.now found.within found.stock c.index_mut.ensures.value (omega (arith, c.type_inv.message))
 
 pub invariant_of-self-2 : goal.invariant_of-self-2
 invariant_of-self-2 g c =
-    let same = c.requires ∙ ap (λ (s : Standing). s.day) (sym c.self.view_is) in
+    let same = c.requires ∙ ap (λ (s : WorkerState). s.day) (sym c.self.view_is) in
     let found = c.message_of-place.ensures in
     let left = c.in_ok-outcome.ensures in
     let stepped = stock_stepped _ _ _ _ c.self.invariant _ (omega arith) c.index-message.ensures _ same _ c.index_mut.result.now found.within found.stock c.index_mut.ensures.value c.step.new.self c.in_ok-outcome.outcome _ found.payload c.step.ensures.locate left.steps left.ok in
@@ -45,11 +45,11 @@ invariant_of-self-2 g c =
 
 pub returns-clause-turned : goal.returns-clause-turned
 returns-clause-turned g c =
-    let same = c.requires ∙ ap (λ (s : Standing). s.day) (sym c.self.view_is) in
+    let same = c.requires ∙ ap (λ (s : WorkerState). s.day) (sym c.self.view_is) in
     let found = c.message_of-place.ensures in
     let left = c.in_ok-outcome.ensures in
     let stepped = stock_stepped _ _ _ _ c.self.invariant _ (omega arith) c.index-message.ensures _ same _ c.index_mut.result.now found.within found.stock c.index_mut.ensures.value c.step.new.self c.in_ok-outcome.outcome _ found.payload c.step.ensures.locate left.steps left.ok in
     let turned = turned_is _ _ _ _ c.self.invariant _ (omega arith) c.index-message.ensures _ same _ c.index_mut.result.now found.within found.stock c.index_mut.ensures.value c.in_ok-outcome.outcome stepped.1 in (
-      subst (λ (s : Standing). IsTurned s (record { piece = record { message = c.index-message.result.now; outcome = c.in_ok-outcome.outcome }; place = c.message_of-place.result.1 })) c.self.view_is turned,
-      ap (λ (s : Standing). let next : Standing = record s { done = s.done + 1 } in next) c.self.view_is,
+      subst (λ (s : WorkerState). IsTurned s (record { piece = record { message = c.index-message.result.now; outcome = c.in_ok-outcome.outcome }; place = c.message_of-place.result.1 })) c.self.view_is turned,
+      ap (λ (s : WorkerState). let next : WorkerState = record s { done = s.done + 1 } in next) c.self.view_is,
     )

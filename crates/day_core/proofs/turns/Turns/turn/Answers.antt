@@ -1,22 +1,28 @@
-use Rattle.std.proofs.Common.{set, ap, ◌∙◌, subst, arith}
-use Rattle.std.proofs.lemmas.List.{set-get_or}
-use Rattle.std.proofs.lemmas.Result.{IfErr-weaker, IfOk-weaker}
-use Rattle.day_core.specs.Cells.{AnswersTurn}
-use Rattle.day_core.specs.Crew.{Crew, TurnsWorker}
-use Rattle.day_core.proofs.Crewing.{crew_of, crew_turned}
+use Rattle.std.proofs.Common.{Some, None, set, ap, ◌∙◌, subst, arith}
+use Rattle.day_core.specs.Turns.{TurnsState, TurnsWorker}
+use Rattle.day_core.specs.Workers.{TakesTurn}
+use Rattle.day_core.proofs.Turning.{turns_after_none, turns_after_one, turns_of, workers_after}
 use Rattle.day_core.proofs.turns.Turns.turn.Goals as goal
+
+pub returns-in_default-clause-turned : goal.returns-in_default-clause-turned
+returns-in_default-clause-turned g c =
+    let day = c.self.inside.day.now.payloads in
+    let states = c.self.inside.workers.items in
+    let none = rw c.in_default.is at c.in_ok-turned.ensures.turned in
+    subst (λ (turns : TurnsState). TurnsWorker turns (turns_of day (set states c.args.worker c.turn.new.self)) c.args.worker None) c.self.view_is
+    (turns_after_none day states c.args.worker c.index_mut.result.now c.turn.new.self (omega arith) c.self.invariant c.index_mut.ensures.value none)
+
+pub invariant_of-self-2 : goal.invariant_of-self-2
+invariant_of-self-2 g c =
+    let day = c.self.inside.day.now.payloads in
+    let states = c.self.inside.workers.items in
+    let turned = rw c.in-Some.is at c.in_ok-turned.ensures.turned in
+    workers_after day states c.args.worker c.index_mut.result.now c.turn.new.self (omega arith) c.self.invariant c.index_mut.ensures.value (Some c.in-Some.turned) turned
 
 pub returns-clause-turned : goal.returns-clause-turned
 returns-clause-turned g c =
     let day = c.self.inside.day.now.payloads in
-    let desks = c.self.inside.desks.items in
-    IfOk-weaker c.turn.result (AnswersTurn c.index_mut.result.now c.turn.new.self) _ (λ answer h.
-    subst (λ (crew : Crew). TurnsWorker crew (crew_of day (set desks c.args.worker c.turn.new.self)) c.args.worker answer) c.self.view_is
-    (crew_turned day desks c.args.worker c.index_mut.result.now c.turn.new.self (omega arith) c.self.invariant c.index_mut.ensures.value answer h)) c.turn.ensures.turned
-
-pub returns-clause-err : goal.returns-clause-err
-returns-clause-err g c =
-    let day = c.self.inside.day.now.payloads in
-    let desks = c.self.inside.desks.items in
-    IfErr-weaker c.turn.result _ _ (λ e same.
-    ap (crew_of day) (ap (set desks c.args.worker) (same ∙ c.index_mut.ensures.value) ∙ set-get_or desks c.args.worker c.index_mut.result.now) ∙ c.self.view_is) c.turn.ensures.err
+    let states = c.self.inside.workers.items in
+    let turned = rw c.in-Some.is at c.in_ok-turned.ensures.turned in
+    subst (λ (turns : TurnsState). TurnsWorker turns (turns_of day (set states c.args.worker c.turn.new.self)) c.args.worker (Some c.in-Some.turned.piece)) c.self.view_is
+    (turns_after_one day states c.args.worker c.index_mut.result.now c.turn.new.self (omega arith) c.self.invariant c.index_mut.ensures.value c.in-Some.turned turned)

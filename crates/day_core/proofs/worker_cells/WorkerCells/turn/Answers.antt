@@ -1,5 +1,5 @@
 use Rattle.day_core.proofs.Showing.{cells_turned}
-use Rattle.day_core.proofs.desk.Desk.turn.Goals as goal
+use Rattle.day_core.proofs.worker_cells.WorkerCells.turn.Goals as goal
 
 pub invariant_of-self-2 : goal.invariant_of-self-2
 invariant_of-self-2 g c =

@@ -2,12 +2,11 @@
 ghost use Rattle.std.specs.Prelude.{◌≡◌, ◌<◌, ◌%◌, IfOk, OnErr, MatchOption};
 ghost use Rattle.std.specs.List.{Contains};
 ghost use Rattle.itch_table.specs.Shows.{words_of};
-ghost use Rattle.day_core.specs.Cells.{AnswersTurn, shown};
-ghost use Rattle.day_core.specs.Standing.{first_standing, machine_at, own_stocks};
+ghost use Rattle.day_core.specs.Cells.{shown};
+ghost use Rattle.day_core.specs.Workers.{TakesTurn, first_state, machine_at, worker_locates};
 
-use crate::merging::Piece;
 use crate::parts::Parts;
-use crate::runner::Runner;
+use crate::runner::{Runner, Turned};
 use binaryfile::Day;
 use itch_table::Top;
 use std::alloc::{AllocError, Allocator};
@@ -16,16 +15,16 @@ use stock_machine::Stock;
 
 /// One worker, and for each of its stocks the four words that screens read. It is seen as where the worker stands.
 #[derive(Drop)]
-pub(crate) struct Desk<A: Allocator> {
+pub(crate) struct WorkerCells<A: Allocator> {
     runner: Runner<A>,
     cells: Vec<[u64; 4], A>,
 }
 
-impl<A: Allocator> Model for Desk<A> {
+impl<A: Allocator> Model for WorkerCells<A> {
     ghost use Rattle.day_core.specs.Cells.{CellsShow};
-    ghost use Rattle.day_core.specs.Standing.{Standing};
+    ghost use Rattle.day_core.specs.Workers.{WorkerState};
 
-    ghost Value = { Standing };
+    ghost Value = { WorkerState };
 
     ghost view = { λ d. d.runner };
 
@@ -40,22 +39,23 @@ fn to_words(message: u32, best: &Top) -> [u64; 4]
     [u64::from(message), prices, best.bid_shares, best.ask_shares]
 }
 
-impl<A: Allocator + Copy> Desk<A> {
+impl<A: Allocator + Copy> WorkerCells<A> {
     /// A worker that has done nothing yet. An error says that memory was refused.
-    pub fn new(alloc: A, parts: &Parts<A>, worker: u32) -> Result<Desk<A>, AllocError>
+    pub fn new(alloc: A, parts: &Parts<A>, worker: u32) -> Result<WorkerCells<A>, AllocError>
         requires { worker < parts.now.workers }
-        ensures { IfOk result (λ desk. desk ≡ first_standing parts.now worker) }
+        ensures { IfOk result (λ cells. cells ≡ first_state parts.now worker) }
     {
         let runner = Runner::new(alloc, parts, worker)?;
         let cells = vec![in alloc; [0; 4]; runner.stock_count()]?;
-        Ok(Desk { runner, cells })
+        Ok(WorkerCells { runner, cells })
     }
 
     /// Does the worker's next message, sets the cell of its stock, and answers what became of it; none, with nothing
-    /// changed, exactly where the worker is through. An error says that memory was refused, and leaves all as it was.
-    pub fn turn(&mut self, day: &Day<A>) -> Result<Option<Piece>, AllocError>
+    /// changed, exactly where the worker has done all of them. An error says that memory was refused, and leaves all
+    /// as it was.
+    pub fn turn(&mut self, day: &Day<A>) -> Result<Option<Turned>, AllocError>
         requires { day.now.payloads ≡ self.old.day }
-        ensures turned { IfOk result (AnswersTurn self.old self.new) }
+        ensures turned { IfOk result (TakesTurn self.old self.new) }
         ensures err { OnErr result (self.new ≡ self.old) }
     {
         let Some(turned) = self.runner.turn(day)? else {
@@ -63,7 +63,7 @@ impl<A: Allocator + Copy> Desk<A> {
         };
         let best = self.runner.stock_at(turned.place).top();
         self.cells[turned.place] = to_words(turned.piece.message, &best);
-        Ok(Some(turned.piece))
+        Ok(Some(turned))
     }
 
     /// The words of a stock that belongs to the worker by its locate code; four zeros where no message is of it.
@@ -79,7 +79,7 @@ impl<A: Allocator + Copy> Desk<A> {
 
     /// The machine of one of the worker's stocks; none where it isn't one of them.
     pub fn stock(&self, locate: u16) -> Option<&Stock<A>>
-        ensures { MatchOption result (¬ Contains (own_stocks self.now) locate)
+        ensures { MatchOption result (¬ Contains (worker_locates self.now) locate)
             (λ stock. stock.now ≡ machine_at self.now locate) }
     {
         match self.runner.place_of(locate) {
