@@ -1,8 +1,8 @@
 -- What the cells of a worker's stocks show after one message more.
-use Rattle.std.proofs.Common.{◌≡◌, ℕ, zero, suc, ◌+◌, ◌<◌, ◌≤◌, List, [], ◌∷◌, length, get_or, map, replicate, set, take, refl, sym, ap, subst, ◌∙◌, arith, inl, inr}
+use Rattle.std.proofs.Common.{◌≡◌, ℕ, zero, suc, ◌+◌, ◌<◌, List, [], ◌∷◌, length, get_or, map, replicate, set, refl, sym, ap, subst, ◌∙◌, arith, inl, inr}
 use Rattle.std.specs.List.{Contains}
 use Rattle.std.proofs.lemmas.Bool.{cases_Bool, cases_lt}
-use Rattle.std.proofs.lemmas.List.{get_or-map, take_all}
+use Rattle.std.proofs.lemmas.List.{get_or-map}
 use Rattle.itch_table.specs.declared.order.Top.{Top}
 use Rattle.itch_table.specs.Levels.{top}
 use Rattle.itch_table.specs.Projection.{is_locate}
@@ -14,7 +14,7 @@ use Rattle.stock_machine.specs.StockRows.{StockMachine}
 use Rattle.day_core.specs.declared.merging.Piece.{Piece}
 use Rattle.day_core.specs.declared.runner.Turned.{Turned}
 use Rattle.day_core.specs.Cells.{CellsShow, shown, words_at}
-use Rattle.day_core.specs.Owners.{last_or, machine_of, of_stock, own_locates, own_of, owner, part_at, progress}
+use Rattle.day_core.specs.Owners.{machine_of, own_locates, own_of, owner, part_at, progress}
 use Rattle.day_core.specs.Workers.{IsTurned, WorkerState, machine_at, worker_messages, worker_locates}
 use Rattle.day_core.proofs.Progress.{own_passes, own_within, past_end, progress_first, progress_kept, progress_within}
 use Rattle.day_core.proofs.Running.{code_there, progress_here, values_after}

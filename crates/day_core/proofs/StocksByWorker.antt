@@ -1,35 +1,52 @@
--- The workers' stocks after the whole day, and a worker's way through its messages.
-use Rattle.std.proofs.Common.{◌≡◌, ℕ, ◌+◌, ◌<◌, ◌≤◌, List, [], ◌∷◌, ◌++◌, append-nil, length, Bool, cond, get_or, set, map, take, drop, map-id, refl, sym, ap, ◌∙◌, arith, inl, inr}
-use Rattle.std.specs.List.{flat_map, range_with_len}
-use Rattle.std.proofs.lemmas.Bool.{cases_eq, cases_lt, eq-eqb, ne_eqb}
-use Rattle.std.proofs.lemmas.Grind.{flat_map-append}
-use Rattle.std.proofs.lemmas.List.{drop_more, get_or-set_same, get_or-set_other, get_or_append_left, get_or_push, get_or-map, length-drop, length-map, length-set, length_push, map-set}
-use Rattle.std.proofs.lemmas.List.FromFn.{map-range_with_len_more}
+-- A worker's way through its messages, and what all workers have for their stocks.
+use Rattle.std.proofs.Common.{◌≡◌, ℕ, ◌+◌, ◌<◌, ◌≤◌, List, [], ◌∷◌, ◌++◌, length, Bool, cond, get_or, set, map, take, drop, Some, refl, sym, ap, ap₂, ◌∙◌, arith, inl, inr}
+use Rattle.std.specs.List.{range_with_len}
+use Rattle.std.proofs.lemmas.Bool.{cases_eq, eq-eqb, ne_eqb}
+use Rattle.std.proofs.lemmas.List.{drop_more, get_or-set_same, get_or-set_other, get_or-map, length-drop, length-map, length-set, map-append, map-set, take_all, take_more}
+use Rattle.std.proofs.lemmas.List.FromFn.{get_or-map-range_with_len, length-map-range_with_len, map-range_with_len_more}
 use Rattle.std.proofs.lemmas.Nat.{mod_below}
 use Rattle.itch_table.specs.Shows.{locates_of_day}
-use Rattle.stock_machine.specs.StockRows.{StockMachine}
 use Rattle.day_core.specs.declared.merging.Piece.{Piece}
+use Rattle.day_core.specs.declared.runner.Turned.{Turned}
 use Rattle.day_core.specs.Owners.{locates_by, machine_of, own_locates, own_of, owner, piece_of, progress}
-use Rattle.day_core.specs.Replaying.{AreStocksByWorker, last_machine, pieces_by, pieces_until}
+use Rattle.day_core.specs.Replaying.{each_worker, for_own_stocks, last_machine}
 use Rattle.day_core.specs.Splitting.{Split}
-use Rattle.day_core.specs.Workers.{WorkerState, machine_at, worker_messages, worker_locates}
+use Rattle.day_core.specs.Workers.{TakesTurn, WorkerState, machine_at, worker_messages, worker_locates}
 use Rattle.day_core.proofs.Progress.{machine_last}
-use Rattle.day_core.proofs.Running.{code_owner, codes_are, map_same}
+use Rattle.day_core.proofs.Running.{code_owner, map_same}
 
 -- ---- a worker's way
 
 -- a worker has come from one state to another, and what became of its messages was noted
-pub record HasDone (first now : WorkerState) (before pieces : List Piece) : Type 0 where
+pub record HasDone (first now : WorkerState) (pieces : List Piece) : Type 0 where
   pub same : now ≡ record first { done = now.done }
   pub within : now.done ≤ length (worker_messages first)
-  pub noted : pieces ≡ before ++ map (piece_of first.day) (take now.done (worker_messages first))
+  pub noted : pieces ≡ map (piece_of first.day) (take now.done (worker_messages first))
 
-pub does_none : (first : WorkerState) (before : List Piece) → first.done ≡ 0 → HasDone first first before before
-does_none first before none = record {
-  same = refl;
-  within = omega (arith, none);
-  noted = rw none (sym (append-nil before));
-}
+pub does_none : (first : WorkerState) (pieces : List Piece) → first.done ≡ 0 → pieces ≡ [] → HasDone first first pieces
+does_none first pieces none empty = record { same = refl; within = omega (arith, none); noted = rw (none, empty) refl }
+
+pub does_more : (first now new : WorkerState) (turned : Turned) (pieces more : List Piece) → HasDone first now pieces → TakesTurn now new (Some turned) → more ≡ pieces ++ turned.piece ∷ [] → HasDone first new more
+does_more first now new turned pieces more has takes pushed =
+    let own = worker_messages first in
+    let f = piece_of first.day in
+    let to : new ≡ record first { done = now.done + 1 } =
+    takes.1 ∙ ap (λ (s : WorkerState). let z : WorkerState = record s { done = now.done + 1 } in z) has.same
+    in
+    let done : new.done ≡ now.done + 1 = ap (λ (s : WorkerState). s.done) to in
+    let lt : now.done < length own = omega (arith, takes.0.more, ap (λ (s : WorkerState). length (worker_messages s)) has.same) in
+    let piece : turned.piece ≡ f (get_or own now.done 0) =
+    takes.0.piece ∙ ap (λ (s : WorkerState). piece_of s.day (get_or (worker_messages s) now.done 0)) has.same
+    in
+    let noted : more ≡ map f (take (now.done + 1) own) =
+    pushed ∙ ap₂ (λ (ps : List Piece) (p : Piece). ps ++ p ∷ []) has.noted piece
+    ∙ sym (ap (map f) (take_more own now.done 0 lt) ∙ map-append f (take now.done own) _)
+    in
+    record {
+      same = to ∙ ap (λ (d : ℕ). let s : WorkerState = record first { done = d } in s) (sym done);
+      within = omega (arith, done, lt);
+      noted = noted ∙ ap (λ (d : ℕ). map f (take d own)) (sym done);
+    }
 
 -- where it has done all of them its stocks are those after the day
 through : (s : WorkerState) → s.done ≡ length (worker_messages s) → map (machine_at s) (worker_locates s) ≡ map (last_machine s.day) (worker_locates s)
@@ -39,99 +56,83 @@ through s is = map_same (machine_at s) (last_machine s.day) (worker_locates s) (
     ap (λ (d : ℕ). machine_of s.day locate (progress s.day s.workers locate d)) (is ∙ ap (λ (w : ℕ). length (own_of s.workers w s.day)) (sym mine))
     ∙ machine_last s.day s.workers locate)
 
-pub stocks_through : (first now : WorkerState) (before pieces : List Piece) → HasDone first now before pieces → now.done ≡ length (worker_messages now)
+pub stocks_through : (first now : WorkerState) (pieces : List Piece) → HasDone first now pieces → now.done ≡ length (worker_messages now)
     → map (machine_at now) (worker_locates now) ≡ map (last_machine first.day) (worker_locates first)
-stocks_through first now before pieces has is =
+stocks_through first now pieces has is =
     through now is ∙ ap (λ (s : WorkerState). map (last_machine s.day) (worker_locates s)) has.same
 
--- ---- all workers, one after another
+pub pieces_through : (first now : WorkerState) (pieces : List Piece) → HasDone first now pieces → now.done ≡ length (worker_messages now)
+    → pieces ≡ map (piece_of first.day) (worker_messages first)
+pieces_through first now pieces has is =
+    let all = is ∙ ap (λ (s : WorkerState). length (worker_messages s)) has.same in
+    has.noted ∙ ap (map (piece_of first.day)) (take_all now.done (worker_messages first) (omega (arith, all)))
 
--- the first workers have done all their messages
-pub record HaveRun (split : Split) (count : ℕ) (pieces : List Piece) (by_worker : List (List StockMachine)) : Type 0 where
-  pub long : length by_worker ≡ count
-  pub noted : pieces ≡ pieces_until split count
-  pub each : (worker : ℕ) (d : List StockMachine) → worker < count → get_or by_worker worker d ≡ map (last_machine split.day) (locates_by split.workers worker (locates_of_day split.day))
+-- ---- what all workers have, one after another
 
-until_more : (split : Split) (count : ℕ) → pieces_until split (count + 1) ≡ pieces_until split count ++ pieces_by split count
-until_more split count =
-    let range : range_with_len 0 (count + 1) ≡ range_with_len 0 count ++ count ∷ [] =
-    sym (map-id _) ∙ map-range_with_len_more (λ (k : ℕ). k) 0 count count (omega arith) ∙ ap (λ (l : List ℕ). l ++ count ∷ []) (map-id _)
-    in
-    ap (flat_map (pieces_by split)) range ∙ flat_map-append (pieces_by split) (range_with_len 0 count) (count ∷ [])
-    ∙ ap (λ (ps : List Piece). pieces_until split count ++ ps) (append-nil (pieces_by split count))
+-- one worker's more
+pub one_more : {V X : Type 0} (items : V → X) (f : ℕ → X) (before after : List V) (v : V) (count : ℕ) → map items before ≡ map f (range_with_len 0 count) → after ≡ before ++ v ∷ [] → items v ≡ f count
+    → map items after ≡ map f (range_with_len 0 (count + 1))
+one_more items f before after v count are pushed is =
+    ap (map items) pushed ∙ map-append items before (v ∷ []) ∙ ap₂ (λ xs x. xs ++ x ∷ []) are is ∙ sym (map-range_with_len_more f 0 count count (omega arith))
 
-pub runs_more : (split : Split) (count : ℕ) (pieces more : List Piece) (by_worker : List (List StockMachine)) (stocks : List StockMachine) → HaveRun split count pieces by_worker
-    → more ≡ pieces ++ pieces_by split count → stocks ≡ map (last_machine split.day) (own_locates split.workers count split.day)
-    → HaveRun split (count + 1) more (by_worker ++ stocks ∷ [])
-runs_more split count pieces more by_worker stocks have noted is = record {
-  long = length_push by_worker stocks ∙ ap (λ (k : ℕ). k + 1) have.long;
-  noted = noted ∙ ap (λ (ps : List Piece). ps ++ pieces_by split count) have.noted ∙ sym (until_more split count);
-  each = λ worker d lt. elim (cases_lt worker count) [
-    | inl below ↦ get_or_append_left by_worker (stocks ∷ []) d worker (omega (arith, below, have.long)) ∙ have.each worker d below
-    | inr last ↦
-        let same : count ≡ worker = omega (arith, lt, last) in
-        get_or_push by_worker stocks d worker (have.long ∙ same) ∙ is
-        ∙ ap (λ (k : ℕ). map (last_machine split.day) (own_locates split.workers k split.day)) same
-        ∙ ap (map (last_machine split.day)) (sym (codes_are split.workers worker split.day))
-  ];
-}
+-- for each worker a value for each of its stocks among those of some locate codes
+pub record AreLeft {T : Type 0} (f : ℕ → T) (workers : ℕ) (locates : List ℕ) (lists : List (List T)) : Type 0 where
+  pub some : 0 < workers
+  pub long : length lists ≡ workers
+  pub each : (worker : ℕ) (d : List T) → worker < workers → get_or lists worker d ≡ map f (locates_by workers worker locates)
 
-pub ran_all : (split : Split) (count : ℕ) (pieces : List Piece) (by_worker : List (List StockMachine)) → 0 < split.workers → HaveRun split count pieces by_worker → count ≡ split.workers
-    → AreStocksByWorker split (locates_of_day split.day) by_worker
-ran_all split count pieces by_worker some have all = record {
+pub all_left : {T : Type 0} (f : ℕ → T) (split : Split) (lists : List (List T)) → 0 < split.workers → lists ≡ each_worker (for_own_stocks f split) split → AreLeft f split.workers (locates_of_day split.day) lists
+unfolding own_locates
+all_left f split lists some are = record {
   some = some;
-  long = have.long ∙ all;
-  each = λ worker d lt. have.each worker d (omega (arith, lt, all));
+  long = ap length are ∙ length-map-range_with_len (for_own_stocks f split) 0 split.workers;
+  each = λ worker d lt. ap (λ ls. get_or ls worker d) are ∙ get_or-map-range_with_len (for_own_stocks f split) 0 split.workers worker worker d lt (omega arith);
 }
 
--- ---- the stocks of all workers, one after another
-
-module _ (split : Split) (locates : List ℕ) (i : ℕ) (by_worker : List (List StockMachine)) (lt : i < length locates) (are : AreStocksByWorker split (drop i locates) by_worker) where
+module _ {T : Type 0} (f : ℕ → T) (workers : ℕ) (locates : List ℕ) (i : ℕ) (lists : List (List T)) (lt : i < length locates) (are : AreLeft f workers (drop i locates) lists) where
   abbrev next : ℕ
   next = get_or locates i 0
 
+  abbrev left_to : ℕ → List T
+  left_to worker = map f (locates_by workers worker (drop (i + 1) locates))
+
   -- the owner's first is that of the next locate code
-  pub stocks_first : (d : List StockMachine) → get_or by_worker (owner split.workers next) d ≡ last_machine split.day next ∷ map (last_machine split.day) (locates_by split.workers (owner split.workers next) (drop (i + 1) locates))
-  stocks_first d =
-      are.each (owner split.workers next) d (mod_below next split.workers are.some)
-      ∙ ap (λ (ls : List ℕ). map (last_machine split.day) (locates_by split.workers (owner split.workers next) ls)) (drop_more locates i 0 lt)
-      ∙ ap (λ (b : Bool). map (last_machine split.day) (cond b (next ∷ locates_by split.workers (owner split.workers next) (drop (i + 1) locates)) (locates_by split.workers (owner split.workers next) (drop (i + 1) locates)))) (eq-eqb _ _ refl)
+  first_left : (d : List T) → get_or lists (owner workers next) d ≡ f next ∷ left_to (owner workers next)
+  first_left d =
+      are.each (owner workers next) d (mod_below next workers are.some)
+      ∙ ap (λ (ls : List ℕ). map f (locates_by workers (owner workers next) ls)) (drop_more locates i 0 lt)
+      ∙ ap (λ (b : Bool). map f (cond b (next ∷ locates_by workers (owner workers next) (drop (i + 1) locates)) (locates_by workers (owner workers next) (drop (i + 1) locates)))) (eq-eqb _ _ refl)
 
   -- and where it is taken the others are left
-  pub stocks_left : (rest : List StockMachine) → rest ≡ map (last_machine split.day) (locates_by split.workers (owner split.workers next) (drop (i + 1) locates))
-      → AreStocksByWorker split (drop (i + 1) locates) (set by_worker (owner split.workers next) rest)
-  stocks_left rest is = record {
+  rest_left : (rest : List T) → rest ≡ left_to (owner workers next) → AreLeft f workers (drop (i + 1) locates) (set lists (owner workers next) rest)
+  rest_left rest is = record {
     some = are.some;
-    long = length-set by_worker (owner split.workers next) rest ∙ are.long;
-    each = λ k d below. elim (cases_eq k (owner split.workers next)) [
+    long = length-set lists (owner workers next) rest ∙ are.long;
+    each = λ k d below. elim (cases_eq k (owner workers next)) [
       | inl same ↦
-          let room : owner split.workers next < length by_worker = omega (arith, mod_below next split.workers are.some, are.long) in
-          rw same (get_or-set_same by_worker (owner split.workers next) rest d room ∙ is)
+          let room : owner workers next < length lists = omega (arith, mod_below next workers are.some, are.long) in
+          rw same (get_or-set_same lists (owner workers next) rest d room ∙ is)
       | inr differ ↦
-          get_or-set_other by_worker (owner split.workers next) k rest d differ
+          get_or-set_other lists (owner workers next) k rest d differ
           ∙ are.each k d below
-          ∙ ap (λ (ls : List ℕ). map (last_machine split.day) (locates_by split.workers k ls)) (drop_more locates i 0 lt)
-          ∙ ap (λ (b : Bool). map (last_machine split.day) (cond b (next ∷ locates_by split.workers k (drop (i + 1) locates)) (locates_by split.workers k (drop (i + 1) locates)))) (ne_eqb _ _ (λ e. differ (sym e)))
+          ∙ ap (λ (ls : List ℕ). map f (locates_by workers k ls)) (drop_more locates i 0 lt)
+          ∙ ap (λ (b : Bool). map f (cond b (next ∷ locates_by workers k (drop (i + 1) locates)) (locates_by workers k (drop (i + 1) locates)))) (ne_eqb _ _ (λ e. differ (sym e)))
     ];
   }
 
 -- what stands at a place of the lists that are kept in other values
-pub taken : {V : Type 0} (items : V → List StockMachine) (split : Split) (locates : List ℕ) (i : ℕ) (by_worker : List V) (k : ℕ) (old : V) → i < length locates
-    → AreStocksByWorker split (drop i locates) (map items by_worker) → k ≡ owner split.workers (get_or locates i 0) → old ≡ get_or by_worker k old
-    → items old ≡ last_machine split.day (get_or locates i 0) ∷ map (last_machine split.day) (locates_by split.workers k (drop (i + 1) locates))
-taken items split locates i by_worker k old lt are mine is =
-    let room : k < length by_worker = omega (arith, mine, mod_below (get_or locates i 0) split.workers are.some, are.long, length-map by_worker items) in
-    ap items is ∙ sym (get_or-map items by_worker k old (items old) room)
-    ∙ ap (λ (j : ℕ). get_or (map items by_worker) j (items old)) mine
-    ∙ stocks_first split locates i (map items by_worker) lt are (items old)
-    ∙ ap (λ (j : ℕ). last_machine split.day (get_or locates i 0) ∷ map (last_machine split.day) (locates_by split.workers j (drop (i + 1) locates))) (sym mine)
+module _ {T V : Type 0} (items : V → List T) (f : ℕ → T) (workers : ℕ) (locates : List ℕ) (i : ℕ) (by_worker : List V) (k : ℕ) (lt : i < length locates)
+    (are : AreLeft f workers (drop i locates) (map items by_worker)) (mine : k ≡ owner workers (get_or locates i 0)) where
+  pub taken : (old : V) → old ≡ get_or by_worker k old → items old ≡ f (get_or locates i 0) ∷ map f (locates_by workers k (drop (i + 1) locates))
+  taken old is =
+      let room : k < length by_worker = omega (arith, mine, mod_below (get_or locates i 0) workers are.some, are.long, length-map by_worker items) in
+      ap items is ∙ sym (get_or-map items by_worker k old (items old) room)
+      ∙ ap (λ (j : ℕ). get_or (map items by_worker) j (items old)) mine
+      ∙ first_left f workers locates i (map items by_worker) lt are (items old)
+      ∙ ap (λ (j : ℕ). f (get_or locates i 0) ∷ map f (locates_by workers j (drop (i + 1) locates))) (sym mine)
 
-pub not_empty : (old new rest : List StockMachine) (m : StockMachine) → old ≡ m ∷ rest → old ≡ new → new ≡ drop 1 old → ⊥
+  pub left_by : (new : V) → items new ≡ map f (locates_by workers k (drop (i + 1) locates)) → AreLeft f workers (drop (i + 1) locates) (map items (set by_worker k new))
+  left_by new is = rw (map-set items by_worker k new, mine) (rest_left f workers locates i (map items by_worker) lt are (items new) (rw mine at is))
+
+pub not_empty : {T : Type 0} (old new rest : List T) (m : T) → old ≡ m ∷ rest → old ≡ new → new ≡ drop 1 old → ⊥
 not_empty old new rest m full same left = omega (arith, ap length full, ap length same, ap length left, length-drop 1 old)
-
-pub left_by : {V : Type 0} (items : V → List StockMachine) (split : Split) (locates : List ℕ) (i : ℕ) (by_worker : List V) (k : ℕ) (new : V) → i < length locates
-    → AreStocksByWorker split (drop i locates) (map items by_worker) → k ≡ owner split.workers (get_or locates i 0)
-    → items new ≡ map (last_machine split.day) (locates_by split.workers k (drop (i + 1) locates))
-    → AreStocksByWorker split (drop (i + 1) locates) (map items (set by_worker k new))
-left_by items split locates i by_worker k new lt are mine is =
-    rw (map-set items by_worker k new, mine) (stocks_left split locates i (map items by_worker) lt are (items new) (rw mine at is))

@@ -2,7 +2,8 @@
 use Rattle.std.proofs.Common.{◌≡◌, ◌≢◌, ℕ, zero, suc, ◌+◌, ◌<◌, ◌≤◌, List, [], ◌∷◌, ◌++◌, length, Bool, true, false, cond, eqb, get_or, take, drop, map, filter, refl, sym, ap, ap₂, subst, ◌∙◌, arith, inl, inr, append-nil}
 use Rattle.std.specs.List.{All, flat_map, range_with_len}
 use Rattle.std.proofs.lemmas.Bool.{cases_eq, eq-eqb, ne_eqb, true≢false}
-use Rattle.std.proofs.lemmas.List.{drop_more, get_or-map, length-map, take-append-drop}
+use Rattle.std.proofs.lemmas.List.{drop_more, get_or-map, length-map, map-append, take-append-drop}
+use Rattle.std.proofs.lemmas.Grind.{flat_map-append}
 use Rattle.std.proofs.lemmas.List.Elements.{All-append, All-contains}
 use Rattle.std.proofs.lemmas.List.FromFn.{get_or-range_with_len, length-range_with_len}
 use Rattle.std.proofs.lemmas.Nat.{mod_below}
@@ -16,7 +17,7 @@ use Rattle.day_core.specs.declared.merging.MergeFault.{MergeFault}
 use Rattle.day_core.specs.declared.merging.MergeFault.TheVariants.{Memory, Double, Stranger, Missing}
 use Rattle.day_core.specs.Merging.{HasMessage, IsMerged, IsMergeFault, joined, named}
 use Rattle.day_core.specs.Owners.{fixed_pieces, is_nowhere, is_own, own_of, owner, part_at, piece_of}
-use Rattle.day_core.specs.Replaying.{all_pieces, pieces_by, pieces_until}
+use Rattle.day_core.specs.Replaying.{all_pieces, each_worker, pieces_by, worker_pieces}
 use Rattle.day_core.specs.Splitting.{Split}
 use Rattle.day_core.proofs.Merged.{named-append}
 use Rattle.day_core.proofs.Running.{map_by_all}
@@ -107,23 +108,30 @@ module _ (split : Split) (n : ℕ) where
 
 once_at : (split : Split) (n : ℕ) (part : Part) → 0 < split.workers → part_at split.day n ≡ part → HasMessage (length split.day) n → named n (all_pieces split) ≡ 1
 once_at split n (Locate locate) some is has =
-    named-append n (pieces_until split split.workers) (fixed_pieces split.day)
+    named-append n (worker_pieces split) (fixed_pieces split.day)
     ∙ ap₂ ◌+◌
     (all_present split n 0 split.workers (owner split.workers locate) (omega arith) (omega (arith, mod_below locate split.workers some)) has
     (rw is (eq-eqb _ _ refl)) (λ k differ. rw is (ne_eqb _ _ (λ e. differ (sym e)))))
     (fixed_absent split n (λ h. rw is refl))
 once_at split n (Nowhere fixed) some is has =
-    named-append n (pieces_until split split.workers) (fixed_pieces split.day)
+    named-append n (worker_pieces split) (fixed_pieces split.day)
     ∙ ap₂ ◌+◌ (all_absent split n 0 split.workers (λ k h. rw is refl)) (fixed_present split n has (rw is refl))
 
 never_at : (split : Split) (n : ℕ) → ¬ HasMessage (length split.day) n → named n (all_pieces split) ≡ 0
 never_at split n none =
-    named-append n (pieces_until split split.workers) (fixed_pieces split.day)
+    named-append n (worker_pieces split) (fixed_pieces split.day)
     ∙ ap₂ ◌+◌ (all_absent split n 0 split.workers (λ k h. absurd (none h))) (fixed_absent split n (λ h. absurd (none h)))
 
--- of one list
-pub joined_one : {V : Type 0} (items : V → List Piece) (lists none : List V) (list : V) → lists ≡ none ++ list ∷ [] → none ≡ [] → joined (map items lists) ≡ items list
-joined_one items lists none list is empty = rw (is, empty) (append-nil (items list))
+-- of the lists of all workers and one more
+pub joined_all : {V : Type 0} (items : V → List Piece) (split : Split) (lists : List V) (fixed : V) → map items lists ≡ each_worker (pieces_by split) split → items fixed ≡ fixed_pieces split.day
+    → joined (map items (lists ++ fixed ∷ [])) ≡ all_pieces split
+joined_all items split lists fixed are is =
+    ap joined (map-append items lists (fixed ∷ [])) ∙ flat_map-append (λ (l : List Piece). l) (map items lists) (items fixed ∷ [])
+    ∙ ap₂ (λ (a b : List Piece). a ++ b) (ap joined are ∙ joined_map (pieces_by split) (range_with_len 0 split.workers)) (append-nil (items fixed) ∙ is)
+  where
+    joined_map : (f : ℕ → List Piece) (ns : List ℕ) → joined (map f ns) ≡ flat_map f ns
+    joined_map f [] = refl
+    joined_map f (n ∷ ns) = ap (λ (ps : List Piece). f n ++ ps) (joined_map f ns)
 
 -- ---- so `merge` finds no fault
 
@@ -171,6 +179,6 @@ outcomes_merged split all merged =
     (λ k d lt.
     let within : k < length split.day = omega (arith, lt, length-range_with_len 1 (length split.day)) in
     let listed = (merged.each k d within).1 in
-    let of = All-contains (IsOf split.day) (all_pieces split) _ (All-append (IsOf split.day) (pieces_until split split.workers) (fixed_pieces split.day) (by_of split 0 split.workers) (fixed_of split.day)) listed in
+    let of = All-contains (IsOf split.day) (all_pieces split) _ (All-append (IsOf split.day) (worker_pieces split) (fixed_pieces split.day) (by_of split 0 split.workers) (fixed_of split.day)) listed in
     let number : k + 1 ≡ get_or (range_with_len 1 (length split.day)) k 0 = omega (arith, get_or-range_with_len 1 (length split.day) k 0 within) in
     of ∙ ap (outcome split.day) number)

@@ -1,11 +1,11 @@
 -- What the workers of a day make of all of it. Of this project.
-use Rattle.std.specs.Prelude.{◌≡◌, ◌++◌, ◌<◌, ℕ, List, Option, length, map, slice_index_or}
+use Rattle.std.specs.Prelude.{◌≡◌, ◌++◌, ℕ, List, Option, length, map}
 use Rattle.std.specs.List.{flat_map, range_with_len}
 use Rattle.itch_table.specs.declared.outcome.Outcome.{Outcome}
 use Rattle.itch_table.specs.After.{after, outcomes}
 use Rattle.itch_table.specs.Shows.{locates_of_day}
 use Rattle.stock_machine.specs.StockRows.{StockMachine}
-use Rattle.day_core.specs.Owners.{fixed_pieces, locates_by, machine_of, own_of, piece_of}
+use Rattle.day_core.specs.Owners.{fixed_pieces, machine_of, own_locates, own_of, piece_of}
 use Rattle.day_core.specs.Splitting.{Split}
 use Rattle.day_core.specs.declared.merging.Piece.{Piece}
 
@@ -25,19 +25,18 @@ pub record IsReplayed (day : List (List ℕ)) (all : List Outcome) (stocks : Lis
 abbrev pub pieces_by : Split → ℕ → List Piece
 pieces_by split worker = map (piece_of split.day) (own_of split.workers worker split.day)
 
--- the messages of the first workers with their outcomes, worker by worker
-abbrev pub pieces_until : Split → ℕ → List Piece
-pieces_until split count = flat_map (pieces_by split) (range_with_len 0 count)
+-- the messages of all workers with their outcomes, worker by worker
+abbrev pub worker_pieces : Split → List Piece
+worker_pieces split = flat_map (pieces_by split) (range_with_len 0 split.workers)
 
 -- the messages of all workers and of no stock with their outcomes
 abbrev pub all_pieces : Split → List Piece
-all_pieces split = pieces_until split split.workers ++ fixed_pieces split.day
+all_pieces split = worker_pieces split ++ fixed_pieces split.day
 
--- for each worker the machines after the day of its stocks among those of some locate codes
-pub record AreStocksByWorker (split : Split) (locates : List ℕ)
-    (by_worker : List (List StockMachine)) : Type 0 where
-  pub some : 0 < split.workers
-  pub long : length by_worker ≡ split.workers
-  pub each : (worker : ℕ) (d : List StockMachine) → worker < split.workers
-      → slice_index_or by_worker worker d
-      ≡ map (last_machine split.day) (locates_by split.workers worker locates)
+-- a value for each of a worker's stocks, by rising locate code
+abbrev pub for_own_stocks : {T : Type 0} → (ℕ → T) → Split → ℕ → List T
+for_own_stocks f split worker = map f (own_locates split.workers worker split.day)
+
+-- a value for each worker, by its number
+abbrev pub each_worker : {T : Type 0} → (ℕ → T) → Split → List T
+each_worker f split = map f (range_with_len 0 split.workers)

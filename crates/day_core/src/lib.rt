@@ -1,6 +1,7 @@
 //! A day in parts: what several workers make of it, put together.
 #![tactic(auto)]
 
+mod assembling;
 mod counting;
 mod laws;
 mod merging;
@@ -13,11 +14,12 @@ mod splitting;
 mod turns;
 mod worker_cells;
 
+pub use assembling::{ReplayedDay, assemble, in_order};
 pub use laws::{days_come_to_their_end, looks_never_go_back, looks_show_their_stock};
 pub use merging::{MergeFault, Piece, merge};
 pub use parts::Parts;
 pub use playing::{Event, Seen, play};
-pub use replaying::{ReplayedDay, replay_parts};
+pub use replaying::replay_parts;
 pub use runner::{Runner, Turned};
 pub use splitting::{SplitFault, split};
 pub use turns::Turns;

@@ -1,6 +1,5 @@
-use Rattle.std.proofs.Common.{Some, None, set, ap, ◌∙◌, subst, arith}
+use Rattle.std.proofs.Common.{Some, None, set, subst, arith}
 use Rattle.day_core.specs.Turns.{TurnsState, TurnsWorker}
-use Rattle.day_core.specs.Workers.{TakesTurn}
 use Rattle.day_core.proofs.Turning.{turns_after_none, turns_after_one, turns_of, workers_after}
 use Rattle.day_core.proofs.turns.Turns.turn.Goals as goal
 

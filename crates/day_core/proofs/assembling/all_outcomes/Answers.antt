@@ -1,8 +1,8 @@
 use Rattle.std.proofs.Common.{sym, ◌∙◌}
 use Rattle.std.proofs.lemmas.Bool.{true≢false}
 use Rattle.day_core.proofs.Whole.{no_fault, outcomes_merged}
-use Rattle.day_core.proofs.replaying.all_outcomes.Goals as goal
-use Rattle.day_core.proofs.replaying.all_outcomes.Goals.{in-Memory, in_default}
+use Rattle.day_core.proofs.assembling.all_outcomes.Goals as goal
+use Rattle.day_core.proofs.assembling.all_outcomes.Goals.{in-Memory, in_default}
 
 pub prove-unreachable-requires : goal.prove-unreachable-requires
 prove-unreachable-requires g c =

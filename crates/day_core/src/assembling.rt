@@ -1,0 +1,124 @@
+//! What the workers of a day made of it, put together.
+ghost use Rattle.std.specs.Prelude.{◌≡◌, ◌<◌, ℕ, IfOk, map};
+ghost use Rattle.itch_table.specs.After.{outcomes};
+ghost use Rattle.itch_table.specs.Shows.{locates_of_day};
+ghost use Rattle.day_core.specs.Merging.{joined};
+ghost use Rattle.day_core.specs.Replaying.{IsReplayed, all_pieces, each_worker, for_own_stocks, last_machine, pieces_by};
+
+use crate::merging::{MergeFault, Piece, merge};
+use crate::parts::Parts;
+use binaryfile::Day;
+use itch_table::Outcome;
+use std::alloc::{AllocError, Allocator};
+use std::collections::VecDeque;
+use stock_machine::Stock;
+
+/// What a whole day makes.
+#[derive(Drop)]
+pub struct ReplayedDay<A: Allocator> {
+    /// What became of each message, in order.
+    pub outcomes: Vec<Outcome, A>,
+    /// The machines of the stocks that have messages in the day, by rising locate code.
+    pub stocks: Vec<Stock<A>, A>,
+    /// The event code of the day's last system event message, where it has one.
+    pub event: Option<u8>,
+}
+
+/// What each worker has for its stocks, for all stocks of a day by rising locate code. The caller hands for each
+/// worker, in the order of their numbers, one value for each of its stocks, by rising locate code.
+///
+/// An error says that memory was refused. The order is of this project.
+pub fn in_order<T: Drop, A: Allocator + Copy>(
+    alloc: A,
+    parts: &Parts<A>,
+    by_worker: Vec<VecDeque<T, A>, A>,
+) -> Result<Vec<T, A>, AllocError>
+    requires { (f : ℕ → T)
+        × (map (λ own. own.items) by_worker.items ≡ each_worker (for_own_stocks f parts.now) parts.now) }
+    ensures order { IfOk result (λ all. (f : ℕ → T)
+        → map (λ own. own.items) by_worker.items ≡ each_worker (for_own_stocks f parts.now) parts.now
+        → all.items ≡ map f (locates_of_day parts.now.day)) }
+    // A day is split for at least one worker.
+    ensures some { 0 < parts.now.workers }
+{
+    let mut by_worker = by_worker;
+    let workers = parts.workers();
+    let locates = parts.locates();
+    let mut all = Vec::with_capacity(alloc, locates.len())?;
+    for locate in locates {
+        let owner = (u32::from(*locate) % workers) as usize;
+        let Some(value) = by_worker[owner].pop_front() else {
+            unreachable!()
+        };
+        all.push(value)?;
+    }
+    Ok(all)
+}
+
+// What became of the messages of all workers, and of those of no stock.
+fn all_lists<A: Allocator + Copy>(
+    alloc: A,
+    parts: &Parts<A>,
+    pieces: Vec<Vec<Piece, A>, A>,
+) -> Result<Vec<Vec<Piece, A>, A>, AllocError>
+    requires { map (λ own. own.items) pieces.items ≡ each_worker (pieces_by parts.now) parts.now }
+    ensures { IfOk result (λ lists.
+        joined (map (λ list. list.items) lists.items) ≡ all_pieces parts.now) }
+{
+    let mut lists = pieces;
+    let fixed = parts.fixed().to_vec(alloc)?;
+    lists.push(fixed)?;
+    Ok(lists)
+}
+
+// The outcomes of all messages, of what became of those of each worker.
+fn all_outcomes<A: Allocator + Copy>(
+    alloc: A,
+    parts: &Parts<A>,
+    day: &Day<A>,
+    pieces: Vec<Vec<Piece, A>, A>,
+) -> Result<Vec<Outcome, A>, AllocError>
+    requires day { day.now.payloads ≡ parts.now.day }
+    requires some { 0 < parts.now.workers }
+    requires pieces { map (λ own. own.items) pieces.items ≡ each_worker (pieces_by parts.now) parts.now }
+    ensures { IfOk result (λ all. all.items ≡ outcomes parts.now.day) }
+{
+    let lists = all_lists(alloc, parts, pieces)?;
+    match merge(alloc, day.len(), lists) {
+        Ok(all) => Ok(all),
+        // Each message is named once, so that no other fault can come.
+        Err(fault) => {
+            prove!(matches!(fault, MergeFault::Memory));
+            Err(AllocError)
+        }
+    }
+}
+
+/// Puts together what the workers of a day made of it. The caller hands the day that was split, and for each worker,
+/// in the order of their numbers, the outcomes of its messages, by rising number, and the machines of its stocks after
+/// all of them, by rising locate code.
+///
+/// What it answers is the same for every number of workers. An error says that memory was refused. The parts are of
+/// this project.
+pub fn assemble<A: Allocator + Copy>(
+    alloc: A,
+    parts: &Parts<A>,
+    day: &Day<A>,
+    pieces: Vec<Vec<Piece, A>, A>,
+    stocks: Vec<VecDeque<Stock<A>, A>, A>,
+) -> Result<ReplayedDay<A>, AllocError>
+    requires day { day.now.payloads ≡ parts.now.day }
+    requires pieces { map (λ own. own.items) pieces.items ≡ each_worker (pieces_by parts.now) parts.now }
+    requires stocks { map (λ own. own.items) stocks.items
+        ≡ each_worker (for_own_stocks (last_machine parts.now.day) parts.now) parts.now }
+    ensures { IfOk result (λ replayed. IsReplayed day.now.payloads
+        replayed.outcomes.items replayed.stocks.items replayed.event) }
+{
+    let stocks = in_order(alloc, parts, stocks)?;
+    let outcomes = all_outcomes(alloc, parts, day, pieces)?;
+    Ok(ReplayedDay {
+        outcomes,
+        stocks,
+        event: parts.event(),
+    })
+}
