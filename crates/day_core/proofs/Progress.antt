@@ -10,7 +10,7 @@ use Rattle.itch_table.specs.declared.outcome.Part.TheVariants.{Locate, Nowhere}
 use Rattle.itch_table.specs.After.{after}
 use Rattle.itch_table.specs.Projection.{is_locate, is_of_stock, only, steps_of}
 use Rattle.itch_table.proofs.StockDays.{other_next, other_part, own_part, steps-next}
-use Rattle.day_core.specs.Owners.{is_own, last_or, machine_of, of_stock, own_of, owner, part_at, progress}
+use Rattle.day_core.specs.Owners.{is_own, last_message, last_or, last_until, machine_of, of_stock, own_of, owner, part_at, progress}
 use Rattle.day_core.proofs.Kept.{kept_before, kept_more, kept_narrower, kept_none, kept_within}
 
 -- a number of a worker's list is that of a message of one of its stocks
@@ -46,10 +46,6 @@ machine_stays day locate n off =
 last_push : (d : ℕ) (xs : List ℕ) (x : ℕ) → last_or d (xs ++ x ∷ []) ≡ x
 last_push d [] x = refl
 last_push d (y ∷ ys) x = last_push y ys x
-
--- the last of a stock's messages among the first of a day
-abbrev last_until : List (List ℕ) → ℕ → ℕ → ℕ
-last_until day locate count = last_or 0 (of_stock day locate (range_with_len 1 count))
 
 -- a stock's machine is as its last message left it
 abbrev UntilLast : List (List ℕ) → ℕ → ℕ → Type 0
@@ -130,7 +126,7 @@ module _ (day : List (List ℕ)) (workers locate : ℕ) where
       ∙ ap (last_or 0) (kept_narrower (λ n. is_own workers (owner workers locate) (part_at day n)) of_this (range_with_len 1 (get_or own done d - 1)) narrower)
 
   -- and where its worker has done all of its messages, the last of all
-  progress_last : progress day workers locate (length own) ≡ last_until day locate (length day)
+  pub progress_last : progress day workers locate (length own) ≡ last_message day locate
   unfolding progress own_of
   progress_last =
       ap (λ (xs : List ℕ). last_or 0 (filter of_this xs)) (take_all (length own) own (omega arith))

@@ -138,7 +138,7 @@ module _ (s : WorkerState) (n place : ℕ) (more : s.done < length (worker_messa
   progress_here = progress_moved s.day s.workers (code place) s.done 0 (room place listed) (rw (here place listed) (is_own_part (code place) _ owned)) ∙ here place listed
 
   -- and another stays where it is
-  progress_there : (k : ℕ) → k < length (worker_locates s) → k ≢ place → progress s.day s.workers (code k) (s.done + 1) ≡ progress s.day s.workers (code k) s.done
+  pub progress_there : (k : ℕ) → k < length (worker_locates s) → k ≢ place → progress s.day s.workers (code k) (s.done + 1) ≡ progress s.day s.workers (code k) s.done
   progress_there k lt differ =
       let other : is_locate (code k) (part_at s.day n) ≡ false = rw owned (ne_eqb _ _ (λ e. differ (sym (code_once s.workers s.worker s.day place k listed lt e)))) in
       progress_kept s.day s.workers (code k) s.done 0 (room k lt) (rw (here k lt) other)

@@ -20,7 +20,7 @@ use Rattle.day_core.proofs.Progress.{own_passes, own_within, past_end, progress_
 use Rattle.day_core.proofs.Running.{code_there, progress_here, values_after}
 
 -- the top of a stock's machine after a number of messages of a day
-top_is : (day : List (List ℕ)) (locate n : ℕ) (m : StockMachine) → m ≡ machine_of day locate n → top (orders_of m.world m.locate) ≡ top_after day locate n
+pub top_is : (day : List (List ℕ)) (locate n : ℕ) (m : StockMachine) → m ≡ machine_of day locate n → top (orders_of m.world m.locate) ≡ top_after day locate n
 top_is day locate n m is = ap (λ (k : StockMachine). top (orders_of k.world k.locate)) is ∙ sym (top_after-only day locate n)
 
 -- a turn sets the cell of its stock

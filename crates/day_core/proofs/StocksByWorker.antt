@@ -1,9 +1,10 @@
 -- A worker's way through its messages, and what all workers have for their stocks.
-use Rattle.std.proofs.Common.{◌≡◌, ℕ, ◌+◌, ◌<◌, ◌≤◌, List, [], ◌∷◌, ◌++◌, length, Bool, cond, get_or, set, map, take, drop, Some, refl, sym, ap, ap₂, ◌∙◌, arith, inl, inr}
+use Rattle.std.proofs.Common.{◌≡◌, ℕ, ◌+◌, ◌<◌, ◌≤◌, List, [], ◌∷◌, ◌++◌, length, Bool, append-nil, cond, eqb, get_or, set, map, take, drop, replicate, Some, true, false, refl, sym, ap, ap₂, ◌∙◌, arith, inl, inr}
 use Rattle.std.specs.List.{range_with_len}
 use Rattle.std.proofs.lemmas.Bool.{cases_eq, eq-eqb, ne_eqb}
-use Rattle.std.proofs.lemmas.List.{drop_more, get_or-set_same, get_or-set_other, get_or-map, length-drop, length-map, length-set, map-append, map-set, take_all, take_more}
-use Rattle.std.proofs.lemmas.List.FromFn.{get_or-map-range_with_len, length-map-range_with_len, map-range_with_len_more}
+use Rattle.std.proofs.lemmas.List.{drop_more, get_or-set_same, get_or-replicate, get_or-set_other, get_or-map, length-drop, length-map, length-replicate, length-set, map-append, map-set, take_all, take_more}
+use Rattle.std.proofs.lemmas.List.Elements.{filter_more}
+use Rattle.std.proofs.lemmas.List.FromFn.{get_or-map-range_with_len, get_or-range_with_len, length-map-range_with_len, length-range_with_len, map-range_with_len_more}
 use Rattle.std.proofs.lemmas.Nat.{mod_below}
 use Rattle.itch_table.specs.Shows.{locates_of_day}
 use Rattle.day_core.specs.declared.merging.Piece.{Piece}
@@ -13,7 +14,7 @@ use Rattle.day_core.specs.Replaying.{each_worker, for_own_stocks, last_machine}
 use Rattle.day_core.specs.Splitting.{Split}
 use Rattle.day_core.specs.Workers.{TakesTurn, WorkerState, machine_at, worker_messages, worker_locates}
 use Rattle.day_core.proofs.Progress.{machine_last}
-use Rattle.day_core.proofs.Running.{code_owner, map_same}
+use Rattle.day_core.proofs.Running.{code_owner, codes_are, map_by_all, map_same}
 
 -- ---- a worker's way
 
@@ -76,12 +77,12 @@ one_more items f before after v count are pushed is =
     ap (map items) pushed ∙ map-append items before (v ∷ []) ∙ ap₂ (λ xs x. xs ++ x ∷ []) are is ∙ sym (map-range_with_len_more f 0 count count (omega arith))
 
 -- for each worker a value for each of its stocks among those of some locate codes
-pub record AreLeft {T : Type 0} (f : ℕ → T) (workers : ℕ) (locates : List ℕ) (lists : List (List T)) : Type 0 where
+pub record ByOwner {T : Type 0} (f : ℕ → T) (workers : ℕ) (locates : List ℕ) (lists : List (List T)) : Type 0 where
   pub some : 0 < workers
   pub long : length lists ≡ workers
   pub each : (worker : ℕ) (d : List T) → worker < workers → get_or lists worker d ≡ map f (locates_by workers worker locates)
 
-pub all_left : {T : Type 0} (f : ℕ → T) (split : Split) (lists : List (List T)) → 0 < split.workers → lists ≡ each_worker (for_own_stocks f split) split → AreLeft f split.workers (locates_of_day split.day) lists
+pub all_left : {T : Type 0} (f : ℕ → T) (split : Split) (lists : List (List T)) → 0 < split.workers → lists ≡ each_worker (for_own_stocks f split) split → ByOwner f split.workers (locates_of_day split.day) lists
 unfolding own_locates
 all_left f split lists some are = record {
   some = some;
@@ -89,7 +90,7 @@ all_left f split lists some are = record {
   each = λ worker d lt. ap (λ ls. get_or ls worker d) are ∙ get_or-map-range_with_len (for_own_stocks f split) 0 split.workers worker worker d lt (omega arith);
 }
 
-module _ {T : Type 0} (f : ℕ → T) (workers : ℕ) (locates : List ℕ) (i : ℕ) (lists : List (List T)) (lt : i < length locates) (are : AreLeft f workers (drop i locates) lists) where
+module _ {T : Type 0} (f : ℕ → T) (workers : ℕ) (locates : List ℕ) (i : ℕ) (lists : List (List T)) (lt : i < length locates) (are : ByOwner f workers (drop i locates) lists) where
   abbrev next : ℕ
   next = get_or locates i 0
 
@@ -104,7 +105,7 @@ module _ {T : Type 0} (f : ℕ → T) (workers : ℕ) (locates : List ℕ) (i : 
       ∙ ap (λ (b : Bool). map f (cond b (next ∷ locates_by workers (owner workers next) (drop (i + 1) locates)) (locates_by workers (owner workers next) (drop (i + 1) locates)))) (eq-eqb _ _ refl)
 
   -- and where it is taken the others are left
-  rest_left : (rest : List T) → rest ≡ left_to (owner workers next) → AreLeft f workers (drop (i + 1) locates) (set lists (owner workers next) rest)
+  rest_left : (rest : List T) → rest ≡ left_to (owner workers next) → ByOwner f workers (drop (i + 1) locates) (set lists (owner workers next) rest)
   rest_left rest is = record {
     some = are.some;
     long = length-set lists (owner workers next) rest ∙ are.long;
@@ -122,7 +123,7 @@ module _ {T : Type 0} (f : ℕ → T) (workers : ℕ) (locates : List ℕ) (i : 
 
 -- what stands at a place of the lists that are kept in other values
 module _ {T V : Type 0} (items : V → List T) (f : ℕ → T) (workers : ℕ) (locates : List ℕ) (i : ℕ) (by_worker : List V) (k : ℕ) (lt : i < length locates)
-    (are : AreLeft f workers (drop i locates) (map items by_worker)) (mine : k ≡ owner workers (get_or locates i 0)) where
+    (are : ByOwner f workers (drop i locates) (map items by_worker)) (mine : k ≡ owner workers (get_or locates i 0)) where
   pub taken : (old : V) → old ≡ get_or by_worker k old → items old ≡ f (get_or locates i 0) ∷ map f (locates_by workers k (drop (i + 1) locates))
   taken old is =
       let room : k < length by_worker = omega (arith, mine, mod_below (get_or locates i 0) workers are.some, are.long, length-map by_worker items) in
@@ -131,8 +132,52 @@ module _ {T V : Type 0} (items : V → List T) (f : ℕ → T) (workers : ℕ) (
       ∙ first_left f workers locates i (map items by_worker) lt are (items old)
       ∙ ap (λ (j : ℕ). f (get_or locates i 0) ∷ map f (locates_by workers j (drop (i + 1) locates))) (sym mine)
 
-  pub left_by : (new : V) → items new ≡ map f (locates_by workers k (drop (i + 1) locates)) → AreLeft f workers (drop (i + 1) locates) (map items (set by_worker k new))
+  pub left_by : (new : V) → items new ≡ map f (locates_by workers k (drop (i + 1) locates)) → ByOwner f workers (drop (i + 1) locates) (map items (set by_worker k new))
   left_by new is = rw (map-set items by_worker k new, mine) (rest_left f workers locates i (map items by_worker) lt are (items new) (rw mine at is))
 
-pub not_empty : {T : Type 0} (old new rest : List T) (m : T) → old ≡ m ∷ rest → old ≡ new → new ≡ drop 1 old → ⊥
-not_empty old new rest m full same left = omega (arith, ap length full, ap length same, ap length left, length-drop 1 old)
+-- one stock's value more
+pub given : {T : Type 0} (f : ℕ → T) (workers : ℕ) (locates : List ℕ) (i : ℕ) (lists : List (List T)) (k : ℕ) (v : T) → i < length locates → ByOwner f workers (take i locates) lists
+    → k ≡ owner workers (get_or locates i 0) → v ≡ f (get_or locates i 0) → ByOwner f workers (take (i + 1) locates) (set lists k (get_or lists k [] ++ v ∷ []))
+given f workers locates i lists k v lt are mine is =
+    let next = get_or locates i 0 in
+    let room : k < length lists = omega (arith, mine, mod_below next workers are.some, are.long) in
+    record {
+      some = are.some;
+      long = length-set lists k _ ∙ are.long;
+      each = λ j d below.
+          let more = filter_more (λ l. eqb (owner workers l) j) locates i 0 lt in
+          let mapped = ap (map f) more ∙ map-append f (locates_by workers j (take i locates)) _ in
+          elim (cases_eq j k) [
+            | inl same ↦
+                let on : eqb (owner workers next) j ≡ true = eq-eqb _ _ (sym (same ∙ mine)) in
+                rw same (get_or-set_same lists k _ d room)
+                ∙ ap (λ (n : ℕ). get_or lists n [] ++ v ∷ []) (sym same)
+                ∙ ap₂ (λ xs x. xs ++ x ∷ []) (are.each j [] below) is
+                ∙ sym (mapped ∙ ap (λ (b : Bool). map f (locates_by workers j (take i locates)) ++ map f (cond b (next ∷ []) [])) on)
+            | inr differ ↦
+                let off : eqb (owner workers next) j ≡ false = ne_eqb _ _ (λ e. differ (sym e ∙ sym mine)) in
+                get_or-set_other lists k j _ d differ ∙ are.each j d below ∙ sym (append-nil _)
+                ∙ sym (mapped ∙ ap (λ (b : Bool). map f (locates_by workers j (take i locates)) ++ map f (cond b (next ∷ []) [])) off)
+          ];
+    }
+
+-- before the first stock
+pub none_given : {T : Type 0} (f : ℕ → T) (workers : ℕ) (locates : List ℕ) (lists : List (List T)) → 0 < workers → lists ≡ replicate workers [] → ByOwner f workers (take 0 locates) lists
+none_given f workers locates lists some empty = record {
+  some = some;
+  long = ap length empty ∙ length-replicate workers [];
+  each = λ worker d lt. rw empty (get_or-replicate workers worker [] d lt);
+}
+
+-- after the last
+pub all_given : {T : Type 0} (f : ℕ → T) (split : Split) (lists : List (List T)) → ByOwner f split.workers (locates_of_day split.day) lists → lists ≡ each_worker (for_own_stocks f split) split
+all_given f split lists are =
+    map_by_all (for_own_stocks f split) (range_with_len 0 split.workers) lists (are.long ∙ sym (length-range_with_len 0 split.workers))
+    (λ k d lt.
+    let below : k < split.workers = omega (arith, lt, length-range_with_len 0 split.workers) in
+    let same : k ≡ get_or (range_with_len 0 split.workers) k 0 = omega (arith, get_or-range_with_len 0 split.workers k 0 below) in
+    are.each k d below ∙ ap (map f) (codes_are split.workers k split.day) ∙ ap (for_own_stocks f split) same)
+
+-- a queue that has values gives one
+pub not_empty : {T : Type 0} (old new : List T) → 0 < length old → old ≡ new → new ≡ drop 1 old → ⊥
+not_empty old new some same left = omega (arith, some, ap length same, ap length left, length-drop 1 old)

@@ -69,6 +69,14 @@ last_or d (x ∷ xs) = last_or x xs
 abbrev pub of_stock : List (List ℕ) → ℕ → List ℕ → List ℕ
 of_stock day locate numbers = filter (λ n. is_locate locate (part_at day n)) numbers
 
+-- the last message of a stock among the first of a day, or 0
+abbrev pub last_until : List (List ℕ) → ℕ → ℕ → ℕ
+last_until day locate count = last_or 0 (of_stock day locate (range_with_len 1 count))
+
+-- the last message of a stock in a day, or 0
+abbrev pub last_message : List (List ℕ) → ℕ → ℕ
+last_message day locate = last_until day locate (length day)
+
 -- the last message of a stock among the first messages that its owner has done, or 0
 unfoldable pub progress : List (List ℕ) → ℕ → ℕ → ℕ → ℕ
 progress day workers locate done =

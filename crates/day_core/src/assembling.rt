@@ -1,11 +1,11 @@
 //! What the workers of a day made of it, put together.
-ghost use Rattle.std.specs.Prelude.{◌≡◌, ◌<◌, ℕ, IfOk, map};
+ghost use Rattle.std.specs.Prelude.{◌≡◌, ◌<◌, IfOk, map};
 ghost use Rattle.itch_table.specs.After.{outcomes};
-ghost use Rattle.itch_table.specs.Shows.{locates_of_day};
 ghost use Rattle.day_core.specs.Merging.{joined};
 ghost use Rattle.day_core.specs.Replaying.{IsReplayed, all_pieces, each_worker, for_own_stocks, last_machine, pieces_by};
 
 use crate::merging::{MergeFault, Piece, merge};
+use crate::ordering::in_order;
 use crate::parts::Parts;
 use binaryfile::Day;
 use itch_table::Outcome;
@@ -22,37 +22,6 @@ pub struct ReplayedDay<A: Allocator> {
     pub stocks: Vec<Stock<A>, A>,
     /// The event code of the day's last system event message, where it has one.
     pub event: Option<u8>,
-}
-
-/// What each worker has for its stocks, for all stocks of a day by rising locate code. The caller hands for each
-/// worker, in the order of their numbers, one value for each of its stocks, by rising locate code.
-///
-/// An error says that memory was refused. The order is of this project.
-pub fn in_order<T: Drop, A: Allocator + Copy>(
-    alloc: A,
-    parts: &Parts<A>,
-    by_worker: Vec<VecDeque<T, A>, A>,
-) -> Result<Vec<T, A>, AllocError>
-    requires { (f : ℕ → T)
-        × (map (λ own. own.items) by_worker.items ≡ each_worker (for_own_stocks f parts.now) parts.now) }
-    ensures order { IfOk result (λ all. (f : ℕ → T)
-        → map (λ own. own.items) by_worker.items ≡ each_worker (for_own_stocks f parts.now) parts.now
-        → all.items ≡ map f (locates_of_day parts.now.day)) }
-    // A day is split for at least one worker.
-    ensures some { 0 < parts.now.workers }
-{
-    let mut by_worker = by_worker;
-    let workers = parts.workers();
-    let locates = parts.locates();
-    let mut all = Vec::with_capacity(alloc, locates.len())?;
-    for locate in locates {
-        let owner = (u32::from(*locate) % workers) as usize;
-        let Some(value) = by_worker[owner].pop_front() else {
-            unreachable!()
-        };
-        all.push(value)?;
-    }
-    Ok(all)
 }
 
 // What became of the messages of all workers, and of those of no stock.

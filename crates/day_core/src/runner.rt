@@ -1,10 +1,10 @@
 //! One worker without threads.
-ghost use Rattle.std.specs.Prelude.{◌≡◌, ◌<◌, ◌≤◌, ℕ, true, IfOk, MatchOption, OnErr, length, map, slice_index};
+ghost use Rattle.std.specs.Prelude.{◌≡◌, ◌<◌, ◌≤◌, ℕ, true, IfOk, MatchOption, OnErr, length, map, slice_get, slice_index};
 ghost use Rattle.std.specs.List.{Contains};
 ghost use Rattle.itch_table.specs.declared.outcome.Part.TheVariants.{Locate};
 ghost use Rattle.itch_table.specs.Projection.{payload_at};
 ghost use Rattle.day_core.specs.Owners.{is_own, own_locates, part_at};
-ghost use Rattle.day_core.specs.Workers.{TakesTurn, first_state, machine_at, new_machine, worker_locates};
+ghost use Rattle.day_core.specs.Workers.{TakesTurn, first_state, machine_at, new_machine, worker_locates, worker_messages};
 
 use crate::merging::Piece;
 use crate::parts::Parts;
@@ -158,6 +158,27 @@ impl<A: Allocator + Copy> Runner<A> {
 }
 
 impl<A: Allocator> Runner<A> {
+    /// The worker's number, from 0.
+    pub fn worker(&self) -> u32
+        ensures { result ≡ self.now.worker }
+    {
+        self.worker
+    }
+
+    /// How many messages the worker has in the day.
+    pub fn message_count(&self) -> usize
+        ensures { result ≡ length (worker_messages self.now) }
+    {
+        self.own.len()
+    }
+
+    /// The number of the worker's next message; none where it has done all of them.
+    pub fn next_message(&self) -> Option<u32>
+        ensures { result ≡ slice_get (worker_messages self.now) self.now.done }
+    {
+        self.own.get(self.done).copied()
+    }
+
     /// How many stocks the worker has.
     pub fn stock_count(&self) -> usize
         ensures { result ≡ length (worker_locates self.now) }

@@ -7,6 +7,7 @@ ghost use Rattle.day_core.specs.declared.splitting.SplitFault.TheVariants.{Memor
 
 use crate::counting::{locates_counted, messages_by_locate};
 use crate::merging::Piece;
+use crate::ordering::give;
 use crate::parts::Parts;
 use binaryfile::Day;
 use itch_layouts::{Msg, Shape, read_msg};
@@ -63,21 +64,6 @@ fn empty_lists<A: Allocator + Copy>(
         own.push(Vec::with_capacity(alloc, room)?)?;
     }
     Ok(own)
-}
-
-// Adds a message to the list of a worker.
-fn give<A: Allocator + Copy>(
-    own: &mut Vec<Vec<u32, A>, A>,
-    worker: u32,
-    message: u32,
-) -> Result<(), AllocError>
-    requires { worker < length own.old.items }
-    ensures { OnOk result (map (λ list. list.items) own.new.items
-        ≡ slice_set (map (λ list. list.items) own.old.items) worker
-        (slice_index_or (map (λ list. list.items) own.old.items) worker [] ++ message ∷ [])) }
-{
-    own[worker as usize].push(message)?;
-    Ok(())
 }
 
 // The event after a payload, by the one before it.

@@ -1,0 +1,95 @@
+//! Values of a day's stocks, in one list by rising locate code, or by their workers.
+ghost use Rattle.std.specs.Prelude.{◌≡◌, ◌++◌, ◌∷◌, ◌<◌, ℕ, [], IfOk, OnOk, length, map, replicate, slice_index_or, slice_set};
+ghost use Rattle.itch_table.specs.Shows.{locates_of_day};
+ghost use Rattle.day_core.specs.Replaying.{each_worker, for_own_stocks};
+
+use crate::parts::Parts;
+use std::alloc::{AllocError, Allocator};
+use std::collections::VecDeque;
+
+/// Adds a value to the list of a worker.
+pub(crate) fn give<T: Drop, A: Allocator + Copy>(
+    lists: &mut Vec<Vec<T, A>, A>,
+    worker: u32,
+    value: T,
+) -> Result<(), AllocError>
+    requires { worker < length lists.old.items }
+    ensures { OnOk result (map (λ list. list.items) lists.new.items
+        ≡ slice_set (map (λ list. list.items) lists.old.items) worker
+        (slice_index_or (map (λ list. list.items) lists.old.items) worker [] ++ value ∷ [])) }
+{
+    lists[worker as usize].push(value)?;
+    Ok(())
+}
+
+// An empty list for each worker.
+fn empty_lists<T: Drop, A: Allocator + Copy>(
+    alloc: A,
+    workers: u32,
+) -> Result<Vec<Vec<T, A>, A>, AllocError>
+    ensures { IfOk result (λ lists. map (λ list. list.items) lists.items ≡ replicate workers []) }
+{
+    let mut lists = Vec::with_capacity(alloc, workers as usize)?;
+    for k in 0..workers {
+        lists.push(Vec::new(alloc))?;
+    }
+    Ok(lists)
+}
+
+/// Values of a day's stocks by their workers: for each worker, in the order of their numbers, the values of its stocks.
+/// The caller hands one value for each stock that has messages in the day, by rising locate code, and so stand those of
+/// each worker.
+///
+/// An error says that memory was refused; the values are gone. The order is of this project.
+pub fn by_worker<T: Drop, A: Allocator + Copy>(
+    alloc: A,
+    parts: &Parts<A>,
+    values: Vec<T, A>,
+) -> Result<Vec<Vec<T, A>, A>, AllocError>
+    requires { length values.items ≡ length (locates_of_day parts.now.day) }
+    ensures { IfOk result (λ lists. (f : ℕ → T) → values.items ≡ map f (locates_of_day parts.now.day)
+        → map (λ own. own.items) lists.items ≡ each_worker (for_own_stocks f parts.now) parts.now) }
+{
+    let workers = parts.workers();
+    let locates = parts.locates();
+    let mut values = VecDeque::from_vec(values);
+    let mut lists = empty_lists(alloc, workers)?;
+    for locate in locates {
+        let Some(value) = values.pop_front() else {
+            unreachable!()
+        };
+        give(&mut lists, u32::from(*locate) % workers, value)?;
+    }
+    Ok(lists)
+}
+
+/// What each worker has for its stocks, for all stocks of a day by rising locate code. The caller hands for each
+/// worker, in the order of their numbers, one value for each of its stocks, by rising locate code.
+///
+/// An error says that memory was refused. The order is of this project.
+pub fn in_order<T: Drop, A: Allocator + Copy>(
+    alloc: A,
+    parts: &Parts<A>,
+    by_worker: Vec<VecDeque<T, A>, A>,
+) -> Result<Vec<T, A>, AllocError>
+    requires { (f : ℕ → T)
+        × (map (λ own. own.items) by_worker.items ≡ each_worker (for_own_stocks f parts.now) parts.now) }
+    ensures order { IfOk result (λ all. (f : ℕ → T)
+        → map (λ own. own.items) by_worker.items ≡ each_worker (for_own_stocks f parts.now) parts.now
+        → all.items ≡ map f (locates_of_day parts.now.day)) }
+    // A day is split for at least one worker.
+    ensures some { 0 < parts.now.workers }
+{
+    let mut by_worker = by_worker;
+    let workers = parts.workers();
+    let locates = parts.locates();
+    let mut all = Vec::with_capacity(alloc, locates.len())?;
+    for locate in locates {
+        let owner = (u32::from(*locate) % workers) as usize;
+        let Some(value) = by_worker[owner].pop_front() else {
+            unreachable!()
+        };
+        all.push(value)?;
+    }
+    Ok(all)
+}
