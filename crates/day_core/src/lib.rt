@@ -13,6 +13,7 @@ mod runner;
 mod splitting;
 mod turns;
 
+pub use counting::locates;
 pub use laws::days_come_to_their_end;
 pub use merging::{MergeFault, Piece, merge};
 pub use parts::Parts;
