@@ -2,8 +2,7 @@
 use Rattle.std.proofs.Common.{◌≡◌, ◌⊎◌, ℕ, zero, suc, ◌<◌, List, [], ◌∷◌, ◌++◌, length, map, get_or, Some, inl, inr, refl, sym, ap, ◌∙◌, subst, ⊎_elim, arith, length-append}
 use Rattle.std.specs.Prelude.{slice_get}
 use Rattle.std.proofs.lemmas.List.{map-append}
-use Rattle.atomic_table.specs.Seated.{TableId}
-use Rattle.top_cell.specs.Boards.{WriterAt, AreNew, IsOn, new_writer}
+use Rattle.top_cell.specs.Boards.{CellId, WriterAt, AreNew, IsOn, new_writer}
 
 -- ---- items of lists
 
@@ -45,35 +44,35 @@ same_at xs k x y one other = let e : Some x ≡ Some y = sym one ∙ other in cc
 pub none_new : (day : List (List ℕ)) → AreNew day [] [] []
 none_new day = record { stocks = refl; long = refl; each = λ k w e. absurd (cc) }
 
-module _ (day : List (List ℕ)) (locates : List ℕ) (board : List TableId) (writers : List WriterAt) (locate : ℕ) (table : TableId) (new : AreNew day locates board writers) where
+module _ (day : List (List ℕ)) (locates : List ℕ) (board : List CellId) (writers : List WriterAt) (locate : ℕ) (cell : CellId) (new : AreNew day locates board writers) where
   abbrev w : WriterAt
-  w = new_writer day locate (length writers) table
+  w = new_writer day locate (length writers) cell
 
   each : (k : ℕ) (u : WriterAt) → slice_get (writers ++ w ∷ []) k ≡ Some u
-      → (u ≡ new_writer day u.place.locate k u.place.table) × IsOn (board ++ table ∷ []) u.place
+      → (u ≡ new_writer day u.place.locate k u.place.cell) × IsOn (board ++ cell ∷ []) u.place
   each k u e =
       ⊎_elim
-      (λ (old : slice_get writers k ≡ Some u). let n = new.each k u old in (n.0, first_at board (table ∷ []) u.place.index u.place.table n.1))
+      (λ (old : slice_get writers k ≡ Some u). let n = new.each k u old in (n.0, first_at board (cell ∷ []) u.place.index u.place.cell n.1))
       (λ (t : (k ≡ length writers) × (w ≡ u)).
-      subst (λ (z : ℕ × WriterAt). (z.1 ≡ new_writer day z.1.place.locate z.0 z.1.place.table) × IsOn (board ++ table ∷ []) z.1.place)
-      (λ i. (sym t.0 i, t.1 i)) (refl, last_at board table (length writers) new.long))
+      subst (λ (z : ℕ × WriterAt). (z.1 ≡ new_writer day z.1.place.locate z.0 z.1.place.cell) × IsOn (board ++ cell ∷ []) z.1.place)
+      (λ i. (sym t.0 i, t.1 i)) (refl, last_at board cell (length writers) new.long))
       (at_push writers w u k e)
 
   -- one cell more, and its writer
-  pub one_more : AreNew day (locates ++ locate ∷ []) (board ++ table ∷ []) (writers ++ w ∷ [])
+  pub one_more : AreNew day (locates ++ locate ∷ []) (board ++ cell ∷ []) (writers ++ w ∷ [])
   one_more = record {
     stocks = map-append (λ u. u.place.locate) writers (w ∷ []) ∙ ap (λ l. l ++ locate ∷ []) new.stocks;
-    long = omega (arith, new.long, length-append writers (w ∷ []), length-append board (table ∷ []));
+    long = omega (arith, new.long, length-append writers (w ∷ []), length-append board (cell ∷ []));
     each = each;
   }
 
 -- the same, of lists that came to be so
-pub more_new : (day : List (List ℕ)) (locates locates' : List ℕ) (board board' : List TableId) (writers writers' : List WriterAt) (locate index : ℕ) (table : TableId) (w : WriterAt)
-    → AreNew day locates board writers → index ≡ length board → w ≡ new_writer day locate index table
-    → locates' ≡ locates ++ locate ∷ [] → board' ≡ board ++ table ∷ [] → writers' ≡ writers ++ w ∷ []
+pub more_new : (day : List (List ℕ)) (locates locates' : List ℕ) (board board' : List CellId) (writers writers' : List WriterAt) (locate index : ℕ) (cell : CellId) (w : WriterAt)
+    → AreNew day locates board writers → index ≡ length board → w ≡ new_writer day locate index cell
+    → locates' ≡ locates ++ locate ∷ [] → board' ≡ board ++ cell ∷ [] → writers' ≡ writers ++ w ∷ []
     → AreNew day locates' board' writers'
-more_new day locates locates' board board' writers writers' locate index table w new at is l b ws =
+more_new day locates locates' board board' writers writers' locate index cell w new at is l b ws =
     let same : index ≡ length writers = at ∙ new.long in
-    let last : writers' ≡ writers ++ new_writer day locate (length writers) table ∷ [] = ws ∙ ap (λ (u : WriterAt). writers ++ u ∷ []) (is ∙ ap (λ (k : ℕ). new_writer day locate k table) same) in
-    subst (λ (z : List ℕ × (List TableId × List WriterAt)). AreNew day z.0 z.1.0 z.1.1) (λ i. (sym l i, (sym b i, sym last i)))
-    (one_more day locates board writers locate table new)
+    let last : writers' ≡ writers ++ new_writer day locate (length writers) cell ∷ [] = ws ∙ ap (λ (u : WriterAt). writers ++ u ∷ []) (is ∙ ap (λ (k : ℕ). new_writer day locate k cell) same) in
+    subst (λ (z : List ℕ × (List CellId × List WriterAt)). AreNew day z.0 z.1.0 z.1.1) (λ i. (sym l i, (sym b i, sym last i)))
+    (one_more day locates board writers locate cell new)

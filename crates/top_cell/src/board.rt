@@ -26,9 +26,9 @@ pub struct Board<'a, A: Allocator> {
 
 impl<'a, A: Allocator> Model for Board<'a, A> {
     ghost use Rattle.std.specs.Prelude.{List, map};
-    ghost use Rattle.atomic_table.specs.Seated.{TableId};
+    ghost use Rattle.top_cell.specs.Boards.{CellId};
 
-    ghost Value = { List TableId };
+    ghost Value = { List CellId };
 
     ghost view = { λ b. map (λ c. c.table.shared.table_id) b.cells.items };
 }

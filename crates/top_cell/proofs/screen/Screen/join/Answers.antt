@@ -14,7 +14,7 @@ split_pass-fresh-requires g c =
     let s = c.self.view_is in
     let on = subst (λ (w : ScreenAt). IsOn c.args.board.now w.place) (sym s) c.requires.own in
     let own = same_at c.args.board.now _ _ _ on c.cell-cell.ensures in
-    let same = ap (λ (w : ScreenAt). w.place.table) c.other.view_is ∙ (ap (λ (p : Place). p.table) c.requires.same ∙ sym (ap (λ (w : ScreenAt). w.place.table) s)) in
+    let same = ap (λ (w : ScreenAt). w.place.cell) c.other.view_is ∙ (ap (λ (p : Place). p.cell) c.requires.same ∙ sym (ap (λ (w : ScreenAt). w.place.cell) s)) in
     (search rules, (search rules, (same ∙ own, hands_over_at _ _ _ _ _ c.other.invariant.0)))
 
 pub join_pass-requires : goal.join_pass-requires
@@ -22,6 +22,6 @@ join_pass-requires g c =
     let s = c.self.view_is in
     let on = subst (λ (w : ScreenAt). IsOn c.args.board.now w.place) (sym s) c.requires.own in
     let own = same_at c.args.board.now _ _ _ on c.cell-cell.ensures in
-    let same = ap (λ (w : ScreenAt). w.place.table) c.other.view_is ∙ (ap (λ (p : Place). p.table) c.requires.same ∙ sym (ap (λ (w : ScreenAt). w.place.table) s)) in
+    let same = ap (λ (w : ScreenAt). w.place.cell) c.other.view_is ∙ (ap (λ (p : Place). p.cell) c.requires.same ∙ sym (ap (λ (w : ScreenAt). w.place.cell) s)) in
     let fresh = c.split_pass-fresh.ensures.given in
     (search rules, (search rules, ((own, fresh.0 ∙ same, fresh.2), joins_at _ _ _ _ _ _ _ _ _ _ c.self.invariant.0 (fresh.1 ∙ c.other.invariant.0))))
