@@ -1,6 +1,7 @@
 // How many messages each stock of a day has, and the stocks that have some.
 ghost use Rattle.std.specs.Prelude.{ℕ, ◌≡◌, ◌+◌, ◌^◌, ◌<◌, ◌≤◌, IfOk, filter, length, nat_lt, slice_index};
 ghost use Rattle.std.specs.List.{AllZip, range_with_len};
+ghost use Rattle.itch_table.specs.Shows.{locates_of_day};
 ghost use Rattle.day_core.specs.Counting.{AreCounts, AreCountsOfChunk, cut};
 
 use binaryfile::Day;
@@ -136,4 +137,18 @@ pub(crate) fn locates_counted<A: Allocator + Copy>(
         }
     }
     Ok(locates)
+}
+
+/// The locate codes of the stocks that have messages in a day, rising. A long day is counted by several threads.
+///
+/// An error says that memory was refused. The list is of this project.
+pub fn locates<R: Threads + Sync, A: Allocator + Copy + Send + Sync>(
+    rt: &R,
+    alloc: A,
+    day: &Day<A>,
+) -> Result<Vec<u16, A>, AllocError>
+    ensures { IfOk result (λ locates. locates.items ≡ locates_of_day day.now.payloads) }
+{
+    let counts = messages_by_locate(rt, alloc, day)?;
+    locates_counted(alloc, &counts)
 }

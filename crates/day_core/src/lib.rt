@@ -16,6 +16,7 @@ mod turns;
 mod worker_cells;
 
 pub use assembling::{ReplayedDay, assemble};
+pub use counting::locates;
 pub use laws::{days_come_to_their_end, looks_never_go_back, looks_show_their_stock};
 pub use merging::{MergeFault, Piece, merge};
 pub use ordering::{by_worker, in_order};

@@ -1,14 +1,12 @@
 //! One worker with the cells of its stocks.
 ghost use Rattle.std.specs.Prelude.{◌≡◌, ◌<◌, ◌%◌, IfOk, OnErr, MatchOption};
 ghost use Rattle.std.specs.List.{Contains};
-ghost use Rattle.itch_table.specs.Shows.{words_of};
 ghost use Rattle.day_core.specs.Cells.{shown};
 ghost use Rattle.day_core.specs.Workers.{TakesTurn, first_state, machine_at, worker_locates};
 
 use crate::parts::Parts;
 use crate::runner::{Runner, Turned};
 use binaryfile::Day;
-use itch_table::Top;
 use std::alloc::{AllocError, Allocator};
 use std::marker::Model;
 use stock_machine::Stock;
@@ -29,14 +27,6 @@ impl<A: Allocator> Model for WorkerCells<A> {
     ghost view = { λ d. d.runner };
 
     ghost invariant = { λ d. CellsShow d.runner d.cells.items };
-}
-
-// The four words of a top after a number of messages.
-fn to_words(message: u32, best: &Top) -> [u64; 4]
-    ensures { result ≡ words_of message best.now }
-{
-    let prices = u64::from(best.bid_price) * (1 << 32) + u64::from(best.ask_price);
-    [u64::from(message), prices, best.bid_shares, best.ask_shares]
 }
 
 impl<A: Allocator + Copy> WorkerCells<A> {
@@ -62,7 +52,7 @@ impl<A: Allocator + Copy> WorkerCells<A> {
             return Ok(None);
         };
         let best = self.runner.stock_at(turned.place).top();
-        self.cells[turned.place] = to_words(turned.piece.message, &best);
+        self.cells[turned.place] = best.to_words(turned.piece.message);
         Ok(Some(turned))
     }
 

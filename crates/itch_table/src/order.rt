@@ -1,6 +1,7 @@
 //! Orders, and what a book shows of them.
-ghost use Rattle.std.specs.Prelude.{◌≡◌};
+ghost use Rattle.std.specs.Prelude.{◌≡◌, ◌^◌, ◌<◌, slice_index};
 ghost use Rattle.itch_table.specs.Levels.{top_from};
+ghost use Rattle.itch_table.specs.Shows.{words_of};
 ghost use Rattle.itch_table.specs.World.{order_under, row_of};
 
 /// Which side of the book an order is on.
@@ -78,6 +79,34 @@ impl Top {
             ask_price: ask.price,
             ask_shares: ask.shares,
         }
+    }
+
+    /// The four words that show this top after a number of messages: the number; the bid's price times 2^32 and the
+    /// ask's price, in one word; the bid's shares; and the ask's.
+    ///
+    /// The words are of this project.
+    pub fn to_words(self, message: u32) -> [u64; 4]
+        ensures { result ≡ words_of message self }
+    {
+        let prices = u64::from(self.bid_price) * (1 << 32) + u64::from(self.ask_price);
+        [u64::from(message), prices, self.bid_shares, self.ask_shares]
+    }
+
+    /// The number of messages and the top that four words show, where the first of them fits 32 bits.
+    ///
+    /// The words are of this project.
+    pub fn from_words(words: &[u64; 4]) -> (u32, Top)
+        requires { slice_index words.now 0 < 2 ^ 32 }
+        ensures { words_of result.0 result.1 ≡ words.now }
+    {
+        let [message, prices, bid_shares, ask_shares] = *words;
+        let top = Top {
+            bid_price: (prices / (1 << 32)) as u32,
+            bid_shares,
+            ask_price: (prices % (1 << 32)) as u32,
+            ask_shares,
+        };
+        (message as u32, top)
     }
 }
 

@@ -1,10 +1,11 @@
-//! What the tests of several crates share: messages by their fields, scripts that a machine is led through, devices that
-//! give and take little at a time and fail, and a worked file in all its forms.
+//! What the tests of several crates share: messages by their fields, days of them, scripts that a machine is led through,
+//! devices that give and take little at a time and fail, and a worked file in all its forms.
 //!
 //! No helper ends the process, which only a test may do: each answers a `Fail` that names the case.
 #![tactic(auto)]
 
 mod comparing;
+mod days;
 mod devices;
 mod growing;
 mod machine;
@@ -13,6 +14,7 @@ mod script;
 mod worked;
 
 pub use comparing::{same, same_bytes, same_list};
+pub use days::{add_entry, crossed_book, day_of, day_with, two_stocks};
 pub use devices::{Failure, Narrow, Pieces};
 pub use growing::{GROWING, Growing};
 pub use machine::{Known, known_of, take};

@@ -1,0 +1,89 @@
+//! Boards, and what their writers and screens show one after another.
+use crate::cells::only_cell;
+use crate::showing::show_next;
+use binaryfile::Day;
+use refusing::{Refusal, Refusing};
+use std::alloc::{AllocError, Allocator};
+use std::sync::Wait;
+use std::test::Fail;
+use std::thread::Threads;
+use support::{crossed_book, day_of, same, same_list, two_stocks};
+use top_cell::{Board, Reading};
+
+// The best bid and ask of the crossed book: 100 shares are bid at 101, above the ask of 50 shares at 100.
+const CROSSED: Reading = Reading {
+    message: 3,
+    bid_price: 1_010_000,
+    bid_shares: 100,
+    ask_price: 1_000_000,
+    ask_shares: 50,
+};
+
+// The locate codes and the messages of the writers of a day.
+fn writers_of<R: Threads + Wait + Sync, A: Allocator + Copy + Send + Sync>(
+    rt: &R,
+    alloc: &A,
+    day: &Day<A>,
+) -> Result<Vec<(u16, u32), A>, AllocError> {
+    let (_board, writers) = Board::new(rt, alloc, day)?;
+    let mut found = Vec::new(*alloc);
+    for writer in &writers {
+        found.push((writer.locate(), writer.message()))?;
+    }
+    Ok(found)
+}
+
+#[test]
+fn each_stock_has_a_writer(rt: HostRuntime) -> Result<(), Fail> {
+    let alloc = rt.alloc();
+    let day = two_stocks(alloc)?;
+    let found = writers_of(&rt, &alloc, &day)?;
+    same_list("of three stocks", &found, &[(1, 0), (2, 0), (3, 0)])?;
+    let empty = day_of(alloc, Vec::new(alloc))?;
+    let none = writers_of(&rt, &alloc, &empty)?;
+    same("of an empty file", &none.len(), &0)
+}
+
+#[test]
+fn screens_stand_at_what_they_have_seen(rt: HostRuntime) -> Result<(), Fail> {
+    let alloc = rt.alloc();
+    let day = crossed_book(alloc)?;
+    let (board, mut writer, mut machine) = only_cell(&rt, &alloc, &day)?;
+    let mut first = writer.screen(&rt, &board);
+    show_next(&rt, &day, &mut machine, &board, &mut writer)?;
+    show_next(&rt, &day, &mut machine, &board, &mut writer)?;
+    let mut second = writer.screen(&rt, &board);
+    show_next(&rt, &day, &mut machine, &board, &mut writer)?;
+    let third = writer.screen(&rt, &board);
+    same(
+        "where they stand",
+        &(first.message(), second.message(), third.message()),
+        &(0, 2, 3),
+    )?;
+    same("what the first reads", &first.read(&rt, &board), &CROSSED)?;
+    second.join(&rt, &board, third);
+    let fourth = first.split(&rt, &board);
+    same(
+        "where they stand then",
+        &(first.message(), second.message(), fourth.message()),
+        &(3, 3, 3),
+    )?;
+    same("whose it is", &(writer.locate(), first.locate()), &(1, 1))
+}
+
+#[test]
+fn a_board_without_memory_is_none(rt: HostRuntime) -> Result<(), Fail> {
+    let heap = Refusing::new(rt.alloc(), Refusal::Never);
+    let alloc = &heap;
+    let day = two_stocks(alloc)?;
+    heap.restart(Refusal::Never);
+    same("with memory", &writers_of(&rt, &alloc, &day)?.len(), &3)?;
+    let growths = heap.asked();
+    for growth in 1..=growths {
+        heap.restart(Refusal::From(growth));
+        let found = writers_of(&rt, &alloc, &day).map(|writers| writers.len());
+        same("without memory", &(growth, found.ok()), &(growth, None))?;
+        same("the day", &day.len(), &7)?;
+    }
+    same("some growths", &(growths > 10 && growths <= 40), &true)
+}

@@ -1,0 +1,9 @@
+pub mod Rule
+pub mod OpenStep
+pub mod PublishStep
+pub mod ReadStep
+pub mod SplitStep
+pub mod JoinStep
+pub mod Seats
+pub mod Boards
+pub mod Readings

@@ -1,0 +1,95 @@
+//! The writer of a cell.
+ghost use Rattle.std.specs.Prelude.{◌≡◌, ◌≤◌, length};
+ghost use Rattle.itch_table.specs.Shows.{top_after};
+ghost use Rattle.top_cell.specs.Boards.{IsOn};
+
+use crate::board::Board;
+use crate::rule::Seat;
+use crate::screen::Screen;
+use crate::steps::publish::Publishes;
+use crate::steps::split::GivesScreen;
+use itch_table::Top;
+use std::alloc::Allocator;
+use std::marker::Model;
+use std::sync::Wait;
+
+/// The one writer of a cell, which sets its words after each message of its stock.
+///
+/// It is seen as the cell that it belongs to, with the day and the stock that the cell shows, and the number of the
+/// message at which it stands: the words show the stock after that message. All is of this project.
+#[derive(Drop)]
+pub struct TopWriter {
+    pub(crate) seat: Seat,
+    pub(crate) index: usize,
+    pub(crate) locate: u16,
+    pub(crate) message: u32,
+}
+
+impl Model for TopWriter {
+    ghost use Rattle.crossbeam_utils.specs.Seq.{cell_view};
+    ghost use Rattle.top_cell.specs.Boards.{WriterAt, place};
+    ghost use Rattle.top_cell.specs.Seats.{IsWritersSeat};
+
+    ghost Value = { WriterAt };
+
+    ghost view = { λ w. record {
+      place = place (cell_view w.seat) w.locate w.index w.seat.table_id;
+      message = w.message;
+    } };
+
+    ghost invariant = { λ w. IsWritersSeat (cell_view w.seat) w.locate w.message };
+}
+
+impl TopWriter {
+    /// The locate code of its stock.
+    pub fn locate(&self) -> u16
+        ensures { result ≡ self.now.place.locate }
+    {
+        self.locate
+    }
+
+    /// The number of the message at which it stands; 0 before the first.
+    pub fn message(&self) -> u32
+        ensures { result ≡ self.now.message }
+    {
+        self.message
+    }
+
+    /// Shows the stock's best bid and ask after a message of the day, which isn't earlier than the last one that was
+    /// published. A message is published also where the best bid and ask stay as they were.
+    ///
+    /// It may wait for a read or another call that is under way on the same cell.
+    pub fn publish<R: Wait, A: Allocator>(
+        &mut self,
+        rt: &R,
+        board: &Board<'_, A>,
+        message: u32,
+        top: Top,
+    )
+        requires own { IsOn board.now self.old.place }
+        requires later { self.old.message ≤ message }
+        requires within { message ≤ length self.old.place.day }
+        requires top { top ≡ top_after self.old.place.day self.old.place.locate message }
+        ensures { self.new ≡ record self.old { message = message } }
+    {
+        let words = top.to_words(message);
+        let cell = board.cell(self.index);
+        cell.swap_as::<Publishes, R>(rt, &mut self.seat, words);
+        self.message = message;
+    }
+
+    /// A screen of the writer's stock, which stands where the writer stands: it never shows an earlier message.
+    pub fn screen<R: Wait, A: Allocator>(&mut self, _rt: &R, board: &Board<'_, A>) -> Screen
+        requires { IsOn board.now self.old.place }
+        ensures same { self.new ≡ self.old }
+        ensures screen { result ≡ record { place = self.old.place; message = self.old.message; loads = 0 } }
+    {
+        let cell = board.cell(self.index);
+        Screen {
+            seat: cell.split_pass::<GivesScreen>(&mut self.seat),
+            index: self.index,
+            locate: self.locate,
+            message: self.message,
+        }
+    }
+}
