@@ -15,12 +15,11 @@ use Rattle.std.specs.FinMap.{empty, entries, entries_sorted, from_entries, get, 
 use Rattle.std.specs.FinMap.Entries.{below_all}
 use Rattle.std.proofs.lemmas.Map.Keys.{IsDistinct-from_sorted}
 use Rattle.std.proofs.lemmas.Map.Made.{update_all_distinct}
-use Rattle.itch_table.specs.declared.order.Order.{Order}
 use Rattle.itch_table.specs.declared.order.OrderRow.{OrderRow}
-use Rattle.itch_table.specs.World.{order_under, row_of}
+use Rattle.itch_table.specs.World.{order_under}
 use Rattle.itch_table.proofs.MapViews.{find_lookup, get_view}
 use Rattle.order_book.specs.Orders.{Orders, orders_in}
-use Rattle.order_book.specs.Parts.{joined}
+use Rattle.order_book.specs.Parts.{entry_of, joined}
 use Rattle.order_book.proofs.Joined.{get_joined}
 use Rattle.order_book.proofs.RowViews.{Rows}
 
@@ -50,19 +49,15 @@ sorted_keys (e ∷ rows) h = (keys_above e.0 rows (first _ _ h), sorted_keys row
 
 -- ---- the orders of both parts
 
--- an order with its reference apart
-abbrev pub pair : Order → ℕ × OrderRow
-pair order = (order.reference, row_of order)
+same_entries : (rows : Rows) → map entry_of (map (λ (e : ℕ × OrderRow). order_under e.0 e.1) rows) ≡ rows
+same_entries [] = refl
+same_entries (e ∷ rows) = ap (λ (rest : Rows). e ∷ rest) (same_entries rows)
 
-pairs_again : (rows : Rows) → map pair (map (λ (e : ℕ × OrderRow). order_under e.0 e.1) rows) ≡ rows
-pairs_again [] = refl
-pairs_again (e ∷ rows) = ap (λ (rest : Rows). e ∷ rest) (pairs_again rows)
-
-pub merged : (some : Orders) (rows all : BTreeMap ℕ OrderRow) → InsertsAll nat_cmp rows (map pair (orders_in some)) all
+pub merged : (some : Orders) (rows all : BTreeMap ℕ OrderRow) → InsertsAll nat_cmp rows (map entry_of (orders_in some)) all
     → from_entries all.entries ≡ joined some (from_entries rows.entries)
 merged some rows all made = same_map nat_cmp_total nat_cmp-IsAntisymmetric _ _ (λ q.
     get_view nat_cmp_total all.entries q ∙ made.0 q
-    ∙ ap (λ (es : Rows). update_all (eq_by_cmp nat_cmp) (tree.get nat_cmp rows) es q) (pairs_again (entries some))
+    ∙ ap (λ (es : Rows). update_all (eq_by_cmp nat_cmp) (tree.get nat_cmp rows) es q) (same_entries (entries some))
     ∙ update_all_distinct (eq_by_cmp_equiv nat_cmp_total) (eq_by_cmp nat_cmp) (λ x y. refl) (tree.get nat_cmp rows) (entries some) q distinct
     ∙ ap (λ o. option_or o (tree.get nat_cmp rows q)) (sym (get-entries some q ∙ find_lookup nat_cmp (entries some) q))
     ∙ ap (option_or (get some q)) (sym (get_view nat_cmp_total rows.entries q))

@@ -7,6 +7,7 @@ use Rattle.std.specs.Ordering.{eq_by_cmp, nat_cmp}
 use Rattle.std.specs.Cmp.{nat_cmp_total}
 use Rattle.std.specs.List.{All, AllByRecursion, filter}
 use Rattle.std.specs.List.Sorted.{IsStrictlySortedBy}
+use Rattle.std.specs.Map.{keys_of}
 use Rattle.std.specs.FinMap as maps
 use Rattle.std.specs.FinMap.{find, get-from_entries, get-insert, get-remove, same_map, nat_cmp-IsAntisymmetric}
 use Rattle.std.proofs.lemmas.Bool.Decides.{nat_tests}
@@ -19,7 +20,7 @@ use Rattle.itch_table.specs.declared.order.OrderRow.{OrderRow}
 use Rattle.itch_table.specs.World.{order_under, row_of}
 use Rattle.itch_table.proofs.MapViews.{ordered_entries}
 use Rattle.order_book.specs.Orders.{orders_in, reduced_by}
-use Rattle.order_book.specs.Parts.{AreRising, IsBelow, IsLiveAt, has_shares, live_in}
+use Rattle.order_book.specs.Parts.{AreRising, IsBelow, IsLiveAt, entry_of, has_shares, live_in}
 use Rattle.order_book.proofs.InOrder.{IsSplit, all_joined, all_weaker, sorted_with, split_at}
 
 -- the order of references
@@ -31,7 +32,7 @@ abbrev row_if : Order → Option OrderRow
 row_if order = if order.shares == 0 then None else Some (row_of order)
 
 abbrev pub entries_of : List Order → List (ℕ × OrderRow)
-entries_of orders = map (λ order. (order.reference, row_of order)) (filter has_shares orders)
+entries_of orders = map entry_of (filter has_shares orders)
 
 pub find_none : (q : ℕ) (orders : List Order) → AllByRecursion (λ order. eq_by_cmp nat_cmp q order.reference ≡ false) orders
     → find nat_cmp q (entries_of orders) ≡ None
@@ -166,7 +167,7 @@ swept_again [] = refl
 swept_again (order ∷ orders) = grind (arith, common_steps, swept_again orders)
 
 pub live_swept : (orders : List Order) → live_in (filter has_shares orders) ≡ live_in orders
-live_swept orders = ap (λ (os : List Order). maps.from_entries (map (λ order. (order.reference, row_of order)) os)) (swept_again orders)
+live_swept orders = ap (λ (os : List Order). maps.from_entries (map entry_of os)) (swept_again orders)
 
 -- ---- an order more at the end
 
@@ -187,23 +188,22 @@ module _ (orders : List Order) (order : Order) (rising : AreRising orders) (belo
 
 -- ---- the orders as a list
 
-module _ (orders : List Order) (rising : AreRising orders) where
-  keys_above : (reference : ℕ) (orders : List Order) → AllByRecursion (λ order. nat_cmp reference order.reference ≡ Less) orders
-      → AllByRecursion (λ other. nat_cmp reference other ≡ Less) (map (λ (e : ℕ × OrderRow). e.0) (map (λ (order : Order). (order.reference, row_of order)) orders))
-  keys_above reference [] all = tt
-  keys_above reference (order ∷ orders) all = (all.0, keys_above reference orders all.1)
+references_above : (reference : ℕ) (orders : List Order) → AllByRecursion (λ order. nat_cmp reference order.reference ≡ Less) orders
+    → AllByRecursion (λ other. nat_cmp reference other ≡ Less) (keys_of (map entry_of orders))
+references_above reference [] all = tt
+references_above reference (order ∷ orders) all = (all.0, references_above reference orders all.1)
 
-  rising_keys : (orders : List Order) → AreRising orders
-      → IsStrictlySortedBy nat_cmp (map (λ (e : ℕ × OrderRow). e.0) (map (λ (order : Order). (order.reference, row_of order)) orders))
-  unfolding IsStrictlySortedBy
-  rising_keys [] sorted = tt
-  rising_keys (order ∷ orders) sorted = (keys_above order.reference orders sorted.0, rising_keys orders sorted.1)
+rising_keys : (orders : List Order) → AreRising orders → IsStrictlySortedBy nat_cmp (keys_of (map entry_of orders))
+unfolding IsStrictlySortedBy
+rising_keys [] rising = tt
+rising_keys (order ∷ orders) rising = (references_above order.reference orders rising.0, rising_keys orders rising.1)
 
-  same_orders : (orders : List Order) → map (λ (e : ℕ × OrderRow). order_under e.0 e.1) (map (λ (order : Order). (order.reference, row_of order)) orders) ≡ orders
-  same_orders [] = refl
-  same_orders (order ∷ orders) = ap (λ (rest : List Order). order ∷ rest) (same_orders orders)
+same_orders : (orders : List Order) → map (λ (e : ℕ × OrderRow). order_under e.0 e.1) (map entry_of orders) ≡ orders
+same_orders [] = refl
+same_orders (order ∷ orders) = ap (λ (rest : List Order). order ∷ rest) (same_orders orders)
 
-  pub listed : orders_in (live_in orders) ≡ filter has_shares orders
-  listed =
-      ap (map (λ (e : ℕ × OrderRow). order_under e.0 e.1)) (ordered_entries nat_cmp_total nat_cmp-IsAntisymmetric _ (rising_keys (filter has_shares orders) (rising_swept orders rising)))
-      ∙ same_orders (filter has_shares orders)
+pub listed : (orders : List Order) → AreRising orders → orders_in (live_in orders) ≡ filter has_shares orders
+listed orders rising =
+    let keys = rising_keys (filter has_shares orders) (rising_swept orders rising) in
+    ap (map (λ (e : ℕ × OrderRow). order_under e.0 e.1)) (ordered_entries nat_cmp_total nat_cmp-IsAntisymmetric _ keys)
+    ∙ same_orders (filter has_shares orders)

@@ -9,7 +9,6 @@ use Rattle.std.specs.Option.{IfSome, unwrap_or}
 use Rattle.std.specs.FinMap as maps
 use Rattle.std.specs.FinMap.{FinMap}
 use Rattle.itch_table.specs.declared.order.Level.{Level}
-use Rattle.itch_table.specs.declared.order.OrderRow.{OrderRow}
 use Rattle.itch_table.specs.declared.order.Side.{Side}
 use Rattle.itch_table.specs.declared.order.Side.TheVariants.{Buy, Sell}
 use Rattle.itch_table.specs.Levels.{level_map, level_of, same_side}

@@ -18,9 +18,13 @@ AreRising orders = IsStrictlySortedBy (λ order other. nat_cmp order.reference o
 abbrev pub has_shares : Order → Bool
 has_shares order = not (order.shares == 0)
 
+-- an order as its reference and its row
+abbrev pub entry_of : Order → ℕ × OrderRow
+entry_of order = (order.reference, row_of order)
+
 -- the orders of a list that live, each under its reference
 abbrev pub live_in : List Order → Orders
-live_in orders = maps.from_entries (map (λ order. (order.reference, row_of order)) (filter has_shares orders))
+live_in orders = maps.from_entries (map entry_of (filter has_shares orders))
 
 -- an order came with a lower reference
 abbrev pub IsBelow : ℕ → Order → Type 0

@@ -23,7 +23,7 @@ answer c =
     let reference = c.args.reference in
     let start = c.start_of-start.result in
     let orders = c.args.orders.now in
-    let whole = take_all _ (drop start orders) (omega (arith, length-drop start orders)) in
+    let whole : take (length orders - start) (drop start orders) ≡ drop start orders = take_all (length orders - start) (drop start orders) (omega (arith, length-drop start orders)) in
     let found = c.binary_search_by.ensures.position (λ order. nat_cmp order.reference reference) (
     always_returns_same _ (λ a r. r ≡ nat_cmp a.0.now.reference reference) _ (λ a r q k. search rules)
     ) in

@@ -1,4 +1,4 @@
-use Rattle.std.proofs.Common.{◌≡◌, ◌≤◌, Option, Some, None, refl, sym, ap, subst, ◌∙◌}
+use Rattle.std.proofs.Common.{◌≡◌, ◌≤◌, Option, Some, None, refl, sym, subst, ◌∙◌}
 use Rattle.std.specs.Option.{IsSomeAnd}
 use Rattle.std.specs.FinMap.{from_entries, get}
 use Rattle.itch_table.specs.declared.order.OrderRow.{OrderRow}

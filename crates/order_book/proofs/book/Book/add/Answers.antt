@@ -1,4 +1,4 @@
-use Rattle.std.proofs.Common.{◌≡◌, ◌<◌, ◌^◌, None, arith, ◌∙◌}
+use Rattle.std.proofs.Common.{◌≡◌, ◌<◌, ◌^◌, None, arith}
 use Rattle.std.specs.FinMap as maps
 use Rattle.itch_table.specs.World.{order_under, row_of}
 use Rattle.order_book.proofs.Counts.{one_more}

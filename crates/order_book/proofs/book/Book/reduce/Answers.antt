@@ -1,4 +1,4 @@
-use Rattle.std.proofs.Common.{◌≤◌, arith, ◌∙◌}
+use Rattle.std.proofs.Common.{◌≤◌, arith}
 use Rattle.itch_table.specs.World.{order_under}
 use Rattle.order_book.proofs.Counts.{no_more}
 use Rattle.order_book.proofs.Keeps.{kept_reduced, shares_among}

@@ -1,7 +1,6 @@
 use Rattle.std.proofs.Common.{◌≡◌, ◌-◌, ◌≤◌, Some, ap, arith, sym, ◌∙◌}
 use Rattle.std.specs.FinMap as maps
 use Rattle.itch_table.specs.declared.order.OrderRow.{OrderRow}
-use Rattle.order_book.specs.Orders.{Orders, reduced_by}
 use Rattle.order_book.specs.Parts.{IsLiveAt}
 use Rattle.order_book.proofs.RisingLists.{found, lowered, still_rising}
 use Rattle.order_book.proofs.rising.RisingOrders.reduce.Goals as goal

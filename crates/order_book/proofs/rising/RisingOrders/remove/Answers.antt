@@ -1,6 +1,5 @@
-use Rattle.std.proofs.Common.{◌≡◌, Some, ap, sym, ◌∙◌}
+use Rattle.std.proofs.Common.{Some, ap, sym, ◌∙◌}
 use Rattle.std.specs.Cmp.{nat_cmp_total}
-use Rattle.std.specs.FinMap as maps
 use Rattle.std.specs.FinMap.{nat_cmp-IsAntisymmetric}
 use Rattle.order_book.specs.Parts.{IsLiveAt}
 use Rattle.order_book.proofs.Maps.{remove_absent}

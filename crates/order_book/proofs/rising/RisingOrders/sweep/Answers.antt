@@ -1,7 +1,6 @@
-use Rattle.std.proofs.Common.{rules, ◌≡◌, ap, sym, ◌∙◌}
+use Rattle.std.proofs.Common.{rules, ◌≡◌}
 use Rattle.std.specs.List.{filter}
 use Rattle.std.proofs.lemmas.Fn.{filter_same}
-use Rattle.std.proofs.lemmas.List.Kept.{IsStrictlySortedBy-filter}
 use Rattle.order_book.specs.Parts.{has_shares}
 use Rattle.order_book.proofs.RisingLists.{live_swept, rising_swept}
 use Rattle.order_book.proofs.rising.RisingOrders.sweep.Goals as goal

@@ -1,7 +1,6 @@
-use Rattle.std.proofs.Common.{◌≡◌, None, refl, ap, ◌∙◌}
+use Rattle.std.proofs.Common.{◌≡◌, None, refl}
 use Rattle.std.specs.FinMap.{from_entries, get}
 use Rattle.itch_table.specs.World.{row_of}
-use Rattle.order_book.specs.Orders.{Orders}
 use Rattle.order_book.specs.Parts.{joined}
 use Rattle.order_book.proofs.Joined.{joined_insert_other, joined_insert_some, none_in_some, table_insert_other, table_insert_some}
 use Rattle.order_book.proofs.RowViews.{with_row}

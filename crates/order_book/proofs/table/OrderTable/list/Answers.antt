@@ -1,4 +1,4 @@
-use Rattle.std.proofs.Common.{rules, ◌≡◌, List, refl, sym, ap, subst, ◌∙◌}
+use Rattle.std.proofs.Common.{rules, ◌≡◌, List, sym, ap, subst, ◌∙◌}
 use Rattle.std.specs.Result.{IfOk}
 use Rattle.std.specs.FinMap.{from_entries}
 use Rattle.std.proofs.lemmas.List.{nil_from_length}
@@ -7,15 +7,15 @@ use Rattle.std.proofs.lemmas.Iterator.Adapters.{items_from_extend}
 use Rattle.std.proofs.lemmas.Iterator.Consumers.{YieldsList-at}
 use Rattle.itch_table.specs.declared.order.Order.{Order}
 use Rattle.order_book.specs.Orders.{orders_in}
-use Rattle.order_book.specs.Parts.{joined}
-use Rattle.order_book.proofs.Merged.{joined_alone, merged, pair}
+use Rattle.order_book.specs.Parts.{entry_of, joined}
+use Rattle.order_book.proofs.Merged.{joined_alone, merged}
 use Rattle.order_book.proofs.RowViews.{Rows, list_rows}
 use Rattle.order_book.proofs.table.OrderTable.list.Goals as goal
 
 pub returns : goal.returns
 returns g c =
     let made = items_from_extend c.extend.result c.extend.ensures.ran (
-    YieldsList-from_map _ pair (YieldsList-at c.map.ensures.source (YieldsList-from_slice c.in_ok-rising.rising.items (cc))) c.map.ensures.closure (λ x r q k. search rules)
+    YieldsList-from_map _ entry_of (YieldsList-at c.map.ensures.source (YieldsList-from_slice c.in_ok-rising.rising.items (cc))) c.map.ensures.closure (λ x r q k. search rules)
     ) in
     let added = rw (c.in_ok-extend.was, c.in_ok-rising.ensures) at made in
     let rows = c.extend.new.self.entries in

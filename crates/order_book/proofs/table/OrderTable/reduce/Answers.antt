@@ -1,4 +1,4 @@
-use Rattle.std.proofs.Common.{◌≡◌, Some, arith, ap, sym, ◌∙◌}
+use Rattle.std.proofs.Common.{arith, ap, sym, ◌∙◌}
 use Rattle.std.specs.FinMap.{from_entries, len}
 use Rattle.order_book.specs.Parts.{joined}
 use Rattle.order_book.proofs.Counts.{as_many, one_fewer}
