@@ -113,6 +113,33 @@ fn orders_and_levels_are_in_order(rt: HostRuntime) -> Result<(), Fail> {
     )
 }
 
+// Of twenty orders fifteen go; a free reference comes again, and an order moves to one below all others.
+#[test]
+fn references_that_are_free_come_again(rt: HostRuntime) -> Result<(), Fail> {
+    let mut book = Book::new(rt.alloc());
+    for reference in 1..=20u64 {
+        make_all(&mut book, &[bid(reference, 10, 5)])?;
+    }
+    for reference in 1..=15u64 {
+        make_all(&mut book, &[Call::Remove(reference)])?;
+    }
+    lists_orders(rt.alloc(), &book, &[16, 17, 18, 19, 20])?;
+    let changes = [
+        bid(7, 3, 6),
+        Call::Replace(18, 2, 4, 6),
+        Call::Reduce(7, 1),
+        Call::Remove(20),
+    ];
+    make_all(&mut book, &changes)?;
+    lists_orders(rt.alloc(), &book, &[2, 7, 16, 17, 19])?;
+    let shares = (book.level(Side::Buy, 5), book.level(Side::Buy, 6));
+    same(
+        "the shares and the count",
+        &(shares, book.count()),
+        &((30, 6), 5),
+    )
+}
+
 #[test]
 fn a_level_is_of_one_side_and_one_price(rt: HostRuntime) -> Result<(), Fail> {
     let rows = [

@@ -46,18 +46,18 @@ fn make_both<'h, A: Allocator + Copy>(
     Err(Fail::new("a call takes four growths at most"))
 }
 
+// The reference of this number: those of 1 to 100 are each other, and neither rise nor fall.
+fn scattered(number: u32) -> u64 {
+    u64::from(number % 101 * 37 % 101)
+}
+
 // The call of this number: the first 99 add orders, and the next 99 replace them.
 fn numbered(number: u32) -> Call {
-    let reference = u64::from(number);
     if number < 100 {
-        bid(reference, 10, number % 7)
+        bid(scattered(number), 10, number % 7)
     } else {
-        Call::Replace(
-            reference.saturating_sub(99),
-            1_000 + reference,
-            20,
-            number % 5,
-        )
+        let original = scattered(number - 99);
+        Call::Replace(original, 1_000 + original, 20, number % 5)
     }
 }
 
@@ -82,11 +82,11 @@ fn a_call_without_memory_changes_nothing(rt: HostRuntime) -> Result<(), Fail> {
     Ok(())
 }
 
-// Orders of both sides, at three prices.
+// Orders of both sides, at three prices, one of which comes after one with a higher reference.
 fn both_sides() -> [Call; 4] {
     [
-        bid(1, 10, 100),
         bid(2, 10, 90),
+        bid(1, 10, 100),
         ask(3, 5, 110),
         bid(4, 1, 100),
     ]

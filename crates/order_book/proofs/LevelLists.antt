@@ -1,11 +1,11 @@
 -- A side's levels in a list, and the same by their prices, before and after an edit of the list.
-use Rattle.std.proofs.Common.{◌≡◌, ℕ, suc, ◌+◌, ◌-◌, ◌<◌, ◌≤◌, ◌==◌, List, [], ◌∷◌, ◌++◌, take, drop, set, get_or, length, length-drop, map, None, Some, cond, true, false, refl, ap, sym, ◌∙◌, subst, arith}
+use Rattle.std.proofs.Common.{◌≡◌, ℕ, suc, ◌+◌, ◌-◌, ◌≤◌, ◌==◌, List, [], ◌∷◌, ◌++◌, take, drop, set, get_or, length, map, None, Some, cond, true, false, refl, ap, sym, ◌∙◌, subst, arith}
 use Rattle.std.specs.declared.cmp.Ordering.{Ordering}
 use Rattle.std.specs.declared.cmp.Ordering.TheVariants.{Less, Equal}
 use Rattle.std.specs.Ordering.{eq_by_cmp, is_lt, nat_cmp, ordering_index, ordering_reverse}
 use Rattle.std.specs.Cmp.{IsTotalOrder, nat_cmp_total}
 use Rattle.std.specs.Option.{unwrap_or}
-use Rattle.std.specs.List.{AllByRecursion, AllWithin, insert, remove}
+use Rattle.std.specs.List.{AllByRecursion, insert, remove}
 use Rattle.std.specs.List.Sorted.{IsBinarySearchResult, IsNonDecreasingBy, IsSearchInRange}
 use Rattle.std.specs.Result.{IfErr, IfOk}
 use Rattle.std.specs.declared.result.Result.{Result}
@@ -15,15 +15,14 @@ use Rattle.std.specs.FinMap.{find, get-from_entries, get-insert, same_map, nat_c
 use Rattle.std.proofs.lemmas.Bool.Decides.{nat_tests}
 use Rattle.std.proofs.lemmas.Cmp.{back_total}
 use Rattle.std.proofs.lemmas.Grind.{common_steps}
-use Rattle.std.proofs.lemmas.List.{get_or-take, get_or-drop, length-take, set-get_or, set_split, take-append-drop}
-use Rattle.std.proofs.lemmas.List.Elements.{recursion_from_All}
+use Rattle.std.proofs.lemmas.List.{set-get_or, set_split, take-append-drop}
 use Rattle.std.proofs.lemmas.List.Sorted.{searchable_from_sorted}
 use Rattle.std.proofs.lemmas.Map.Keys.{Less-from_sorted}
 use Rattle.itch_table.specs.declared.order.Level.{Level}
 use Rattle.itch_table.specs.declared.order.Side.{Side}
 use Rattle.itch_table.specs.declared.order.Side.TheVariants.{Buy, Sell}
 use Rattle.order_book.specs.Kept.{AreInOrder, IsBetter, IsFound, IsGap, IsWorse, LevelMap, by_price, lowered, price_cmp, raised, shares_on, with_shares}
-use Rattle.order_book.proofs.InOrder.{IsSplit, all_joined, all_weaker, sorted_with, split_at}
+use Rattle.order_book.proofs.InOrder.{IsSplit, all_before, all_from, all_joined, all_weaker, sorted_with, split_at}
 use Rattle.order_book.proofs.Maps.{get_inserted, insert_again, remove_absent, remove_inserted}
 
 -- the order of a side's levels
@@ -186,15 +185,6 @@ module _ (side : Side) (levels : List Level) (price index : ℕ) (level : Level)
         by_price-set (level.shares - shares) ∙ sym (lowered_is ∙ with_some (by_price levels) price (level.shares - shares) some)
 
 -- ---- a gap between levels
-
-all_before : {X : Type 0} (P : X → Type 0) (xs : List X) (i : ℕ) → AllWithin P xs 0 i → AllByRecursion P (take i xs)
-all_before P xs i all = recursion_from_All P (take i xs) (λ k d lt.
-    let below : k < i = omega (arith, length-take i xs) in
-    subst P (sym (get_or-take i xs k d below)) (all k d (omega arith) below))
-
-all_from : {X : Type 0} (P : X → Type 0) (xs : List X) (i : ℕ) → AllWithin P xs i (length xs) → AllByRecursion P (drop i xs)
-all_from P xs i all = recursion_from_All P (drop i xs) (λ k d lt.
-    subst P (sym (get_or-drop i xs k d)) (all (i + k) d (omega arith) (omega (arith, length-drop i xs))))
 
 module _ (side : Side) (levels : List Level) (price index : ℕ) (sorted : AreInOrder side levels) (gap : IsGap side levels price index) where
   joined : take index levels ++ drop index levels ≡ levels

@@ -24,7 +24,7 @@ module _ {K X : Type 0} {R : K → K → Ordering} (o : IsTotalOrder R) where
         grind (arith, common_steps, get-insert o (remove m k) k w q, get-insert o m k w q, get-remove o m k q))
 
     -- what an inserted entry leaves once it is removed, and the other way round
-    at_key : (m : FinMap R X) (k q : K) → eq_by_cmp R q k ≡ true → get m q ≡ get m k
+    pub at_key : (m : FinMap R X) (k q : K) → eq_by_cmp R q k ≡ true → get m q ≡ get m k
     at_key m k q tied = ap (get m) (tells_apart same q k tied)
 
     pub remove_inserted : (m : FinMap R X) (k : K) (v : X) → get m k ≡ None → remove (insert m k v) k ≡ m

@@ -9,7 +9,6 @@ use Rattle.std.specs.Option.{IfSome, unwrap_or}
 use Rattle.std.specs.FinMap as maps
 use Rattle.std.specs.FinMap.{FinMap}
 use Rattle.itch_table.specs.declared.order.Level.{Level}
-use Rattle.itch_table.specs.declared.order.OrderRow.{OrderRow}
 use Rattle.itch_table.specs.declared.order.Side.{Side}
 use Rattle.itch_table.specs.declared.order.Side.TheVariants.{Buy, Sell}
 use Rattle.itch_table.specs.Levels.{level_map, level_of, same_side}
@@ -114,6 +113,6 @@ pub record LevelsAreKept (orders : Orders) (both : BothSides) : Type 0 where
   pub levels_are : (side : Side) → levels_on both side ≡ level_map (orders_in orders) side
   pub shares_fit : SharesFit orders
 
--- a book's rows, which are few enough that a `u32` counts them and the shares of a level fit a `u64`, and their levels
-abbrev pub IsBook : List (ℕ × OrderRow) → BothSides → Type 0
-IsBook rows both = (length rows < 2 ^ 32) × LevelsAreKept (maps.from_entries rows) both
+-- a book's orders, which are few enough that a `u32` counts them and the shares of a level fit a `u64`, and their levels
+abbrev pub IsBook : Orders → BothSides → Type 0
+IsBook orders both = (maps.len orders < 2 ^ 32) × LevelsAreKept orders both

@@ -5,10 +5,9 @@ ghost use Rattle.itch_table.specs.Levels.{levels, shares_at, top};
 ghost use Rattle.order_book.specs.Orders.{order_in, orders_in, reduced, replaced, added};
 
 use crate::levels::Levels;
-use crate::rows::{as_orders, copied, reduce_row};
+use crate::table::OrderTable;
 use itch_table::{Level, Order, OrderRow, Side, Top};
 use std::alloc::{AllocError, Allocator};
-use std::collections::BTreeMap;
 use std::marker::Model;
 
 /// The live orders of one stock, each under its reference, and the levels that they make.
@@ -30,7 +29,7 @@ use std::marker::Model;
 /// ```
 #[derive(Drop)]
 pub struct Book<A: Allocator> {
-    orders: BTreeMap<u64, OrderRow, A>,
+    orders: OrderTable<A>,
     levels: Levels<A>,
 }
 
@@ -46,9 +45,9 @@ impl<A: Allocator> Model for Book<A> {
 
     ghost coded = { maps.code {R = nat_cmp} coded_ℕ order_row.the_row.coded };
 
-    ghost view = { λ b. maps.from_entries b.orders.entries };
+    ghost view = { λ b. b.orders };
 
-    ghost invariant = { λ b. IsBook b.orders.entries b.levels };
+    ghost invariant = { λ b. IsBook b.orders b.levels };
 }
 
 impl<A: Allocator + Copy> Book<A> {
@@ -57,7 +56,7 @@ impl<A: Allocator + Copy> Book<A> {
         ensures { result ≡ maps.empty }
     {
         Book {
-            orders: BTreeMap::new(alloc),
+            orders: OrderTable::new(alloc),
             levels: Levels::new(alloc),
         }
     }
@@ -74,7 +73,7 @@ impl<A: Allocator + Copy> Book<A> {
     pub fn row(&self, reference: u64) -> Option<OrderRow>
         ensures { result ≡ maps.get self.now reference }
     {
-        self.orders.get(&reference).copied()
+        self.orders.row(reference)
     }
 
     /// How many orders live: at most 2^32 - 1.
@@ -95,7 +94,7 @@ impl<A: Allocator + Copy> Book<A> {
         ensures err { OnErr result (self.new ≡ self.old) }
     {
         self.levels.reserve(order.side)?;
-        self.orders.insert(order.reference, order.row())?;
+        self.orders.insert(order)?;
         self.levels.raise(order.side, order.price, order.shares);
         Ok(())
     }
@@ -118,8 +117,8 @@ impl<A: Allocator + Copy> Book<A> {
             ..row
         };
         self.levels.reserve(row.side)?;
-        self.orders.insert(new, placed)?;
-        self.orders.remove(&old);
+        self.orders.insert(placed.under(new))?;
+        self.orders.remove(old);
         self.levels.raise(row.side, price, shares);
         self.levels.lower(row.side, row.price, row.shares);
         Ok(())
@@ -130,7 +129,7 @@ impl<A: Allocator + Copy> Book<A> {
         requires { IsSomeAnd (order_in self.old reference) (λ order. shares ≤ order.shares) }
         ensures { self.new ≡ reduced self.old reference shares }
     {
-        let row = reduce_row(&mut self.orders, reference, shares);
+        let row = self.orders.reduce(reference, shares);
         self.levels.lower(row.side, row.price, shares);
     }
 
@@ -140,7 +139,7 @@ impl<A: Allocator + Copy> Book<A> {
         ensures order { order_in self.old reference ≡ Some result }
         ensures gone { self.new ≡ maps.remove self.old reference }
     {
-        let row = self.orders.remove(&reference).unwrap();
+        let row = self.orders.remove(reference);
         self.levels.lower(row.side, row.price, row.shares);
         row.under(reference)
     }
@@ -172,7 +171,7 @@ impl<A: Allocator + Copy> Book<A> {
         // They are few enough for `levels_of`.
         ensures few { length (orders_in self.now) < 2 ^ 32 }
     {
-        as_orders(alloc, &self.orders)
+        self.orders.list(alloc)
     }
 
     /// A book with the same orders, whose memory is that of `alloc`. An error says that memory was refused.
@@ -180,7 +179,7 @@ impl<A: Allocator + Copy> Book<A> {
         ensures { IfOk result (λ book. book ≡ self.now) }
     {
         Ok(Book {
-            orders: copied(alloc, &self.orders)?,
+            orders: self.orders.copy(alloc)?,
             levels: self.levels.copy(alloc)?,
         })
     }

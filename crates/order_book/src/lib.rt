@@ -4,6 +4,8 @@
 mod book;
 mod ladder;
 mod levels;
+mod rising;
 mod rows;
+mod table;
 
 pub use book::Book;

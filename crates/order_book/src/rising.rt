@@ -1,0 +1,190 @@
+//! Orders whose references rise.
+ghost use Rattle.std.specs.Prelude.{◌≡◌, ◌≤◌, None, if◌then◌else◌, length, IfOk, OnErr, IfSome, IfNone};
+ghost use Rattle.std.specs.List.{All, AllWithin};
+ghost use Rattle.std.specs.Bool.{IsTrue};
+ghost use Rattle.std.specs.FinMap as maps;
+ghost use Rattle.order_book.specs.Orders.{added, orders_in, reduced_by};
+ghost use Rattle.order_book.specs.Parts.{AreRising, IsBelow, IsLiveAt, has_shares, live_in};
+
+use itch_table::{Order, OrderRow};
+use std::alloc::{AllocError, Allocator};
+use std::marker::Model;
+
+/// Live orders that came with rising references.
+///
+/// They stand in a list in the order in which they came, and a reference is found in it by binary search. An order that
+/// goes stays in the list without shares, so that no other is moved; once more than half have gone all these are
+/// dropped.
+#[derive(Drop)]
+pub(crate) struct RisingOrders<A: Allocator> {
+    orders: Vec<Order, A>,
+    // How many have gone since those that had gone were last dropped.
+    gone: usize,
+}
+
+impl<A: Allocator> Model for RisingOrders<A> {
+    ghost use Rattle.std.specs.Coded.{coded_ℕ};
+    ghost use Rattle.std.specs.FinMap as maps;
+    ghost use Rattle.std.specs.Ordering.{nat_cmp};
+    ghost use Rattle.itch_table.specs.contracts.order.OrderRow as order_row;
+    ghost use Rattle.order_book.specs.Orders.{Orders};
+    ghost use Rattle.order_book.specs.Parts.{AreRising, live_in};
+
+    ghost Value = { Orders };
+
+    ghost coded = { maps.code {R = nat_cmp} coded_ℕ order_row.the_row.coded };
+
+    ghost view = { λ r. live_in r.orders.items };
+
+    ghost invariant = { λ r. AreRising r.orders.items };
+}
+
+// Whether an order of the list lives.
+fn is_live(order: &Order) -> bool
+    ensures { result ≡ has_shares order.now }
+{
+    order.shares != 0
+}
+
+// Whether a reference is above those of all orders.
+fn is_above_all(orders: &[Order], reference: u64) -> bool
+    requires { AreRising orders.now }
+    ensures { IsTrue result → All (IsBelow reference) orders.now }
+{
+    match orders.last() {
+        Some(last) => last.reference < reference,
+        None => true,
+    }
+}
+
+// Where a search for a reference begins: all orders before this index have lower ones. Most messages are about orders
+// that came late, so the search goes back from the last order by longer and longer steps.
+fn start_of(orders: &[Order], reference: u64) -> usize
+    requires { AreRising orders.now }
+    ensures bound { result ≤ length orders.now }
+    ensures below { AllWithin (IsBelow reference) orders.now 0 result }
+{
+    let mut start = orders.len();
+    let mut step = 1;
+    for _ in 0..usize::BITS {
+        if start < step {
+            break;
+        }
+        start -= step;
+        if orders[start].reference <= reference {
+            return start;
+        }
+        step = step.saturating_mul(2);
+    }
+    0
+}
+
+// The index of the order that lives under a reference.
+fn index_of(orders: &[Order], reference: u64) -> Option<usize>
+    requires { AreRising orders.now }
+    ensures found { IfSome result (IsLiveAt orders.now reference) }
+    ensures none { IfNone result (maps.get (live_in orders.now) reference ≡ None) }
+{
+    let start = start_of(orders, reference);
+    match orders[start..].binary_search_by(|order| order.reference.cmp(&reference)) {
+        Ok(offset) if is_live(&orders[start + offset]) => Some(start + offset),
+        _ => None,
+    }
+}
+
+impl<A: Allocator + Copy> RisingOrders<A> {
+    /// No orders. It takes no memory yet.
+    pub fn new(alloc: A) -> RisingOrders<A>
+        ensures { result ≡ maps.empty }
+    {
+        RisingOrders {
+            orders: Vec::new(alloc),
+            gone: 0,
+        }
+    }
+
+    /// The order that lives under a reference, without it.
+    pub fn row(&self, reference: u64) -> Option<OrderRow>
+        ensures { result ≡ maps.get self.now reference }
+    {
+        let index = index_of(&self.orders, reference)?;
+        Some(self.orders[index].row())
+    }
+
+    /// Adds an order that has shares, where its reference is above those of all that came before, and answers whether
+    /// it is. An error says that memory was refused, and leaves the orders as they were.
+    pub fn push(&mut self, order: Order) -> Result<bool, AllocError>
+        requires { 1 ≤ order.shares }
+        ensures ok { IfOk result (λ rises. self.new ≡ (if rises then added self.old order else self.old)) }
+        ensures err { OnErr result (self.new ≡ self.old) }
+    {
+        let rises = is_above_all(&self.orders, order.reference);
+        if rises {
+            self.orders.push(order)?;
+        }
+        Ok(rises)
+    }
+
+    /// Takes shares off the order under a reference, which has at least so many where it lives, and answers the order
+    /// as it was. One with none left is gone.
+    pub fn reduce(&mut self, reference: u64, shares: u32) -> Option<OrderRow>
+        requires { IfSome (maps.get self.old reference) (λ row. shares ≤ row.shares) }
+        ensures row { result ≡ maps.get self.old reference }
+        ensures left { IfSome result (λ row. self.new ≡ reduced_by self.old reference row shares) }
+        ensures none { IfNone result (self.new ≡ self.old) }
+    {
+        let index = index_of(&self.orders, reference)?;
+        let order = &mut self.orders[index];
+        let row = order.row();
+        order.shares -= shares;
+        if row.shares == shares {
+            self.sweep();
+        }
+        Some(row)
+    }
+
+    /// Removes the order under a reference, and answers what it was.
+    pub fn remove(&mut self, reference: u64) -> Option<OrderRow>
+        ensures row { result ≡ maps.get self.old reference }
+        ensures gone { self.new ≡ maps.remove self.old reference }
+    {
+        let index = index_of(&self.orders, reference)?;
+        let order = &mut self.orders[index];
+        let row = order.row();
+        order.shares = 0;
+        self.sweep();
+        Some(row)
+    }
+
+    // One more order has gone. Once more than half have, all these are dropped.
+    fn sweep(&mut self)
+        ensures { self.new ≡ self.old }
+    {
+        self.gone = self.gone.saturating_add(1);
+        if self.gone > self.orders.len() / 2 {
+            self.orders.retain(|order| is_live(order));
+            self.gone = 0;
+        }
+    }
+
+    /// The orders, by rising reference. An error says that memory was refused.
+    pub fn list(&self, alloc: A) -> Result<Vec<Order, A>, AllocError>
+        ensures { IfOk result (λ list. list.items ≡ orders_in self.now) }
+    {
+        self.orders
+            .iter()
+            .filter(|order| is_live(order))
+            .copied()
+            .collect(alloc)
+    }
+
+    /// The same orders, in memory of `alloc`. An error says that memory was refused.
+    pub fn copy(&self, alloc: A) -> Result<RisingOrders<A>, AllocError>
+        ensures { IfOk result (λ copy. copy ≡ self.now) }
+    {
+        Ok(RisingOrders {
+            orders: self.orders.iter().copied().collect(alloc)?,
+            gone: self.gone,
+        })
+    }
+}
