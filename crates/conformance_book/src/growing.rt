@@ -46,17 +46,17 @@ fn make_both<'h, A: Allocator + Copy>(
     Err(Fail::new("a call takes four growths at most"))
 }
 
-// The reference of this number: those of 1 to 100 are each other, and neither rise nor fall.
-fn scattered(number: u32) -> u64 {
-    u64::from(number % 101 * 37 % 101)
+// These of the numbers from 1 to 100 are each other, and neither rise nor fall.
+fn scattered(number: u32) -> u32 {
+    number % 101 * 37 % 101
 }
 
 // The call of this number: the first 99 add orders, and the next 99 replace them.
 fn numbered(number: u32) -> Call {
     if number < 100 {
-        bid(scattered(number), 10, number % 7)
+        bid(u64::from(scattered(number)), 10, number % 7)
     } else {
-        let original = scattered(number - 99);
+        let original = u64::from(scattered(number - 99));
         Call::Replace(original, 1_000 + original, 20, number % 5)
     }
 }

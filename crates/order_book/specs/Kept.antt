@@ -113,6 +113,6 @@ pub record LevelsAreKept (orders : Orders) (both : BothSides) : Type 0 where
   pub levels_are : (side : Side) → levels_on both side ≡ level_map (orders_in orders) side
   pub shares_fit : SharesFit orders
 
--- a book's orders, which are few enough that a `u32` counts them and the shares of a level fit a `u64`, and their levels
+-- a book's orders, few enough that a `u32` counts them and the shares of a level fit a `u64`, and their levels
 abbrev pub IsBook : Orders → BothSides → Type 0
 IsBook orders both = (maps.len orders < 2 ^ 32) × LevelsAreKept orders both

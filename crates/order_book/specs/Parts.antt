@@ -33,7 +33,8 @@ IsBelow reference order = order.reference < reference
 -- the order at this index lives, and has this reference
 abbrev pub IsLiveAt : List Order → ℕ → ℕ → Type 0
 IsLiveAt orders reference index =
-    (index < length orders) × HoldsAt (λ order. (order.reference ≡ reference) × (0 < order.shares)) orders index
+    (index < length orders)
+    × HoldsAt (λ order. (order.reference ≡ reference) × (0 < order.shares)) orders index
 
 -- the orders of both parts
 abbrev pub joined : Orders → Orders → Orders

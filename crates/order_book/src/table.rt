@@ -50,7 +50,8 @@ fn reduce_either<A: Allocator + Copy>(
     requires apart { AreApart rising.old (maps.from_entries others.old.entries) }
     requires live { IsSomeAnd (maps.get (joined rising.old (maps.from_entries others.old.entries)) reference)
         (λ row. shares ≤ row.shares) }
-    ensures row { maps.get (joined rising.old (maps.from_entries others.old.entries)) reference ≡ Some result }
+    ensures row { maps.get (joined rising.old (maps.from_entries others.old.entries)) reference
+        ≡ Some result }
     ensures left { joined rising.new (maps.from_entries others.new.entries) ≡
         reduced_by (joined rising.old (maps.from_entries others.old.entries)) reference result shares }
     ensures apart { AreApart rising.new (maps.from_entries others.new.entries) }
