@@ -4,8 +4,8 @@ use Rattle.itch_table.specs.After.{after}
 use Rattle.itch_table.specs.Machine.{Machine}
 use Rattle.top_cell.specs.Boards.{CellId, WriterAt, IsOn}
 
--- the machine has taken the first messages of the day, and the writer, whose cell is on the board, has shown the last of
--- them
+-- the machine has taken the first messages of the day, and the writer, whose cell is on the board, has shown
+-- the last of them
 pub record AreInStep (day : List (List ℕ)) (board : List CellId) (m : Machine) (w : WriterAt) : Type 0 where
   pub few : length day < 2 ^ 32
   pub world : m.world ≡ after day m.steps

@@ -8,8 +8,8 @@ use std::alloc::{AllocError, Allocator};
 use std::sync::Wait;
 use top_cell::{Board, TopWriter};
 
-/// Takes the next message of a day, and shows the best bid and ask of the writer's stock after it. The answer is whether
-/// there was one.
+/// Takes the next message of a day, and shows the best bid and ask of the writer's stock after it. The answer is
+/// whether there was one.
 ///
 /// An error says that memory was refused: the machine and the cell are then as they were.
 pub fn show_next<R: Wait, A: Allocator + Copy>(
@@ -36,8 +36,8 @@ pub fn show_next<R: Wait, A: Allocator + Copy>(
 
 /// Replays the rest of a day, and shows the best bid and ask of the writer's stock after each of its messages.
 ///
-/// Screens of the stock may read the board meanwhile, each in a thread of its own. An error says that memory was refused;
-/// the cell then shows the last message that was taken.
+/// Screens of the stock may read the board meanwhile, each in a thread of its own. An error says that memory was
+/// refused; the cell then shows the last message that was taken.
 pub fn show_rest<R: Wait, A: Allocator + Copy>(
     rt: &R,
     day: &Day<A>,

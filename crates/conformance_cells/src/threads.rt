@@ -41,8 +41,8 @@ fn after_message(message: u32) -> Reading {
     }
 }
 
-// Reads until the last message is there. The answer is the last reading, or the first one that isn't of one message or
-// comes after a later one.
+// Reads until the last message is there. The answer is the last reading, or the first one that isn't of one
+// message or comes after a later one.
 fn watch<R: Wait, A: Allocator>(
     rt: &R,
     board: &Board<'_, A>,

@@ -8,7 +8,8 @@ use Rattle.top_cell.specs.declared.rule.View.{View}
 abbrev pub CellId : Type 0
 CellId = TableId
 
--- the cell of a writer or of a screen: the day and the stock that it shows, its index on its board, and its identity
+-- the cell of a writer or of a screen: the day and the stock that it shows, its index on its board, and its
+-- identity
 pub record Place : Type 0 where
   pub day : List (List ℕ)
   pub locate : ℕ
@@ -40,8 +41,8 @@ abbrev pub new_writer : List (List ℕ) → ℕ → ℕ → CellId → WriterAt
 new_writer day locate index cell =
     record { place = record { day = day; locate = locate; index = index; cell = cell }; message = 0 }
 
--- new cells for these stocks of a day, in their order, and the writer of each at the same index, which has published
--- nothing
+-- new cells for these stocks of a day, in their order, and the writer of each at the same index, which has
+-- published nothing
 pub record AreNew (day : List (List ℕ)) (locates : List ℕ) (board : List CellId) (writers : List WriterAt)
     : Type 0 where
   pub stocks : map (λ w. w.place.locate) writers ≡ locates

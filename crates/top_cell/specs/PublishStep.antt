@@ -1,4 +1,5 @@
--- Publish: the writer stores four words at once, and then stands at their number, which is no lower than its own was.
+-- Publish: the writer stores four words at once, and then stands at their number, which is no lower than its
+-- own was.
 use Rattle.std.specs.Prelude.{◌≡◌, ◌≤◌, ℕ, List}
 use Rattle.top_cell.specs.declared.rule.View.{View}
 use Rattle.top_cell.specs.declared.rule.View.TheVariants.{WriterOf}

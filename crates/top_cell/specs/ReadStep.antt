@@ -1,5 +1,5 @@
--- Read: a screen loads the four words at once, which show its stock, and then stands at their number, which is no lower
--- than its own was. That is one load more.
+-- Read: a screen loads the four words at once, which show its stock, and then stands at their number, which
+-- is no lower than its own was. That is one load more.
 use Rattle.std.specs.Prelude.{◌≡◌, ◌+◌, ◌≤◌, ℕ, List}
 use Rattle.itch_table.specs.Shows.{Shows}
 use Rattle.top_cell.specs.declared.rule.View.{View}

@@ -1,5 +1,5 @@
--- The rule of a cell: what its four words show at every moment, and what its writer and its screens know. All is of this
--- project.
+-- The rule of a cell: what its four words show at every moment, and what its writer and its screens know. All
+-- is of this project.
 use Rattle.std.specs.Prelude.{◌≡◌, ◌⊎◌, ◌≤◌, ℕ, List, [], ◌∷◌, slice_index}
 use mathlib.Core.Option.{some}
 use lib.ListN.{get_elem?}
@@ -12,7 +12,8 @@ use Rattle.top_cell.specs.declared.rule.View.TheVariants.{Unopened, WriterOf, Sc
 abbrev pub day_stock : List (List ℕ) → ℕ → DayStock
 day_stock day locate = record { day = day; locate = locate }
 
--- what is known at a seat of a cell that shows this stock after so many messages, and whose writer has this seat
+-- what is known at a seat of a cell that shows this stock after so many messages, and whose writer has this
+-- seat
 module _ (stock : DayStock) (number writer : ℕ) where
   abbrev pub Fits : ℕ → View → Type 0
   Fits seat Unopened = ⊥
@@ -20,8 +21,8 @@ module _ (stock : DayStock) (number writer : ℕ) where
   Fits seat (ScreenOf own at loads) = (own ≡ stock) × (at ≤ number)
   Fits seat Spent = Unit {0}
 
--- a cell that is open: its words show its stock after some messages of the day, its one writer stands at their number,
--- and no screen stands at a higher one
+-- a cell that is open: its words show its stock after some messages of the day, its one writer stands at
+-- their number, and no screen stands at a higher one
 pub record IsOpen (words : List ℕ) (views : List View) : Type 0 where
   pub stock : DayStock
   pub number : ℕ

@@ -12,4 +12,5 @@ IsWritersSeat v locate message =
 -- the same of a screen
 abbrev pub IsScreensSeat : View → ℕ → ℕ → Type 0
 IsScreensSeat v locate message =
-    (v ≡ ScreenOf (day_stock (stock_of v).day locate) message (loads_of v)) × (length (stock_of v).day < 2 ^ 32)
+    (v ≡ ScreenOf (day_stock (stock_of v).day locate) message (loads_of v))
+    × (length (stock_of v).day < 2 ^ 32)

@@ -1,5 +1,5 @@
--- Split: beside itself a writer or a screen gives a screen of its stock, which stands at the same message and has made no
--- loads.
+-- Split: beside itself a writer or a screen gives a screen of its stock, which stands at the same message and
+-- has made no loads.
 use Rattle.top_cell.specs.declared.rule.View.{View}
 use Rattle.top_cell.specs.declared.rule.View.TheVariants.{WriterOf, ScreenOf, Spent}
 

@@ -85,8 +85,8 @@ fn new_cell<'a, R: Wait, A: Allocator>(
 }
 
 impl<'a, A: Allocator + Copy + Send + Sync> Board<'a, A> {
-    /// A cell for each stock that has messages in the day, and the writer of each, by rising locate code. Each writer is
-    /// before the first message, and each cell shows zeros.
+    /// A cell for each stock that has messages in the day, and the writer of each, by rising locate code. Each writer
+    /// is before the first message, and each cell shows zeros.
     ///
     /// The stocks of a long day are found by several threads. An error says that memory was refused.
     pub fn new<R: Threads + Wait + Sync>(

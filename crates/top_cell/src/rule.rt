@@ -33,8 +33,8 @@ impl Protocol<[u64; 4], View> for CellRule {
     ghost first = { Unopened };
 }
 
-/// The four words of a stock. The proofs of the calls on them ask how much room an allocator takes, which is known of a
-/// reference to one.
+/// The four words of a stock. The proofs of the calls on them ask how much room an allocator takes, which is known of
+/// a reference to one.
 pub type Cell<'a, A> = RuledSeqCell<[u64; 4], View, CellRule, 4, &'a A>;
 
 /// What a writer or a screen holds of its cell.

@@ -16,8 +16,8 @@ use std::sync::Wait;
 
 /// One that reads a cell. It stands at the message that it has read last, and never reads an earlier one.
 ///
-/// It is seen as the cell that it belongs to, with the day and the stock that the cell shows, the number of the message at
-/// which it stands, and how often it has loaded the words. All is of this project.
+/// It is seen as the cell that it belongs to, with the day and the stock that the cell shows, the number of the
+/// message at which it stands, and how often it has loaded the words. All is of this project.
 #[derive(Drop)]
 pub struct Screen {
     pub(crate) seat: Seat,
@@ -58,8 +58,8 @@ impl Screen {
         self.message
     }
 
-    /// The stock's best bid and ask after some message, which isn't earlier than the one at which the screen stood and
-    /// becomes it. The words are loaded anew at each call.
+    /// The stock's best bid and ask after some message, which isn't earlier than the one at which the screen stood
+    /// and becomes it. The words are loaded anew at each call.
     ///
     /// It may wait for a publish that is under way on the same cell.
     pub fn read<R: Wait, A: Allocator>(&mut self, rt: &R, board: &Board<'_, A>) -> Reading

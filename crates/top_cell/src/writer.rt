@@ -58,7 +58,7 @@ impl TopWriter {
     /// Shows the stock's best bid and ask after a message of the day, which isn't earlier than the last one that was
     /// published. A message is published also where the best bid and ask stay as they were.
     ///
-    /// It may wait for a read or another call that is under way on the same cell.
+    /// It may wait for a read that is under way on the same cell.
     pub fn publish<R: Wait, A: Allocator>(
         &mut self,
         rt: &R,

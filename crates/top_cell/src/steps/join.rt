@@ -1,7 +1,7 @@
 //! Join: two screens of a cell become one, at the later of their messages.
 //!
-//! The cell takes two moves for it: the view of the screen that goes is handed to a seat that has loaded nothing, since
-//! no other can be joined, and this seat is joined to that of the screen that stays.
+//! The cell takes two moves for it: the view of the screen that goes is handed to a seat that has loaded nothing,
+//! since no other can be joined, and this seat is joined to that of the screen that stays.
 use crate::rule::View;
 use atomic_table::{Join, Split};
 
