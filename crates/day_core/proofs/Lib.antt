@@ -1,11 +1,11 @@
 mod Merged
-mod Ranges
+pub mod Ranges
 mod Counted
 mod Dealt
-mod Kept
+pub mod Kept
 mod Placing
-mod Progress
-mod Running
+pub mod Progress
+pub mod Running
 mod Whole
 mod Crews
 mod Showing

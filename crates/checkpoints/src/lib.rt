@@ -1,0 +1,7 @@
+//! A stock's machine after any number of messages of a day, by copies that are kept along the day.
+#![tactic(auto)]
+
+mod own;
+mod track;
+
+pub use track::Track;
