@@ -36,7 +36,7 @@ last_within taken count every some le =
     (le-div_iff_mul-le {k = every} {x = taken / every} {y = count} some).1 (omega (arith, div-mul-le_self taken every))
 
 -- a stock has no more messages than the day
-steps_most : (day : List (List ℕ)) (locate n : ℕ) → n ≤ length day → steps_of day locate n ≤ n
+pub steps_most : (day : List (List ℕ)) (locate n : ℕ) → n ≤ length day → steps_of day locate n ≤ n
 unfolding steps_of
 steps_most day locate n le =
     omega (arith, count_by-le-length (is_of_stock locate) (take n day), length-take-le n day le)

@@ -4,4 +4,5 @@
 mod own;
 mod track;
 
+pub use own::is_of_stock;
 pub use track::Track;

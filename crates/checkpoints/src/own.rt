@@ -8,8 +8,8 @@ use itch_table::{Part, part};
 use std::alloc::{AllocError, Allocator};
 use stock_machine::Stock;
 
-// Whether a payload is a message of a stock.
-fn is_of_stock(payload: &[u8], locate: u16) -> bool
+/// Whether a payload is a message of the stock with this locate code.
+pub fn is_of_stock(payload: &[u8], locate: u16) -> bool
     ensures { result ≡ is_of_stock locate payload.now }
 {
     match part(payload) {
