@@ -1,10 +1,10 @@
 mod Merged
 mod Counted
 mod Dealt
-mod Kept
+pub mod Kept
 mod Placing
-mod Progress
-mod Running
+pub mod Progress
+pub mod Running
 mod Whole
 mod StocksByWorker
 mod Showing

@@ -43,7 +43,7 @@ machine_stays day locate n off =
     let steps : steps_of day locate (n + 1) ≡ steps_of day locate n = steps-next day locate n ∙ ap (λ (b : Bool). steps_of day locate n + cond b 1 0) off ∙ omega arith in
     λ i. record { locate = locate; world = world i; steps = steps i }
 
-last_push : (d : ℕ) (xs : List ℕ) (x : ℕ) → last_or d (xs ++ x ∷ []) ≡ x
+pub last_push : (d : ℕ) (xs : List ℕ) (x : ℕ) → last_or d (xs ++ x ∷ []) ≡ x
 last_push d [] x = refl
 last_push d (y ∷ ys) x = last_push y ys x
 
@@ -87,7 +87,7 @@ last_within : (day : List (List ℕ)) (locate n : ℕ) → last_until day locate
 last_within day locate zero = omega arith
 last_within day locate (suc n) = subst (λ (k : ℕ). last_until day locate k ≤ k) (omega arith) (within_more day locate n (last_within day locate n))
 
-machine_until : (day : List (List ℕ)) (locate n : ℕ) → UntilLast day locate n
+pub machine_until : (day : List (List ℕ)) (locate n : ℕ) → UntilLast day locate n
 machine_until day locate zero = refl
 machine_until day locate (suc n) = subst (UntilLast day locate) (omega arith) (until_more day locate n (machine_until day locate n))
 

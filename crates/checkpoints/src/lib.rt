@@ -1,0 +1,8 @@
+//! A stock's machine after any number of messages of a day, by copies that are kept along the day.
+#![tactic(auto)]
+
+mod own;
+mod track;
+
+pub use own::is_of_stock;
+pub use track::Track;

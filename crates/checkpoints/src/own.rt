@@ -1,0 +1,59 @@
+//! A stock's own messages of a day, and its machine stepped over them.
+ghost use Rattle.std.specs.Prelude.{◌≡◌, ◌≤◌, IfOk, OnOk, length};
+ghost use Rattle.itch_table.specs.Projection.{is_of_stock};
+ghost use Rattle.checkpoints.specs.Copies.{machine_after_own, numbers_of};
+
+use binaryfile::Day;
+use itch_table::{Part, part};
+use std::alloc::{AllocError, Allocator};
+use stock_machine::Stock;
+
+/// Whether a payload is a message of the stock with this locate code.
+pub fn is_of_stock(payload: &[u8], locate: u16) -> bool
+    ensures { result ≡ is_of_stock locate payload.now }
+{
+    match part(payload) {
+        Part::Locate(other) => other == locate,
+        Part::Nowhere(_) => false,
+    }
+}
+
+/// The numbers of a stock's messages in a day, rising. An error says that memory was refused.
+pub fn numbers_of<A: Allocator + Copy>(
+    alloc: A,
+    day: &Day<A>,
+    locate: u16,
+) -> Result<Vec<u32, A>, AllocError>
+    ensures { IfOk result (λ numbers. numbers.items ≡ numbers_of day.now.payloads locate) }
+{
+    let mut numbers = Vec::new(alloc);
+    let mut number = 0;
+    for payload in day.payloads() {
+        number += 1;
+        if is_of_stock(payload, locate) {
+            numbers.push(number)?;
+        }
+    }
+    Ok(numbers)
+}
+
+/// Steps a stock's machine, which has taken the first `from` of the stock's messages, over the next ones, so that it
+/// has taken the first `to`. The caller hands the numbers of all of them. An error says that memory was refused.
+pub fn advance<A: Allocator + Copy>(
+    stock: &mut Stock<A>,
+    day: &Day<A>,
+    numbers: &[u32],
+    from: usize,
+    to: usize,
+) -> Result<(), AllocError>
+    requires numbers { numbers.now ≡ numbers_of day.now.payloads stock.old.locate }
+    requires from { stock.old ≡ machine_after_own day.now.payloads stock.old.locate from }
+    requires order { from ≤ to }
+    requires to { to ≤ length numbers.now }
+    ensures { OnOk result (stock.new ≡ machine_after_own day.now.payloads stock.old.locate to) }
+{
+    for number in &numbers[from..to] {
+        stock.step(day.payload(*number))?;
+    }
+    Ok(())
+}

@@ -1,0 +1,104 @@
+//! One stock along a day.
+ghost use Rattle.std.specs.Prelude.{◌≡◌, ◌*◌, ◌<◌, ◌≤◌, IfOk, length};
+ghost use Rattle.day_core.specs.Owners.{machine_of};
+ghost use Rattle.checkpoints.specs.Copies.{IsTrack, copies_of, machine_after_own, numbers_of};
+
+use crate::own::{advance, numbers_of};
+use binaryfile::Day;
+use std::alloc::{AllocError, Allocator};
+use std::marker::Model;
+use stock_machine::Stock;
+
+/// One stock along a day: its machine after any number of the day's messages.
+///
+/// The stock's messages are kept by their numbers, four bytes each, and a copy of its machine after every so many of
+/// them, so that at most so many are stepped to any place. It is seen as the day and the stock's locate code. All is of
+/// this project.
+#[derive(Drop)]
+pub struct Track<'d, A: Allocator> {
+    day: &'d Day<A>,
+    locate: u16,
+    every: u32,
+    numbers: Vec<u32, A>,
+    copies: Vec<Stock<A>, A>,
+}
+
+impl<'d, A: Allocator> Model for Track<'d, A> {
+    ghost use Rattle.checkpoints.specs.Copies.{IsTrack, Tracked};
+
+    ghost Value = { Tracked };
+
+    ghost view = { λ t. record { day = t.day.now.payloads; locate = t.locate } };
+
+    ghost invariant = { λ t. IsTrack t.day.now.payloads t.locate t.every t.numbers.items t.copies.items };
+}
+
+// A stock's machine before its first message, and after every so many of its messages. Each is stepped from a
+// copy of the one before.
+fn copies_of<A: Allocator + Copy>(
+    alloc: A,
+    day: &Day<A>,
+    locate: u16,
+    every: usize,
+    numbers: &[u32],
+) -> Result<Vec<Stock<A>, A>, AllocError>
+    requires some { 0 < every }
+    requires numbers { numbers.now ≡ numbers_of day.now.payloads locate }
+    ensures { IfOk result (λ copies. copies.items ≡ copies_of day.now.payloads locate every) }
+{
+    let mut copies = Vec::new(alloc);
+    copies.push(Stock::new(alloc, locate))?;
+    for last in 0..numbers.len() / every {
+        let mut stock = copies[last].copy(alloc)?;
+        advance(&mut stock, day, numbers, last * every, (last + 1) * every)?;
+        copies.push(stock)?;
+    }
+    Ok(copies)
+}
+
+impl<'d, A: Allocator + Copy> Track<'d, A> {
+    /// Goes through the day once, and keeps a copy of the stock's machine after every `every` of its messages, of which
+    /// the caller hands at least one. An error says that memory was refused.
+    pub fn make(
+        alloc: A,
+        day: &'d Day<A>,
+        locate: u16,
+        every: u32,
+    ) -> Result<Track<'d, A>, AllocError>
+        requires { 0 < every }
+        ensures { IfOk result (λ track. track ≡ record { day = day.now.payloads; locate = locate }) }
+    {
+        let numbers = numbers_of(alloc, day, locate)?;
+        let copies = copies_of(alloc, day, locate, every as usize, &numbers)?;
+        Ok(Track {
+            day,
+            locate,
+            every,
+            numbers,
+            copies,
+        })
+    }
+
+    /// The stock's machine after the first `n` messages of the day, of which there are as many. An error says that
+    /// memory was refused.
+    pub fn at(&self, alloc: A, n: u32) -> Result<Stock<A>, AllocError>
+        requires { n ≤ length self.now.day }
+        ensures { IfOk result (λ stock. stock ≡ machine_of self.now.day self.now.locate n) }
+    {
+        let every = self.every as usize;
+        let taken = self.numbers.partition_point(|number| *number <= n);
+        let last = taken / every;
+        let mut stock = self.copies[last].copy(alloc)?;
+        advance(&mut stock, self.day, &self.numbers, last * every, taken)?;
+        Ok(stock)
+    }
+}
+
+impl<'d, A: Allocator> Track<'d, A> {
+    /// The stock's locate code.
+    pub fn locate(&self) -> u16
+        ensures { result ≡ self.now.locate }
+    {
+        self.locate
+    }
+}

@@ -1,0 +1,5 @@
+pub mod Neighbours
+pub mod Nearest
+pub mod Stopping
+pub mod Shown
+pub mod Recent

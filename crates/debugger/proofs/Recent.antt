@@ -1,0 +1,32 @@
+-- The tracks that were asked for last.
+use Rattle.std.proofs.Common.{◌≡◌, ℕ, suc, ◌<◌, ◌≤◌, List, ◌∷◌, length, take, drop, arith}
+use Rattle.std.specs.List.{remove}
+use Rattle.std.proofs.lemmas.List.{length-take}
+use Rattle.std.proofs.lemmas.List.Edits.{length-remove}
+use Rattle.std.proofs.lemmas.List.Elements.{All-append, All-cons, All-drop, All-take}
+use Rattle.checkpoints.specs.Copies.{Tracked}
+use Rattle.debugger.specs.Sessions.{AreTracks}
+
+module _ (day : List (List ℕ)) (every : ℕ) (tracks : List Tracked) (are : AreTracks day every tracks) where
+  abbrev IsOf : Tracked → Type 0
+  IsOf t = t.day ≡ day
+
+  -- one is taken out
+  pub tracks_removed : (i : ℕ) → i < length tracks → AreTracks day every (remove tracks i)
+  tracks_removed i lt = record {
+    some = are.some;
+    same = All-append IsOf (take i tracks) (drop (suc i) tracks) (All-take IsOf i tracks are.same) (All-drop IsOf (suc i) tracks are.same);
+    few = omega (arith, are.few, length-remove tracks i lt);
+  }
+
+  -- some are dropped
+  pub tracks_dropped : (n : ℕ) → AreTracks day every (take n tracks)
+  tracks_dropped n = record {
+    some = are.some;
+    same = All-take IsOf n tracks are.same;
+    few = omega (arith, are.few, length-take n tracks);
+  }
+
+  -- one is put first
+  pub tracks_kept : (t : Tracked) → t.day ≡ day → length tracks ≤ 7 → AreTracks day every (t ∷ tracks)
+  tracks_kept t of room = record { some = are.some; same = All-cons IsOf t tracks of are.same; few = omega arith }

@@ -1,0 +1,3 @@
+pub mod Stops
+pub mod Finding
+pub mod Sessions

@@ -1,0 +1,71 @@
+-- What a debugger is seen as, and what it keeps. All is of this project.
+use Rattle.std.specs.Prelude.{◌≡◌, ◌≤◌, ◌<◌, ◌++◌, ◌∷◌, [], ℕ, Bool, false, true, zero, suc, List, filter, length, Option, Some, None}
+use Rattle.std.specs.List.{All, remove, range_with_len}
+use Rattle.itch_layouts.specs.Shapes.{shape_of}
+use Rattle.itch_layouts.specs.declared.message.Msg.TheVariants.{System}
+use Rattle.itch_layouts.specs.declared.shape.Shape.{Shape}
+use Rattle.itch_layouts.specs.declared.shape.Shape.TheVariants.{Known}
+use Rattle.itch_table.specs.declared.outcome.Outcome.{Outcome}
+use Rattle.itch_table.specs.After.{outcome}
+use Rattle.itch_table.specs.Projection.{payload_at}
+use Rattle.checkpoints.specs.Copies.{Tracked}
+use Rattle.debugger.specs.declared.breakpoint.Break.{Break}
+
+-- the day, the number of messages up to the position, and the breakpoints in the order in which they were
+-- added
+pub record Session : Type 0 where
+  pub day : List (List ℕ)
+  pub position : ℕ
+  pub breaks : List Break
+
+-- a session at position 0, without breakpoints
+abbrev pub new_session : List (List ℕ) → Session
+new_session day = record { day = day; position = 0; breaks = [] }
+
+-- a session that moved to another position
+abbrev pub moved_to : Session → ℕ → Session
+moved_to s n = record s { position = n }
+
+-- a session with one breakpoint more, which is the last
+abbrev pub with_break : Session → Break → Session
+with_break s breakpoint = record s { breaks = s.breaks ++ breakpoint ∷ [] }
+
+-- a session without the breakpoint at a place; the later ones close up
+abbrev pub without_break : Session → ℕ → Session
+without_break s place = record s { breaks = remove s.breaks place }
+
+-- the outcome of the message at a position, none before the first
+abbrev pub outcome_at : List (List ℕ) → ℕ → Option Outcome
+outcome_at day zero = None
+outcome_at day (suc before) = Some (outcome day (suc before))
+
+-- whether a payload is a system event message
+abbrev pub is_system : Shape → Bool
+is_system (Known (System head m)) = true
+is_system shape = false
+
+-- the system event messages of a day, by their numbers, rising
+unfoldable pub systems_of : List (List ℕ) → List ℕ
+systems_of day = filter (λ n. is_system (shape_of (payload_at day n))) (range_with_len 1 (length day))
+
+-- ---- what is kept
+
+-- a day with breakpoints
+pub record Marked : Type 0 where
+  pub day : List (List ℕ)
+  pub breaks : List Break
+
+-- every track is of the day, and they are few
+pub record AreTracks (day : List (List ℕ)) (every : ℕ) (tracks : List Tracked) : Type 0 where
+  pub some : 0 < every
+  pub same : All (λ t. t.day ≡ day) tracks
+  pub few : length tracks ≤ 8
+
+-- what a debugger keeps beside its breakpoints, each of the same day
+pub record IsSession (day : List (List ℕ)) (position : ℕ) (outcome : Option Outcome) (systems : List ℕ)
+    (marked : Marked) (tracked : List (List ℕ)) : Type 0 where
+  pub within : position ≤ length day
+  pub outcome_is : outcome ≡ outcome_at day position
+  pub systems_are : systems ≡ systems_of day
+  pub breaks_of : marked.day ≡ day
+  pub tracks_of : tracked ≡ day

@@ -1,0 +1,276 @@
+//! A position in a day, and breakpoints.
+ghost use Rattle.std.specs.Prelude.{◌≡◌, ◌≢◌, ◌↔◌, ◌+◌, ◌-◌, ◌<◌, ◌≤◌, Contains, Err, IfNone, IfOk, IfSome, IsErrOf, None, OnErr, OnOk, Some, length, slice_get};
+ghost use Rattle.itch_table.specs.After.{after};
+ghost use Rattle.day_core.specs.Owners.{machine_of};
+ghost use Rattle.debugger.specs.Finding.{IsOnward, IsRearward};
+ghost use Rattle.debugger.specs.Sessions.{moved_to, new_session, outcome_at, with_break, without_break};
+ghost use Rattle.debugger.specs.Stops.{hit, stops_at};
+ghost use Rattle.debugger.specs.declared.debugging.DebugFault.TheVariants.{Memory};
+
+use crate::breakpoint::Break;
+use crate::breakpoints::Breakpoints;
+use crate::events::{event_at, systems_of};
+use crate::outcomes::outcome_at;
+use crate::tracks::Tracks;
+use binaryfile::Day;
+use itch_table::Outcome;
+use std::alloc::{AllocError, Allocator};
+use std::marker::Model;
+use stock_machine::Stock;
+
+/// Why a debugger doesn't move, of this project.
+#[derive(Debug, Clone, Copy, PartialEq, Eq)]
+pub enum DebugFault {
+    /// Memory was refused.
+    Memory,
+    /// The move leads past the last message.
+    PastEnd,
+    /// The move leads before position 0.
+    BeforeStart,
+}
+
+impl From<AllocError> for DebugFault {
+    ghost from_gives = { λ _ fault. fault ≡ Memory };
+
+    fn from(_error: AllocError) -> DebugFault {
+        DebugFault::Memory
+    }
+}
+
+/// Where a search for a breakpoint came to.
+#[derive(Debug, Clone, Copy, PartialEq, Eq)]
+pub struct Stop {
+    /// The new position.
+    pub at: u32,
+    /// The place of the first breakpoint that stops there, counted from 0; none where no breakpoint does.
+    pub hit: Option<usize>,
+}
+
+/// A position in a day, which moves both ways, and breakpoints, at which it stops.
+///
+/// A position is a number of messages, from 0 to all of the day's, and shows what the day has built up after exactly
+/// so many, however it was reached. The debugger is seen as the day, the position and the list of the breakpoints. An
+/// error leaves all three as they were. All is of this project.
+#[derive(Drop)]
+pub struct Debugger<'d, A: Allocator> {
+    day: &'d Day<A>,
+    position: u32,
+    outcome: Option<Outcome>,
+    systems: Vec<u32, A>,
+    breakpoints: Breakpoints<'d, A>,
+    tracks: Tracks<'d, A>,
+}
+
+impl<'d, A: Allocator> Model for Debugger<'d, A> {
+    ghost use Rattle.debugger.specs.Sessions.{IsSession, Session};
+
+    ghost Value = { Session };
+
+    ghost view = { λ d.
+        record { day = d.day.now.payloads; position = d.position; breaks = d.breakpoints.breaks } };
+
+    ghost invariant = { λ d.
+        IsSession d.day.now.payloads d.position d.outcome d.systems.items d.breakpoints d.tracks };
+}
+
+impl<'d, A: Allocator + Copy> Debugger<'d, A> {
+    /// A debugger of a day at position 0, without breakpoints. It keeps a copy of a stock's machine after every `every`
+    /// of the stock's messages, of which the caller hands at least one. An error says that memory was refused.
+    pub fn new(alloc: A, day: &'d Day<A>, every: u32) -> Result<Debugger<'d, A>, AllocError>
+        requires { 0 < every }
+        ensures { IfOk result (λ debugger. debugger ≡ new_session day.now.payloads) }
+    {
+        Ok(Debugger {
+            day,
+            position: 0,
+            outcome: None,
+            systems: systems_of(alloc, day)?,
+            breakpoints: Breakpoints::new(alloc, day),
+            tracks: Tracks::new(alloc, day, every),
+        })
+    }
+
+    // Moves to a position of the day.
+    fn move_to(&mut self, alloc: A, n: u32) -> Result<(), AllocError>
+        requires { n ≤ length self.old.day }
+        ensures moved { OnOk result (self.new ≡ moved_to self.old n) }
+        ensures err { OnErr result (self.new ≡ self.old) }
+    {
+        self.outcome = outcome_at(alloc, self.day, &mut self.tracks, n)?;
+        self.position = n;
+        Ok(())
+    }
+
+    /// Moves to the position after `n` messages.
+    ///
+    /// [`DebugFault::PastEnd`] where the day has fewer, which is decided first, and else [`DebugFault::Memory`] where
+    /// memory is refused.
+    pub fn goto(&mut self, alloc: A, n: u32) -> Result<(), DebugFault>
+        ensures moved { OnOk result (self.new ≡ moved_to self.old n) }
+        ensures err { OnErr result (self.new ≡ self.old) }
+        ensures past_end { IsErrOf result DebugFault.PastEnd ↔ (length self.old.day < n) }
+        ensures not_before { result ≢ Err DebugFault.BeforeStart }
+    {
+        if n > self.day.len() {
+            return Err(DebugFault::PastEnd);
+        }
+        self.move_to(alloc, n)?;
+        Ok(())
+    }
+
+    /// Moves one message on.
+    ///
+    /// [`DebugFault::PastEnd`] after the last message, which is decided first, and else [`DebugFault::Memory`] where
+    /// memory is refused.
+    pub fn step(&mut self, alloc: A) -> Result<(), DebugFault>
+        ensures moved { OnOk result (self.new ≡ moved_to self.old (self.old.position + 1)) }
+        ensures err { OnErr result (self.new ≡ self.old) }
+        ensures past_end { IsErrOf result DebugFault.PastEnd ↔ (self.old.position ≡ length self.old.day) }
+        ensures not_before { result ≢ Err DebugFault.BeforeStart }
+    {
+        if self.position == self.day.len() {
+            return Err(DebugFault::PastEnd);
+        }
+        self.move_to(alloc, self.position + 1)?;
+        Ok(())
+    }
+
+    /// Moves one message back.
+    ///
+    /// [`DebugFault::BeforeStart`] at position 0, which is decided first, and else [`DebugFault::Memory`] where
+    /// memory is refused.
+    pub fn back(&mut self, alloc: A) -> Result<(), DebugFault>
+        ensures moved { OnOk result (self.new ≡ moved_to self.old (self.old.position - 1)) }
+        ensures err { OnErr result (self.new ≡ self.old) }
+        ensures before_start { IsErrOf result DebugFault.BeforeStart ↔ (self.old.position ≡ 0) }
+        ensures not_past { result ≢ Err DebugFault.PastEnd }
+    {
+        if self.position == 0 {
+            return Err(DebugFault::BeforeStart);
+        }
+        self.move_to(alloc, self.position - 1)?;
+        Ok(())
+    }
+
+    /// Moves to the least later message at which a breakpoint stops, or where there is none to the last message.
+    ///
+    /// [`DebugFault::PastEnd`] after the last message, which is decided first, and else [`DebugFault::Memory`] where
+    /// memory is refused.
+    pub fn onward(&mut self, alloc: A) -> Result<Stop, DebugFault>
+        ensures at { IfOk result (λ stop. IsOnward (stops_at self.old.breaks self.old.day)
+            self.old.position (length self.old.day) stop.at) }
+        ensures hit { IfOk result (λ stop. stop.hit ≡ hit self.old.breaks self.old.day stop.at) }
+        ensures moved { IfOk result (λ stop. self.new ≡ moved_to self.old stop.at) }
+        ensures err { OnErr result (self.new ≡ self.old) }
+        ensures past_end { IsErrOf result DebugFault.PastEnd ↔ (self.old.position ≡ length self.old.day) }
+        ensures not_before { result ≢ Err DebugFault.BeforeStart }
+    {
+        if self.position == self.day.len() {
+            return Err(DebugFault::PastEnd);
+        }
+        let at = self.breakpoints.next_stop(self.position);
+        let hit = self.breakpoints.hit(at);
+        self.move_to(alloc, at)?;
+        Ok(Stop { at, hit })
+    }
+
+    /// Moves to the greatest earlier message at which a breakpoint stops, or where there is none to position 0, which
+    /// no breakpoint stops at.
+    ///
+    /// [`DebugFault::BeforeStart`] at position 0, which is decided first, and else [`DebugFault::Memory`] where
+    /// memory is refused.
+    pub fn rearward(&mut self, alloc: A) -> Result<Stop, DebugFault>
+        ensures at { IfOk result (λ stop. IsRearward (stops_at self.old.breaks self.old.day)
+            self.old.position stop.at) }
+        ensures hit { IfOk result (λ stop. 0 < stop.at →
+            stop.hit ≡ hit self.old.breaks self.old.day stop.at) }
+        ensures start { IfOk result (λ stop. stop.at ≡ 0 → stop.hit ≡ None) }
+        ensures moved { IfOk result (λ stop. self.new ≡ moved_to self.old stop.at) }
+        ensures err { OnErr result (self.new ≡ self.old) }
+        ensures before_start { IsErrOf result DebugFault.BeforeStart ↔ (self.old.position ≡ 0) }
+        ensures not_past { result ≢ Err DebugFault.PastEnd }
+    {
+        if self.position == 0 {
+            return Err(DebugFault::BeforeStart);
+        }
+        let at = self.breakpoints.previous_stop(self.position);
+        let hit = if at == 0 {
+            None
+        } else {
+            self.breakpoints.hit(at)
+        };
+        self.move_to(alloc, at)?;
+        Ok(Stop { at, hit })
+    }
+
+    /// Adds a breakpoint as the last, and answers its place, counted from 0; one that is there keeps its place.
+    ///
+    /// It goes over the day once and keeps four bytes for each message at which the breakpoint stops, so that moves
+    /// look for a stop by halves. An error says that memory was refused.
+    pub fn add_break(&mut self, alloc: A, breakpoint: Break) -> Result<usize, AllocError>
+        ensures place { IfOk result (λ place. slice_get self.new.breaks place ≡ Some breakpoint) }
+        ensures there { OnOk result (Contains self.old.breaks breakpoint → self.new ≡ self.old) }
+        ensures new { OnOk result (¬ Contains self.old.breaks breakpoint →
+            self.new ≡ with_break self.old breakpoint) }
+        ensures err { OnErr result (self.new ≡ self.old) }
+    {
+        self.breakpoints.add(alloc, breakpoint)
+    }
+
+    /// The machine of a stock at the position; that of a stock without messages is a new one. An error says that memory
+    /// was refused.
+    pub fn stock(&mut self, alloc: A, locate: u16) -> Result<Stock<A>, AllocError>
+        ensures stock { IfOk result (λ stock. stock ≡ machine_of self.old.day locate self.old.position) }
+        ensures unchanged { self.new ≡ self.old }
+    {
+        self.tracks.stock_at(alloc, locate, self.position)
+    }
+}
+
+impl<'d, A: Allocator> Debugger<'d, A> {
+    /// The position: how many messages of the day come before what is shown.
+    pub fn position(&self) -> u32
+        ensures position { result ≡ self.now.position }
+        ensures within { result ≤ length self.now.day }
+    {
+        self.position
+    }
+
+    /// What became of the message at the position; none at position 0.
+    pub fn outcome(&self) -> Option<Outcome>
+        ensures { result ≡ outcome_at self.now.day self.now.position }
+    {
+        self.outcome
+    }
+
+    /// The event code of the last system event message up to the position, where there is one.
+    pub fn event(&self) -> Option<u8>
+        ensures { result ≡ (after self.now.day self.now.position).event }
+    {
+        event_at(self.day, &self.systems, self.position)
+    }
+
+    /// How many breakpoints there are.
+    pub fn break_len(&self) -> usize
+        ensures { result ≡ length self.now.breaks }
+    {
+        self.breakpoints.len()
+    }
+
+    /// The breakpoint at a place, counted from 0.
+    pub fn break_at(&self, place: usize) -> Option<Break>
+        ensures { result ≡ slice_get self.now.breaks place }
+    {
+        self.breakpoints.at(place)
+    }
+
+    /// Removes the breakpoint at a place, and answers it; none, with nothing changed, where there is none. Those
+    /// after it close up.
+    pub fn remove_break(&mut self, place: usize) -> Option<Break>
+        ensures removed { result ≡ slice_get self.old.breaks place }
+        ensures none { IfNone result (self.new ≡ self.old) }
+        ensures left { IfSome result (λ _. self.new ≡ without_break self.old place) }
+    {
+        self.breakpoints.remove(place)
+    }
+}

@@ -1,0 +1,53 @@
+//! The system events of a day.
+ghost use Rattle.std.specs.Prelude.{◌≡◌, ◌≤◌, IfOk, None, length};
+ghost use Rattle.itch_layouts.specs.Shapes.{shape_of};
+ghost use Rattle.itch_table.specs.After.{after};
+ghost use Rattle.itch_table.specs.Projection.{event_with};
+ghost use Rattle.debugger.specs.Sessions.{is_system, systems_of};
+
+use crate::finding::latest_until;
+use binaryfile::Day;
+use itch_layouts::{Msg, Shape, read_msg};
+use std::alloc::{AllocError, Allocator};
+
+// Whether a payload is a system event message.
+fn is_system(payload: &[u8]) -> bool
+    ensures { result ≡ is_system (shape_of payload.now) }
+{
+    matches!(read_msg(payload), Shape::Known(Msg::System(_, _)))
+}
+
+/// The system event messages of a day, by their numbers, rising. An error says that memory was refused.
+pub fn systems_of<A: Allocator + Copy>(alloc: A, day: &Day<A>) -> Result<Vec<u32, A>, AllocError>
+    ensures { IfOk result (λ systems. systems.items ≡ systems_of day.now.payloads) }
+{
+    let mut systems = Vec::new(alloc);
+    let mut number = 0;
+    for payload in day.payloads() {
+        number += 1;
+        if is_system(payload) {
+            systems.push(number)?;
+        }
+    }
+    Ok(systems)
+}
+
+// The event code of a payload, none where it isn't a system event message.
+fn event_of(payload: &[u8]) -> Option<u8>
+    ensures { result ≡ event_with (shape_of payload.now) None }
+{
+    match read_msg(payload) {
+        Shape::Known(Msg::System(_, message)) => Some(message.event),
+        _ => None,
+    }
+}
+
+/// The event code of the last system event message among the first `n` messages of a day, by the numbers of all of
+/// them.
+pub fn event_at<A: Allocator>(day: &Day<A>, systems: &[u32], n: u32) -> Option<u8>
+    requires systems { systems.now ≡ systems_of day.now.payloads }
+    requires within { n ≤ length day.now.payloads }
+    ensures { result ≡ (after day.now.payloads n).event }
+{
+    event_of(day.payload(latest_until(systems, n)?))
+}

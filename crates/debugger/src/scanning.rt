@@ -1,0 +1,194 @@
+//! Where a breakpoint stops, found by one pass over the day.
+ghost use Rattle.std.specs.Prelude.{◌≡◌, ◌==◌, ◌+◌, ◌-◌, ◌<◌, ◌^◌, ℕ, List, IfOk, OnOk};
+ghost use Rattle.std.specs.List.{list_any};
+ghost use Rattle.itch_layouts.specs.Means.{fields_of};
+ghost use Rattle.itch_layouts.specs.Shapes.{shape_of};
+ghost use Rattle.itch_table.specs.Projection.{payload_at};
+ghost use Rattle.day_core.specs.Owners.{machine_of};
+ghost use Rattle.debugger.specs.Stops.{changes, names, reaches, references, stops_of};
+ghost use Rattle.debugger.specs.declared.breakpoint.Break.{Break};
+
+use crate::breakpoint::Break;
+use binaryfile::Day;
+use checkpoints::is_of_stock;
+use itch_layouts::{Head, Msg, Nanos, Shape, read_msg};
+use itch_table::Side;
+use std::alloc::{AllocError, Allocator};
+use stock_machine::Stock;
+
+// The fields that follow a message's type.
+fn head_of(msg: &Msg) -> Head
+    ensures { result ≡ (fields_of msg.now).head }
+{
+    match *msg {
+        Msg::System(head, _)
+        | Msg::Directory(head, _)
+        | Msg::Trading(head, _)
+        | Msg::Regsho(head, _)
+        | Msg::Participant(head, _)
+        | Msg::Decline(head, _)
+        | Msg::Breach(head, _)
+        | Msg::Ipo(head, _)
+        | Msg::Collar(head, _)
+        | Msg::Operational(head, _)
+        | Msg::Add(head, _)
+        | Msg::AddMpid(head, _)
+        | Msg::Execute(head, _)
+        | Msg::ExecutePrice(head, _)
+        | Msg::Cancel(head, _)
+        | Msg::Delete(head, _)
+        | Msg::Replace(head, _)
+        | Msg::Trade(head, _)
+        | Msg::Cross(head, _)
+        | Msg::Broken(head, _)
+        | Msg::Imbalance(head, _)
+        | Msg::Retail(head, _) => head,
+    }
+}
+
+// Whether a message has this order reference in a field `reference` or `new_reference`.
+fn has_reference(msg: &Msg, reference: u64) -> bool
+    ensures { result ≡ list_any (λ r. r == reference) (references msg.now) }
+{
+    match *msg {
+        Msg::Add(_, message) => message.reference == reference,
+        Msg::AddMpid(_, message) => message.reference == reference,
+        Msg::Execute(_, message) => message.reference == reference,
+        Msg::ExecutePrice(_, message) => message.reference == reference,
+        Msg::Cancel(_, message) => message.reference == reference,
+        Msg::Delete(_, message) => message.reference == reference,
+        Msg::Replace(_, message) => {
+            message.reference == reference || message.new_reference == reference
+        }
+        Msg::Trade(_, message) => message.reference == reference,
+        _ => false,
+    }
+}
+
+// Whether a payload is a message of this stock with this order reference.
+fn is_named(payload: &[u8], locate: u16, reference: u64) -> bool
+    ensures { result ≡ names locate reference (shape_of payload.now) }
+{
+    match read_msg(payload) {
+        Shape::Known(msg) => head_of(&msg).locate == locate && has_reference(&msg, reference),
+        _ => false,
+    }
+}
+
+// Whether a payload is a message of at least this time.
+fn is_reached(payload: &[u8], time: Nanos) -> bool
+    ensures { result ≡ reaches time (shape_of payload.now) }
+{
+    match read_msg(payload) {
+        Shape::Known(msg) => time.get() <= head_of(&msg).time.get(),
+        _ => false,
+    }
+}
+
+// The messages of a stock with an order reference.
+fn reference_stops<A: Allocator + Copy>(
+    alloc: A,
+    day: &Day<A>,
+    locate: u16,
+    reference: u64,
+) -> Result<Vec<u32, A>, AllocError>
+    ensures { IfOk result (λ stops.
+        stops.items ≡ stops_of day.now.payloads (Break.Reference locate reference)) }
+{
+    let mut stops = Vec::new(alloc);
+    let mut number = 0;
+    for payload in day.payloads() {
+        number += 1;
+        if is_named(payload, locate, reference) {
+            stops.push(number)?;
+        }
+    }
+    Ok(stops)
+}
+
+// The first message of at least a time.
+fn time_stops<A: Allocator + Copy>(
+    alloc: A,
+    day: &Day<A>,
+    time: Nanos,
+) -> Result<Vec<u32, A>, AllocError>
+    ensures { IfOk result (λ stops. stops.items ≡ stops_of day.now.payloads (Break.Time time)) }
+{
+    let mut stops = Vec::new(alloc);
+    let mut number = 0;
+    for payload in day.payloads() {
+        number += 1;
+        if is_reached(payload, time) {
+            stops.push(number)?;
+            return Ok(stops);
+        }
+    }
+    Ok(stops)
+}
+
+// Hands a stock's machine the next payload of a day, which it takes where it is a message of the stock, and
+// answers whether the shares at a side and a price change.
+fn changes_level<A: Allocator + Copy>(
+    stock: &mut Stock<A>,
+    payload: &[u8],
+    side: Side,
+    price: u32,
+) -> Result<bool, AllocError>
+    requires few { stock.old.steps < 2 ^ 32 - 1 }
+    ensures changes { (day : List (List ℕ)) (n : ℕ) → payload.now ≡ payload_at day (n + 1) →
+        stock.old ≡ machine_of day stock.old.locate n →
+        IfOk result (λ changed. changed ≡ changes stock.old.locate side price day (n + 1)) }
+    ensures taken { (day : List (List ℕ)) (n : ℕ) → payload.now ≡ payload_at day (n + 1) →
+        stock.old ≡ machine_of day stock.old.locate n →
+        OnOk result (stock.new ≡ machine_of day stock.old.locate (n + 1)) }
+{
+    if !is_of_stock(payload, stock.locate()) {
+        return Ok(false);
+    }
+    let before = stock.level(side, price);
+    stock.step(payload)?;
+    Ok(stock.level(side, price) != before)
+}
+
+// The messages that change the shares of a stock's level.
+fn price_stops<A: Allocator + Copy>(
+    alloc: A,
+    day: &Day<A>,
+    locate: u16,
+    side: Side,
+    price: u32,
+) -> Result<Vec<u32, A>, AllocError>
+    ensures { IfOk result (λ stops.
+        stops.items ≡ stops_of day.now.payloads (Break.Price locate side price)) }
+{
+    let mut stops = Vec::new(alloc);
+    let mut stock = Stock::new(alloc, locate);
+    let mut number = 0;
+    for payload in day.payloads() {
+        number += 1;
+        if changes_level(&mut stock, payload, side, price)? {
+            stops.push(number)?;
+        }
+    }
+    Ok(stops)
+}
+
+/// The messages of a day at which a breakpoint stops, by their numbers, rising: one pass over the day, and four bytes
+/// for each of them. An error says that memory was refused.
+pub fn stops_of<A: Allocator + Copy>(
+    alloc: A,
+    day: &Day<A>,
+    breakpoint: &Break,
+) -> Result<Vec<u32, A>, AllocError>
+    ensures { IfOk result (λ stops. stops.items ≡ stops_of day.now.payloads breakpoint.now) }
+{
+    match *breakpoint {
+        Break::Price {
+            locate,
+            side,
+            price,
+        } => price_stops(alloc, day, locate, side, price),
+        Break::Reference { locate, reference } => reference_stops(alloc, day, locate, reference),
+        Break::Time { time } => time_stops(alloc, day, time),
+    }
+}
