@@ -1,5 +1,5 @@
 //! A stock that is shown on screens while its day is replayed.
-ghost use Rattle.std.specs.Prelude.{◌≡◌, ◌+◌, IfOk, OnOk, length, min};
+ghost use Rattle.std.specs.Prelude.{◌≡◌, ◌+◌, IfOk, OnErr, OnOk, length, min};
 ghost use Rattle.conformance_cells.specs.Showing.{AreInStep};
 
 use binaryfile::Day;
@@ -22,6 +22,8 @@ pub fn show_next<R: Wait, A: Allocator + Copy>(
     requires { AreInStep day.now.payloads board.now machine.old writer.old }
     ensures in_step { AreInStep day.now.payloads board.now machine.new writer.new }
     ensures place { writer.new.place ≡ writer.old.place }
+    ensures machine { OnErr result (machine.new ≡ machine.old) }
+    ensures writer { OnErr result (writer.new ≡ writer.old) }
     ensures taken { OnOk result
         (machine.new.steps ≡ min (machine.old.steps + 1) (length day.now.payloads)) }
 {

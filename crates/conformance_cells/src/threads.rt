@@ -85,9 +85,6 @@ fn watch_both<R: Threads + Wait + Sync>(
     )
 }
 
-// What crosses to another thread.
-fn sends<T: Send>(_value: &T) {}
-
 #[test]
 fn screens_read_while_their_stock_is_shown(rt: HostRuntime) -> Result<(), Fail> {
     let alloc = rt.alloc();
@@ -109,18 +106,4 @@ fn screens_read_while_their_stock_is_shown(rt: HostRuntime) -> Result<(), Fail> 
         &last.read(&rt, &board),
         &after_message(MESSAGES),
     )
-}
-
-#[test]
-fn boards_and_their_ends_cross_to_other_threads(rt: HostRuntime) -> Result<(), Fail> {
-    let alloc = rt.alloc();
-    let day = rising_bids(alloc)?;
-    let (board, mut writer, machine) = only_cell(&rt, &alloc, &day)?;
-    sends(&&board);
-    sends(&writer.screen(&rt, &board));
-    sends(&writer);
-    let mut writers = Vec::new(alloc);
-    writers.push(writer)?;
-    sends(&(machine, writers));
-    Ok(())
 }

@@ -6,7 +6,6 @@ use day_core::{Parts, split};
 use std::alloc::Allocator;
 use std::test::Fail;
 use std::thread::Threads;
-
 pub use support::{add_entry, crossed_book, day_of, two_stocks};
 
 /// The parts of a day.

@@ -242,7 +242,11 @@ fn turns_of_a_day_come_in_any_order(rt: HostRuntime) -> Result<(), Fail> {
     take_of_day(&mut turns, 0, 4, Outcome::Applied)?;
     let two = [4, 200 << 32, 20, 0];
     look_at_both("a bid each", &turns, one, two)?;
-    same("a turn of a worker that has done all of its messages", &turns.turn(0)?, &None)?;
+    same(
+        "a turn of a worker that has done all of its messages",
+        &turns.turn(0)?,
+        &None,
+    )?;
     take_of_day(&mut turns, 1, 5, Outcome::Applied)?;
     look_at_both("the first bid deleted", &turns, [5, 0, 0, 0], two)?;
     take_of_day(&mut turns, 1, 6, Outcome::Refused(Fault::NoDirectory))?;

@@ -101,7 +101,8 @@ fn gathered<A: Allocator + Copy>(
 ///
 /// The first faulty piece, in the order of the lists and in each of its own, is the fault: [`MergeFault::Double`] or
 /// [`MergeFault::Stranger`]. Where all pieces are sound and a message has none, the least such message is
-/// [`MergeFault::Missing`]. The order of the faults is of this project.
+/// [`MergeFault::Missing`]. [`MergeFault::Memory`] where memory is refused: before the pieces are looked at, or after
+/// all were found sound. The order of the faults is of this project.
 pub fn merge<A: Allocator + Copy>(
     alloc: A,
     messages: u32,

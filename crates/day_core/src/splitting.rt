@@ -50,7 +50,7 @@ fn messages_of_worker(counts: &[u32], workers: u32, worker: u32) -> usize
 }
 
 // An empty list for each worker, with room for its messages.
-fn empty_lists<A: Allocator + Copy>(
+fn lists_with_room<A: Allocator + Copy>(
     alloc: A,
     counts: &[u32],
     workers: u32,
@@ -117,7 +117,7 @@ fn parts_of<R: Threads + Sync, A: Allocator + Copy + Send + Sync>(
 {
     let counts = messages_by_locate(rt, alloc, day)?;
     let locates = locates_counted(alloc, &counts)?;
-    let mut own = empty_lists(alloc, &counts, workers)?;
+    let mut own = lists_with_room(alloc, &counts, workers)?;
     let elsewhere = (day.len() as usize).saturating_sub(messages_of_worker(&counts, 1, 0));
     let mut fixed = Vec::with_capacity(alloc, elsewhere)?;
     let event = deal(&mut own, &mut fixed, day, workers)?;
