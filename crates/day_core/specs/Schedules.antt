@@ -1,12 +1,12 @@
 -- Schedules: turns of a day's workers and looks of screens, in any order. All is of this project.
-use Rattle.std.specs.Prelude.{◌≡◌, ◌==◌, ℕ, Bool, false, List, [], ◌∷◌, Option, Some, None, count_by, length, map, min, slice_get, slice_index, take}
+use Rattle.std.specs.Prelude.{◌≡◌, ◌==◌, ℕ, Bool, false, List, [], ◌∷◌, Option, Some, None, count_by, length, map, min, slice_get, take}
 use Rattle.std.specs.List.{flat_map, range_with_len}
 use Rattle.day_core.specs.declared.merging.Piece.{Piece}
 use Rattle.day_core.specs.declared.playing.Event.{Event}
 use Rattle.day_core.specs.declared.playing.Event.TheVariants.{Look, Turn}
 use Rattle.day_core.specs.declared.playing.Seen.{Seen}
-use Rattle.day_core.specs.Cells.{shown}
-use Rattle.day_core.specs.Turns.{TurnsState, TurnsWorker, workers_of}
+use Rattle.day_core.specs.Cells.{shown, words_at}
+use Rattle.day_core.specs.Turns.{TurnsState, TurnsWorker, progress_in}
 use Rattle.day_core.specs.Owners.{own_of, owner}
 
 -- whether an event is a turn of this worker
@@ -59,6 +59,5 @@ seen_of turns (Look screen locate) =
     record {
       screen = screen;
       locate = locate;
-      words =
-          shown turns.day (workers_of turns) locate (slice_index turns.done (owner (workers_of turns) locate));
+      words = words_at turns.day locate (progress_in turns locate);
     } ∷ []

@@ -56,8 +56,8 @@ impl TopWriter {
     }
 
     /// Shows the stock's best bid and ask after a message of the day, which isn't earlier than the last one that was
-    /// published. A message is published also where the best bid and ask stay as they were. The caller hands the writer's
-    /// own board, and the best bid and ask that the day's stock has after the message.
+    /// published. A message is published also where the best bid and ask stay as they were. The caller hands the
+    /// writer's own board, and the best bid and ask that the day's stock has after the message.
     ///
     /// It may wait for a read that is under way on the same cell.
     pub fn publish<R: Wait, A: Allocator>(
@@ -79,8 +79,8 @@ impl TopWriter {
         self.message = message;
     }
 
-    /// A screen of the writer's stock, which stands where the writer stands: it never shows an earlier message. The caller
-    /// hands the writer's own board.
+    /// A screen of the writer's stock, which stands where the writer stands: it never shows an earlier message. The
+    /// caller hands the writer's own board.
     pub fn screen<R: Wait, A: Allocator>(&mut self, _rt: &R, board: &Board<'_, A>) -> Screen
         requires { IsOn board.now self.old.place }
         ensures same { self.new ≡ self.old }
