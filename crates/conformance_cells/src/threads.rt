@@ -1,22 +1,29 @@
 //! Screens that read a cell in threads of their own while it is published to.
 ghost use Rattle.std.specs.Prelude.{◌≡◌};
+ghost use Rattle.conformance_cells.specs.Showing.{AreInStep};
 ghost use Rattle.top_cell.specs.Boards.{IsOn};
 
 use crate::cells::only_cell;
 use crate::showing::show_rest;
 use binaryfile::Day;
-use std::alloc::{Allocator, Global};
+use std::alloc::{AllocError, Allocator, Global};
 use std::sync::Wait;
 use std::test::Fail;
 use std::thread::{Threads, join};
-use support::{AAPL, add_entry, day_of, same};
-use top_cell::{Board, Reading, Screen};
+use support::{AAPL, add_entry, crossed_book, day_of, same};
+use top_cell::{Board, Reading, Screen, TopWriter};
 
-// How many messages the day has.
+// What a screen reads before the first message.
+const NOTHING: Reading = Reading {
+    message: 0,
+    bid_price: 0,
+    bid_shares: 0,
+    ask_price: 0,
+    ask_shares: 0,
+};
+
+// How many messages the long day has.
 const MESSAGES: u32 = 2_000;
-
-// How often a screen reads at most.
-const READS: u32 = 1_000_000;
 
 // A stock whose message n, from the second on, adds a bid of n shares at 1,000 + n, above all others.
 fn rising_bids<A: Allocator + Copy>(alloc: A) -> Result<Day<A>, Fail> {
@@ -29,39 +36,74 @@ fn rising_bids<A: Allocator + Copy>(alloc: A) -> Result<Day<A>, Fail> {
     day_of(alloc, file)
 }
 
-// What a screen reads of that stock after a message.
-fn after_message(message: u32) -> Reading {
-    let bid = if message < 2 { 0 } else { message };
-    Reading {
-        message,
-        bid_price: if bid == 0 { 0 } else { bid.wrapping_add(1_000) },
-        bid_shares: u64::from(bid),
-        ask_price: 0,
-        ask_shares: 0,
+// What a screen may read of that stock, before the first message and after each.
+fn rising_readings<A: Allocator>(alloc: A) -> Result<Vec<Reading, A>, AllocError> {
+    let mut readings = Vec::new(alloc);
+    readings.push(NOTHING)?;
+    readings.push(Reading {
+        message: 1,
+        ..NOTHING
+    })?;
+    for message in 2..MESSAGES + 1 {
+        let reading = Reading {
+            message,
+            bid_price: 1_000 + message,
+            bid_shares: u64::from(message),
+            ..NOTHING
+        };
+        readings.push(reading)?;
     }
+    Ok(readings)
 }
 
-// Reads until the last message is there. The answer is the last reading, or the first one that isn't of one
-// message or comes after a later one.
+// What a screen may read of the crossed book, before the first message and after each: 100 shares are bid at 101,
+// then 50 are offered at 100.
+fn crossed_readings() -> [Reading; 4] {
+    let bid = Reading {
+        message: 2,
+        bid_price: 1_010_000,
+        bid_shares: 100,
+        ..NOTHING
+    };
+    let crossed = Reading {
+        message: 3,
+        ask_price: 1_000_000,
+        ask_shares: 50,
+        ..bid
+    };
+    [
+        NOTHING,
+        Reading {
+            message: 1,
+            ..NOTHING
+        },
+        bid,
+        crossed,
+    ]
+}
+
+// Reads until the last of these readings is there, which may come after each number of messages. The answer is how
+// many messages were seen, or the first reading that isn't one of them or that comes after a later one.
 fn watch<R: Wait, A: Allocator>(
     rt: &R,
     board: &Board<'_, A>,
     mut screen: Screen,
-) -> Result<Reading, Reading>
+    readings: &[Reading],
+) -> Result<u32, Reading>
     requires { IsOn board.now screen.place }
 {
-    let mut last = after_message(0);
-    for _ in 0..READS {
+    let mut seen = 0;
+    for _ in 0..u32::MAX {
         let reading = screen.read(rt, board);
-        if reading != after_message(reading.message) || reading.message < last.message {
+        if reading.message < seen || readings.get(reading.message as usize) != Some(&reading) {
             return Err(reading);
         }
-        last = reading;
-        if last.message == MESSAGES {
+        seen = reading.message;
+        if seen as usize + 1 == readings.len() {
             break;
         }
     }
-    Ok(last)
+    Ok(seen)
 }
 
 // Two screens, each in a thread of its own.
@@ -70,40 +112,61 @@ fn watch_both<R: Threads + Wait + Sync>(
     board: &Board<'_, Global>,
     first: Screen,
     second: Screen,
-) -> (Result<Reading, Reading>, Result<Reading, Reading>)
+    readings: &[Reading],
+) -> (Result<u32, Reading>, Result<u32, Reading>)
     requires first { IsOn board.now first.place }
     requires second { IsOn board.now second.place }
 {
     join(
         rt,
-        || -> Result<Reading, Reading>
+        || -> Result<u32, Reading>
             requires { IsOn board.now first.place }
-        { watch(rt, board, first) },
-        || -> Result<Reading, Reading>
+        { watch(rt, board, first, readings) },
+        || -> Result<u32, Reading>
             requires { IsOn board.now second.place }
-        { watch(rt, board, second) },
+        { watch(rt, board, second, readings) },
+    )
+}
+
+// A writer and two screens of the only stock of a day, each in a thread of its own.
+fn show_and_watch<R: Threads + Wait + Sync>(
+    rt: &R,
+    alloc: Global,
+    day: &Day<Global>,
+    readings: &[Reading],
+) -> Result<(), Fail> {
+    let (board, mut writer, machine) = only_cell(rt, &alloc, day)?;
+    let board = &board;
+    let mut last = writer.screen(rt, board);
+    let first = writer.screen(rt, board);
+    let second = last.split(rt, board);
+    let (shown, (one, other)) = join(
+        rt,
+        || -> Result<TopWriter, AllocError>
+            requires { AreInStep day.now.payloads board.now machine writer }
+        { show_rest(rt, day, machine, board, writer) },
+        || -> (Result<u32, Reading>, Result<u32, Reading>)
+            requires { IsOn board.now first.place × IsOn board.now second.place }
+        { watch_both(rt, board, first, second, readings) },
+    );
+    same("the writer", &shown?.message(), &day.len())?;
+    same("the first screen", &one, &Ok(day.len()))?;
+    same("the second screen", &other, &Ok(day.len()))?;
+    same(
+        "the last reading",
+        &readings.last(),
+        &Some(&last.read(rt, board)),
     )
 }
 
 #[test]
-fn screens_read_while_their_stock_is_shown(rt: HostRuntime) -> Result<(), Fail> {
+fn screens_read_while_a_long_day_is_shown(rt: HostRuntime) -> Result<(), Fail> {
     let alloc = rt.alloc();
-    let day = rising_bids(alloc)?;
-    let (board, mut writer, machine) = only_cell(&rt, &alloc, &day)?;
-    let mut last = writer.screen(&rt, &board);
-    let first = writer.screen(&rt, &board);
-    let second = last.split(&rt, &board);
-    let (shown, (one, other)) = join(
-        &rt,
-        || show_rest(&rt, &day, machine, &board, writer),
-        || watch_both(&rt, &board, first, second),
-    );
-    same("the writer", &shown?.message(), &MESSAGES)?;
-    same("the first screen", &one.is_ok(), &true)?;
-    same("the second screen", &other.is_ok(), &true)?;
-    same(
-        "the last reading",
-        &last.read(&rt, &board),
-        &after_message(MESSAGES),
-    )
+    show_and_watch(&rt, alloc, &rising_bids(alloc)?, &rising_readings(alloc)?)
+}
+
+#[test]
+fn screens_read_while_the_crossed_book_is_shown(rt: HostRuntime) -> Result<(), Fail> {
+    let alloc = rt.alloc();
+    show_and_watch(&rt, alloc, &crossed_book(alloc)?, &crossed_readings())
 }
