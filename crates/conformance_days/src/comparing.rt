@@ -50,8 +50,8 @@ fn same_orders<A: Allocator + Copy>(
     same("no order", &stock.order(u64::MAX), &None)
 }
 
-// All that the machine of a stock says.
-fn same_stock<A: Allocator + Copy>(
+/// Compares all that the machine of a stock says with what the plain machine says of that stock.
+pub fn same_stock<A: Allocator + Copy>(
     alloc: A,
     plain: &Plain<A>,
     stock: &Stock<A>,

@@ -1,10 +1,11 @@
-//! Leads each day file that is named through the plain machine, through a machine for each of its stocks, and through the
-//! parts of several numbers of workers, and compares what they say. It prints a line for each file, and ends with status 1
-//! where two differ.
+//! Leads each day file that is named through the plain machine, through a machine for each of its stocks, through the
+//! parts of several numbers of workers and through a debugger, and compares what they say. It prints a line for each file,
+//! and ends with status 1 where two differ.
 #![tactic(auto)]
 
 mod comparing;
 mod day;
+mod places;
 mod workers;
 
 use binaryfile::{Day, Feed, Limits};
@@ -29,6 +30,7 @@ fn compare_file<R: Runtime + AllocGlobal + Threads + Sync>(rt: &R, path: &str) -
     };
     let stocks = day::compare(rt.alloc(), &day)?;
     workers::compare_workers(rt, rt.alloc(), &day)?;
+    places::compare_places(rt, rt.alloc(), &day)?;
     match println!(rt; "{path}: {} messages, {stocks} stocks", day.len()) {
         Ok(()) => Ok(()),
         Err(_) => Err(Fail::new("a line can't be printed")),

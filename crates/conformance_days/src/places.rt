@@ -1,0 +1,73 @@
+//! A day at any place that a debugger goes to, beside the plain machine.
+use crate::comparing::same_stock;
+use binaryfile::Day;
+use day_core::locates;
+use debugger::Debugger;
+use itch_table::{Outcome, Plain};
+use std::alloc::Allocator;
+use std::test::Fail;
+use std::thread::Threads;
+use support::same;
+
+// How many messages of a stock are stepped at most to any place.
+const DISTANCES: [u32; 5] = [1, 2, 3, 7, 1_000];
+
+// The plain machine after the first messages of a day, and the outcome of the last of them.
+fn plain_at<A: Allocator + Copy>(
+    alloc: A,
+    day: &Day<A>,
+    n: u32,
+) -> Result<(Plain<A>, Option<Outcome>), Fail> {
+    let mut plain = Plain::new(alloc);
+    let mut outcome = None;
+    for payload in day.payloads().take(n as usize) {
+        if plain.steps() == u32::MAX {
+            return Err(Fail::new("a machine takes no more messages"));
+        }
+        outcome = Some(plain.step(payload)?);
+    }
+    Ok((plain, outcome))
+}
+
+// Goes to a place, and compares the outcome, the event and all stocks there with those of the plain machine.
+fn compare_at<A: Allocator + Copy>(
+    alloc: A,
+    day: &Day<A>,
+    debugger: &mut Debugger<'_, A>,
+    n: u32,
+    locates: &[u16],
+) -> Result<(), Fail> {
+    let (plain, outcome) = plain_at(alloc, day, n)?;
+    same("a move", &debugger.goto(alloc, n), &Ok(()))?;
+    same(
+        "a place",
+        &(debugger.position(), debugger.outcome(), debugger.event()),
+        &(n, outcome, plain.event()),
+    )?;
+    for locate in locates {
+        same_stock(alloc, &plain, &debugger.stock(alloc, *locate)?)?;
+    }
+    Ok(())
+}
+
+/// Compares a debugger with the plain machine after each message of a day of at most 100, and after every hundredth of
+/// a longer one; each place is reached from an earlier one and from a later one.
+pub fn compare_places<R: Threads + Sync, A: Allocator + Copy + Send + Sync>(
+    rt: &R,
+    alloc: A,
+    day: &Day<A>,
+) -> Result<(), Fail> {
+    let locates = locates(rt, alloc, day)?;
+    let every = if day.len() <= 100 { 1 } else { 100 };
+    for distance in DISTANCES {
+        if distance == 0 {
+            return Err(Fail::new("a track steps no message"));
+        }
+        let mut debugger = Debugger::new(alloc, day, distance)?;
+        for n in (0..=day.len()).filter(|n| n % every == 0) {
+            compare_at(alloc, day, &mut debugger, n, &locates)?;
+            compare_at(alloc, day, &mut debugger, day.len() - n, &locates)?;
+        }
+    }
+    Ok(())
+}

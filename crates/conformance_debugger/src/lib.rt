@@ -1,0 +1,11 @@
+//! A debugger: where its moves lead, where it stops, and what it keeps where memory is refused.
+#![tactic(auto)]
+
+#[cfg(test)]
+mod breakpoints;
+#[cfg(test)]
+mod days;
+#[cfg(test)]
+mod moves;
+#[cfg(test)]
+mod refusals;
