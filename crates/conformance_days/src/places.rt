@@ -64,9 +64,11 @@ pub fn compare_places<R: Threads + Sync, A: Allocator + Copy + Send + Sync>(
             return Err(Fail::new("a track steps no message"));
         }
         let mut debugger = Debugger::new(alloc, day, distance)?;
-        for n in (0..=day.len()).filter(|n| n % every == 0) {
-            compare_at(alloc, day, &mut debugger, n, &locates)?;
-            compare_at(alloc, day, &mut debugger, day.len() - n, &locates)?;
+        for n in 0..=day.len() {
+            if n % every == 0 {
+                compare_at(alloc, day, &mut debugger, n, &locates)?;
+                compare_at(alloc, day, &mut debugger, day.len() - n, &locates)?;
+            }
         }
     }
     Ok(())
