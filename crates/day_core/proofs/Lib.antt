@@ -6,7 +6,7 @@ mod Placing
 pub mod Progress
 pub mod Running
 mod Whole
-mod StocksByWorker
-mod Showing
+pub mod StocksByWorker
+pub mod Showing
 mod Turning
 mod Scheduled

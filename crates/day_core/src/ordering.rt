@@ -47,7 +47,8 @@ pub fn by_worker<T: Drop, A: Allocator + Copy>(
     values: Vec<T, A>,
 ) -> Result<Vec<Vec<T, A>, A>, AllocError>
     requires { length values.items ≡ length (locates_of_day parts.now.day) }
-    ensures { IfOk result (λ lists. (f : ℕ → T) → values.items ≡ map f (locates_of_day parts.now.day)
+    ensures long { IfOk result (λ lists. length lists.items ≡ parts.now.workers) }
+    ensures order { IfOk result (λ lists. (f : ℕ → T) → values.items ≡ map f (locates_of_day parts.now.day)
         → map (λ own. own.items) lists.items ≡ each_worker (for_own_stocks f parts.now) parts.now) }
 {
     let workers = parts.workers();

@@ -45,8 +45,12 @@ loop-locate-preserved g c =
           (here ∙ ap (λ vs. get_or vs at v) are ∙ get_or-map f locates at 0 v c.loop-locate-test.true));
     }
 
-pub returns : goal.returns
-returns g c = λ f are.
+pub returns-clause-long : goal.returns-clause-long
+returns-clause-long g c =
+    sym (length-map c.loop-locate.lists.items (λ own. own.items)) ∙ c.loop-locate.invariant.long ∙ c.workers-workers.ensures.workers
+
+pub returns-clause-order : goal.returns-clause-order
+returns-clause-order g c = λ f are.
     let locates = c.locates-locates.result.now in
     let all = take_all c.loop-locate.locate-index locates (omega arith) ∙ c.locates-locates.ensures in
     let workers = c.workers-workers.ensures.workers in

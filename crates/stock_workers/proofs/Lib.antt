@@ -1,0 +1,5 @@
+mod Crossing
+mod Dealing
+mod Finishing
+mod Joined
+mod Writing

@@ -1,0 +1,42 @@
+-- A worker with the writers of its stocks' cells. All is of this project.
+use Rattle.std.specs.Prelude.{◌≡◌, ℕ, List, Option, Some, None, map}
+use Rattle.day_core.specs.declared.merging.Piece.{Piece}
+use Rattle.day_core.specs.Owners.{progress}
+use Rattle.day_core.specs.Workers.{TakesTurn, WorkerState, worker_locates}
+use Rattle.top_cell.specs.Boards.{Place, WriterAt}
+
+-- where a worker stands, and the cells of its stocks by rising locate code
+pub record Working : Type 0 where
+  pub state : WorkerState
+  pub places : List Place
+
+-- what a writer shows: a stock of a day, and the message at which the writer stands
+pub record WriterState : Type 0 where
+  pub day : List (List ℕ)
+  pub locate : ℕ
+  pub message : ℕ
+
+abbrev pub writer_state : WriterAt → WriterState
+writer_state w = record { day = w.place.day; locate = w.place.locate; message = w.message }
+
+-- a writer for each of these stocks of a day, in their order, each at the message that is said for its stock
+abbrev pub WritersAt : List (List ℕ) → (ℕ → ℕ) → List ℕ → List WriterAt → Type 0
+WritersAt day message locates writers =
+    map writer_state writers
+    ≡ map (λ locate. record { day = day; locate = locate; message = message locate }) locates
+
+-- the writer of a worker's stock, at the last of the stock's messages that the worker has done
+abbrev pub stands : WorkerState → ℕ → WriterState
+stands s locate = record { day = s.day; locate = locate; message = progress s.day s.workers locate s.done }
+
+-- and so for each of its stocks
+abbrev pub WritersStand : WorkerState → List WriterAt → Type 0
+WritersStand s writers = map writer_state writers ≡ map (stands s) (worker_locates s)
+
+-- a turn does the worker's next message, or nothing exactly where the worker has done all of them; the cells
+-- are the same ones
+abbrev pub PublishesTurn : Working → Working → Option Piece → Type 0
+PublishesTurn old new None = TakesTurn old.state new.state None × (new.places ≡ old.places)
+PublishesTurn old new (Some piece) =
+    (place : ℕ) × TakesTurn old.state new.state (Some (record { piece = piece; place = place }))
+    × (new.places ≡ old.places)

@@ -1,0 +1,94 @@
+//! All turns of all workers of a day, by threads.
+ghost use Rattle.std.specs.Prelude.{◌≡◌, ℕ, All, IfOk};
+ghost use Rattle.std.specs.Thread.{IsSend, IsSync};
+ghost use denote.Param.Send.{Frees};
+ghost use Rattle.day_core.specs.Splitting.{Split};
+ghost use Rattle.top_cell.specs.Boards.{WriterAt};
+ghost use Rattle.stock_workers.specs.Running.{AreFinished, AreWaiting, IsFinished, IsWaiting};
+
+use crate::gate::Gate;
+use crate::worker::Worker;
+use binaryfile::Day;
+use day_core::{Parts, Piece};
+use std::alloc::{AllocError, Allocator};
+use std::collections::VecDeque;
+use std::sync::Wait;
+use std::thread::{Threads, map_vec};
+use stock_machine::Stock;
+use top_cell::{Board, TopWriter};
+
+/// A worker that hasn't started: the parts of its day, its number, and the writers of its stocks.
+#[derive(Drop)]
+pub(crate) struct Waiting<'p, A: Allocator> {
+    pub parts: &'p Parts<A>,
+    pub worker: u32,
+    pub writers: Vec<TopWriter, A>,
+}
+
+/// What one worker made of its messages: their outcomes, and the machines and the writers of its stocks after them.
+#[derive(Drop)]
+pub(crate) struct Finished<A: Allocator> {
+    pub pieces: Vec<Piece, A>,
+    pub stocks: VecDeque<Stock<A>, A>,
+    pub writers: VecDeque<TopWriter, A>,
+}
+
+// All turns of one worker.
+fn finish<R: Threads + Wait + Sync, A: Allocator + Copy, G: Gate>(
+    rt: &R,
+    alloc: A,
+    day: &Day<A>,
+    board: &Board<'_, A>,
+    gate: &G,
+    waiting: Waiting<'_, A>,
+) -> Result<Finished<A>, AllocError>
+    requires day { day.now.payloads ≡ waiting.parts.now.day }
+    requires waiting { IsWaiting waiting.parts.now board.now waiting.worker waiting.writers.items }
+    ensures { IfOk result (λ made. IsFinished waiting.entry.parts.now waiting.entry.worker
+        waiting.entry.writers.items made.pieces.items made.stocks.items made.writers.items) }
+{
+    let Waiting {
+        parts,
+        worker: number,
+        writers,
+    } = waiting;
+    let mut pieces = Vec::with_capacity(alloc, parts.own(number).len())?;
+    let mut worker = Worker::new(alloc, parts, number, writers)?;
+    while let Some(piece) = worker.turn(rt, day, board, gate)? {
+        pieces.push(piece)?;
+    }
+    let (stocks, writers) = worker.into_stocks();
+    Ok(Finished {
+        pieces,
+        stocks,
+        writers,
+    })
+}
+
+/// All turns of all workers. The list of the workers is forked over its halves, down to one worker a thread; where no
+/// thread can be made, the half is done by the thread that asked for one.
+pub(crate) fn finish_all<R: Threads + Wait + Sync, A: Allocator + Copy + Send + Sync, G: Gate>(
+    rt: &R,
+    alloc: A,
+    day: &Day<A>,
+    board: &Board<'_, A>,
+    gate: &G,
+    all: Vec<Waiting<'_, A>, A>,
+) -> Result<Vec<Result<Finished<A>, AllocError>, A>, AllocError>
+    requires { All (λ w. IsWaiting w.parts.now board.now w.worker w.writers.items
+        × (day.now.payloads ≡ w.parts.now.day)) all.items }
+    ensures { IfOk result (λ made. (split : Split) (writer : ℕ → WriterAt)
+        → AreWaiting split writer all.entry.items → AreFinished split writer made.items) }
+{
+    map_vec(
+        rt,
+        all,
+        &|waiting: Waiting<'_, A>| -> Result<Finished<A>, AllocError>
+            requires { IsSync R.row × IsSync G.row × IsSend A.row × IsSync A.row
+                × Frees A.Allocator A.dealloc_token × (day.now.payloads ≡ waiting.parts.now.day)
+                × IsWaiting waiting.parts.now board.now waiting.worker waiting.writers.items }
+            ensures { IfOk result (λ made. IsFinished waiting.entry.parts.now waiting.entry.worker
+                waiting.entry.writers.items made.pieces.items made.stocks.items made.writers.items) }
+        { finish(rt, alloc, day, board, gate, waiting) },
+    )
+}

@@ -1,0 +1,129 @@
+//! One worker with the writers of its stocks' cells.
+ghost use Rattle.std.specs.Prelude.{◌≡◌, ◌<◌, ℕ, All, IfOk, MatchOption, OnErr, map};
+ghost use Rattle.std.specs.List.{Contains};
+ghost use Rattle.day_core.specs.Owners.{own_locates};
+ghost use Rattle.day_core.specs.Workers.{first_state, machine_at, worker_locates};
+ghost use Rattle.top_cell.specs.Boards.{IsOn};
+ghost use Rattle.stock_workers.specs.Working.{PublishesTurn, WritersAt, WritersStand, stands, writer_state};
+
+use crate::gate::Gate;
+use binaryfile::Day;
+use day_core::{Parts, Piece, Runner};
+use std::alloc::{AllocError, Allocator};
+use std::collections::VecDeque;
+use std::marker::Model;
+use std::sync::Wait;
+use std::thread::Threads;
+use stock_machine::Stock;
+use top_cell::{Board, TopWriter};
+
+/// One worker of a day that is split, with the writers of its stocks' cells: whatever it has done is shown there.
+///
+/// It is seen as where it stands in the day, and the cells of its stocks. All is of this project.
+#[derive(Drop)]
+pub struct Worker<A: Allocator> {
+    runner: Runner<A>,
+    writers: Vec<TopWriter, A>,
+}
+
+impl<A: Allocator> Model for Worker<A> {
+    ghost use Rattle.std.specs.Prelude.{map};
+    ghost use Rattle.stock_workers.specs.Working.{Working, WritersStand};
+
+    ghost Value = { Working };
+
+    ghost view = { λ w. record { state = w.runner; places = map (λ t. t.place) w.writers.items } };
+
+    ghost invariant = { λ w. WritersStand w.runner w.writers.items };
+}
+
+impl<A: Allocator + Copy> Worker<A> {
+    /// A worker that has done nothing yet. The caller hands a worker below `parts.workers()`, and the writers of its
+    /// stocks, by rising locate code, none of which has published anything.
+    ///
+    /// An error says that memory was refused; the writers are gone.
+    pub fn new(
+        alloc: A,
+        parts: &Parts<A>,
+        worker: u32,
+        writers: Vec<TopWriter, A>,
+    ) -> Result<Worker<A>, AllocError>
+        requires worker { worker < parts.now.workers }
+        requires writers { WritersAt parts.now.day (λ _. 0)
+            (own_locates parts.now.workers worker parts.now.day) writers.items }
+        ensures { IfOk result (λ made. made
+            ≡ record { state = first_state parts.now worker; places = map (λ w. w.place) writers.items }) }
+    {
+        let runner = Runner::new(alloc, parts, worker)?;
+        Ok(Worker { runner, writers })
+    }
+
+    /// Waits at the gate with the worker's next message, does it on the machine of its stock, publishes the best bid
+    /// and ask that it leaves, and answers what became of it; none, with nothing changed, exactly where the worker has
+    /// done all of them. Each message is published, also where the best bid and ask stay as they were. The caller hands
+    /// the day that was split and the writers' board.
+    ///
+    /// An error says that memory was refused: nothing was published and the worker is as it was, so that its next turn
+    /// comes to the gate with the same message again. It may wait at the gate, and for a read of the stock's cell.
+    pub fn turn<R: Threads + Wait + Sync, G: Gate>(
+        &mut self,
+        rt: &R,
+        day: &Day<A>,
+        board: &Board<'_, A>,
+        gate: &G,
+    ) -> Result<Option<Piece>, AllocError>
+        requires day { day.now.payloads ≡ self.old.state.day }
+        requires board { All (IsOn board.now) self.old.places }
+        ensures turned { IfOk result (PublishesTurn self.old self.new) }
+        ensures err { OnErr result (self.new ≡ self.old) }
+    {
+        if let Some(message) = self.runner.next_message() {
+            gate.at(rt, self.runner.worker(), message);
+        }
+        let Some(turned) = self.runner.turn(day)? else {
+            return Ok(None);
+        };
+        let best = self.runner.stock_at(turned.place).top();
+        self.writers[turned.place].publish(rt, board, turned.piece.message, best);
+        Ok(Some(turned.piece))
+    }
+}
+
+impl<A: Allocator> Worker<A> {
+    /// The machine of one of the worker's stocks, after the last of its messages that the worker has done; none where
+    /// it isn't one of them.
+    pub fn stock(&self, locate: u16) -> Option<&Stock<A>>
+        ensures { MatchOption result (¬ Contains (worker_locates self.now.state) locate)
+            (λ stock. stock.now ≡ machine_at self.now.state locate) }
+    {
+        match self.runner.place_of(locate) {
+            Some(place) => Some(self.runner.stock_at(place)),
+            None => None,
+        }
+    }
+
+    /// The writer of one of the worker's stocks, at the last of its messages that the worker has done; none where it
+    /// isn't one of them.
+    pub fn writer(&self, locate: u16) -> Option<&TopWriter>
+        ensures { MatchOption result (¬ Contains (worker_locates self.now.state) locate)
+            (λ writer. writer_state writer.now ≡ stands self.now.state locate) }
+    {
+        match self.runner.place_of(locate) {
+            Some(place) => Some(&self.writers[place]),
+            None => None,
+        }
+    }
+
+    // The machines of its stocks and their writers, by rising locate code.
+    pub(crate) fn into_stocks(self) -> (VecDeque<Stock<A>, A>, VecDeque<TopWriter, A>)
+        ensures stocks { result.0.items ≡ map (machine_at self.state) (worker_locates self.state) }
+        ensures writers { WritersStand self.state result.1.items }
+        ensures places { map (λ w. w.place) result.1.items ≡ self.places }
+    {
+        let Worker { runner, writers } = self;
+        (
+            VecDeque::from_vec(runner.into_stocks()),
+            VecDeque::from_vec(writers),
+        )
+    }
+}
