@@ -1,5 +1,5 @@
 //! A position in a day, and breakpoints.
-ghost use Rattle.std.specs.Prelude.{◌≡◌, ◌≢◌, ◌↔◌, ◌+◌, ◌-◌, ◌<◌, ◌≤◌, Contains, Err, IfNone, IfOk, IfSome, IsErrOf, None, OnErr, OnOk, Some, length, slice_get};
+ghost use Rattle.std.specs.Prelude.{◌≡◌, ◌≢◌, ◌↔◌, ◌+◌, ◌-◌, ◌<◌, ◌≤◌, Contains, Err, IfNone, IfOk, IfSome, IsErrOf, None, OnErr, OnOk, Some, length, slice_get, ℕ};
 ghost use Rattle.itch_table.specs.After.{after};
 ghost use Rattle.day_core.specs.Owners.{machine_of};
 ghost use Rattle.debugger.specs.Finding.{IsOnward, IsRearward};
@@ -209,6 +209,8 @@ impl<'d, A: Allocator + Copy> Debugger<'d, A> {
     /// look for a stop by halves. An error says that memory was refused.
     pub fn add_break(&mut self, alloc: A, breakpoint: Break) -> Result<usize, AllocError>
         ensures place { IfOk result (λ place. slice_get self.new.breaks place ≡ Some breakpoint) }
+        ensures first { IfOk result (λ place. (earlier : ℕ) → earlier < place →
+            slice_get self.new.breaks earlier ≢ Some breakpoint) }
         ensures there { OnOk result (Contains self.old.breaks breakpoint → self.new ≡ self.old) }
         ensures new { OnOk result (¬ Contains self.old.breaks breakpoint →
             self.new ≡ with_break self.old breakpoint) }
