@@ -25,3 +25,4 @@ pub use assembler::{AsmFault, assemble};
 pub use laws::{one_first_fault, one_meaning};
 pub use numbers::number_of_text;
 pub use quoted::denotes_itself;
+pub use words::{only_word, split_word};
