@@ -230,6 +230,13 @@ impl<'d, A: Allocator + Copy> Debugger<'d, A> {
 }
 
 impl<'d, A: Allocator> Debugger<'d, A> {
+    /// How many messages the day has, which is the last position.
+    pub fn last(&self) -> u32
+        ensures { result ≡ length self.now.day }
+    {
+        self.day.len()
+    }
+
     /// The position: how many messages of the day come before what is shown.
     pub fn position(&self) -> u32
         ensures position { result ≡ self.now.position }

@@ -1,15 +1,14 @@
 -- The answer of each command. The lines are of this project; each ends with a line feed, and its numbers are decimal.
-use Rattle.std.specs.Prelude.{ℕ, ◌+◌, ◌-◌, ◌==◌, ◌&&◌, nat_le, Bool, true, false, if◌then◌else◌, zero, suc, List, [], ◌∷◌, ◌++◌, length, filter, position, codes, decimal, slice_get, Option, Some, None}
+use Rattle.std.specs.Prelude.{◌≡◌, ℕ, ◌+◌, ◌-◌, ◌==◌, ◌&&◌, nat_le, Bool, true, false, if◌then◌else◌, zero, suc, List, [], ◌∷◌, ◌++◌, length, filter, position, codes, decimal, slice_get, Option, Some, None, Result, OnOk}
+use Rattle.std.specs.declared.vec.Vec.{Vec}
 use Rattle.std.specs.List.{flat_map, range_with_len}
 use Rattle.itch_layouts.specs.declared.message.Directory.{Directory}
 use Rattle.itch_table.specs.declared.outcome.Outcome.{Outcome}
 use Rattle.itch_table.specs.declared.outcome.Outcome.TheVariants.{Applied, Passed, Refused}
 use Rattle.itch_table.specs.declared.order.Order.{Order}
-use Rattle.itch_table.specs.declared.order.Level.{Level}
 use Rattle.itch_table.specs.declared.order.Side.{Side}
 use Rattle.itch_table.specs.declared.order.Side.TheVariants.{Buy, Sell}
 use Rattle.itch_table.specs.declared.status.Status.{Status}
-use Rattle.itch_table.specs.declared.status.Totals.{Totals}
 use Rattle.itch_table.specs.After.{after}
 use Rattle.itch_table.specs.Fault.{number_of}
 use Rattle.itch_table.specs.Levels.{levels, same_side}
@@ -21,6 +20,8 @@ use Rattle.debugger.specs.Sessions.{Session, moved_to, outcome_at, with_break, w
 use Rattle.debugger.specs.Stops.{hit, stops_at}
 use Rattle.debugger.specs.declared.breakpoint.Break.{Break}
 use Rattle.debugger.specs.declared.breakpoint.Break.TheVariants.{Price, Reference, Time}
+use Rattle.debugger.specs.declared.debugging.DebugFault.{DebugFault}
+use Rattle.debugger.specs.declared.debugging.DebugFault.TheVariants.{Memory, PastEnd, BeforeStart}
 use Rattle.itch_debug.specs.declared.command.Command.{Command}
 use Rattle.itch_debug.specs.declared.command.Command.TheVariants.{Blank, Goto, Step, Back, Onward, Rearward, AddBreak, ListBreaks, RemoveBreak, Event, Show, Quit}
 
@@ -59,16 +60,19 @@ break_text (Reference locate reference) =
     codes "reference " ++ decimal locate ++ codes " " ++ decimal reference
 break_text (Time time) = codes "time " ++ decimal time
 
--- the lines of these breakpoints, whose numbers go on after this one
+-- a breakpoint with its number
+abbrev pub numbered_break : ℕ → Break → List ℕ
+numbered_break number b = decimal number ++ codes " " ++ break_text b ++ codes "\n"
+
+-- the lines of these breakpoints, numbered from this number on
 abbrev pub break_lines : ℕ → List Break → List ℕ
-break_lines before [] = []
-break_lines before (b ∷ bs) =
-    (decimal (before + 1) ++ codes " " ++ break_text b ++ codes "\n") ++ break_lines (before + 1) bs
+break_lines number [] = []
+break_lines number (b ∷ bs) = numbered_break number b ++ break_lines (number + 1) bs
 
 -- the lines of all breakpoints
 abbrev pub breaks_text : List Break → List ℕ
 breaks_text [] = codes "no breaks\n"
-breaks_text (b ∷ bs) = break_lines 0 (b ∷ bs)
+breaks_text (b ∷ bs) = break_lines 1 (b ∷ bs)
 
 -- the line of the last event
 abbrev pub event_line : Option ℕ → List ℕ
@@ -88,23 +92,25 @@ order_line order =
     ++ codes " " ++ decimal order.shares ++ codes " " ++ decimal order.price
     ++ codes " " ++ attribution_text order.attribution ++ codes "\n"
 
+-- the levels of a stock: its bids and its asks
+abbrev pub sides_of : World → ℕ → List ℕ
+sides_of w locate =
+    flat_map bid_line (levels (orders_of w locate) Buy) ++ flat_map ask_line (levels (orders_of w locate) Sell)
+
 -- the levels, the orders and the totals of a stock
-abbrev pub book_text : List Level → List Level → List Order → Totals → List ℕ
-book_text bids asks orders sums =
-    flat_map bid_line bids ++ flat_map ask_line asks ++ flat_map order_line orders ++ trades_line sums
+abbrev pub book_of : World → ℕ → List ℕ
+book_of w locate =
+    sides_of w locate ++ flat_map order_line (orders_of w locate) ++ trades_line (totals w locate)
 
 -- a stock with this directory row, or that there is none
 abbrev pub listed_text : ℕ → Option Directory → Status → List ℕ → List ℕ
 listed_text locate None known book = codes "no stock " ++ decimal locate ++ codes "\n"
 listed_text locate (Some row) known book = stock_line locate row.stock known.trading known.regsho ++ book
 
--- a stock, as the world has it
+-- the lines of a stock, as the world has it
 abbrev pub stock_text : World → ℕ → List ℕ
 stock_text w locate =
-    let orders = orders_of w locate in
-    let known = status w locate in
-    listed_text locate known.directory known
-    (book_text (levels orders Buy) (levels orders Sell) orders (totals w locate))
+    let known = status w locate in listed_text locate known.directory known (book_of w locate)
 
 -- ---- breakpoints
 
@@ -123,28 +129,46 @@ place_of breaks b = position (same_break b) breaks
 
 -- ---- answers
 
--- what is written for a command, and the session after it, none where it is over
+-- why a move is refused; where memory was, nothing is written
+abbrev pub refusal_text : DebugFault → List ℕ
+refusal_text Memory = []
+refusal_text PastEnd = codes "? past end\n"
+refusal_text BeforeStart = codes "? before start\n"
+
+-- What is written for a command, and the session after it, none where it is over
 pub record Reply : Type 0 where
   pub text : List ℕ
   pub next : Option Session
+
+-- the text follows what was there, and this session is the one after the command
+abbrev pub Replies : {A T E : Type 0} → Vec ℕ A → Vec ℕ A → Reply → Option Session → Result T E → Type 0
+Replies old new reply next result = OnOk result ((new.items ≡ old.items ++ reply.text) × (reply.next ≡ next))
 
 -- a text alone
 abbrev pub says : Session → List ℕ → Reply
 says s text = record { text = text; next = Some s }
 
 abbrev pub past_end : Session → Reply
-past_end s = says s (codes "? past end\n")
+past_end s = says s (refusal_text PastEnd)
 
 abbrev pub before_start : Session → Reply
-before_start s = says s (codes "? before start\n")
+before_start s = says s (refusal_text BeforeStart)
+
+-- the line of a session's position
+abbrev pub stands : Session → Reply
+stands s = record { text = position_text s.day s.position ++ codes "\n"; next = Some s }
 
 -- a move to a position
 abbrev pub moves : Session → ℕ → Reply
-moves s n = record { text = position_text s.day n ++ codes "\n"; next = Some (moved_to s n) }
+moves s n = stands (moved_to s n)
 
--- a move to where a search came to, with the place of the breakpoint that stops there
+-- the line of a session's position, which a search came to, with the place of the breakpoint that stops there
+abbrev pub stop_text : Session → Option ℕ → List ℕ
+stop_text s place = position_text s.day s.position ++ hit_text place ++ codes "\n"
+
+-- a move to where a search came to
 abbrev pub finds : Session → ℕ → Option ℕ → Reply
-finds s n place = record { text = position_text s.day n ++ hit_text place ++ codes "\n"; next = Some (moved_to s n) }
+finds s n place = record { text = stop_text (moved_to s n) place; next = Some (moved_to s n) }
 
 abbrev pub goto_reply : Session → ℕ → Reply
 goto_reply s n = if nat_le n (length s.day) then moves s n else past_end s
