@@ -1,5 +1,5 @@
 //! Breakpoints, each with the messages at which it stops.
-ghost use Rattle.std.specs.Prelude.{◌≡◌, ◌≤◌, ◌<◌, ◌++◌, ◌∷◌, [], ℕ, IfNone, IfOk, IfSome, OnErr, OnOk, Contains, None, Some, length, map, slice_get};
+ghost use Rattle.std.specs.Prelude.{◌≡◌, ◌≢◌, ◌≤◌, ◌<◌, ◌++◌, ◌∷◌, [], ℕ, IfNone, IfOk, IfSome, OnErr, OnOk, Contains, None, Some, length, map, slice_get};
 ghost use Rattle.std.specs.List.{remove};
 ghost use Rattle.debugger.specs.Finding.{IsOnward, IsRearward};
 ghost use Rattle.debugger.specs.Stops.{hit, stops_at, stops_of};
@@ -38,6 +38,8 @@ impl<'d, A: Allocator> Model for Breakpoints<'d, A> {
 // The place of a breakpoint.
 fn place_of(breaks: &[Break], breakpoint: &Break) -> Option<usize>
     ensures found { IfSome result (λ place. slice_get breaks.now place ≡ Some breakpoint.now) }
+    ensures first { IfSome result (λ place. (earlier : ℕ) → earlier < place →
+        slice_get breaks.now earlier ≢ Some breakpoint.now) }
     ensures there { IfSome result (λ _. Contains breaks.now breakpoint.now) }
     ensures none { IfNone result (¬ Contains breaks.now breakpoint.now) }
 {
@@ -121,6 +123,8 @@ impl<'d, A: Allocator + Copy> Breakpoints<'d, A> {
     fn add_new(&mut self, alloc: A, breakpoint: Break) -> Result<usize, AllocError>
         requires { ¬ Contains self.old.breaks breakpoint }
         ensures place { IfOk result (λ place. slice_get self.new.breaks place ≡ Some breakpoint) }
+        ensures first { IfOk result (λ place. (earlier : ℕ) → earlier < place →
+            slice_get self.new.breaks earlier ≢ Some breakpoint) }
         ensures added { OnOk result (self.new.breaks ≡ self.old.breaks ++ breakpoint ∷ []) }
         ensures day { self.new.day ≡ self.old.day }
         ensures err { OnErr result (self.new ≡ self.old) }
@@ -136,6 +140,8 @@ impl<'d, A: Allocator + Copy> Breakpoints<'d, A> {
     /// memory was refused, and leaves all as it was.
     pub fn add(&mut self, alloc: A, breakpoint: Break) -> Result<usize, AllocError>
         ensures place { IfOk result (λ place. slice_get self.new.breaks place ≡ Some breakpoint) }
+        ensures first { IfOk result (λ place. (earlier : ℕ) → earlier < place →
+            slice_get self.new.breaks earlier ≢ Some breakpoint) }
         ensures there { OnOk result (Contains self.old.breaks breakpoint → self.new ≡ self.old) }
         ensures new { OnOk result (¬ Contains self.old.breaks breakpoint →
             self.new.breaks ≡ self.old.breaks ++ breakpoint ∷ []) }

@@ -1,5 +1,5 @@
 //! A position in a day, and breakpoints.
-ghost use Rattle.std.specs.Prelude.{◌≡◌, ◌≢◌, ◌↔◌, ◌+◌, ◌-◌, ◌<◌, ◌≤◌, Contains, Err, IfNone, IfOk, IfSome, IsErrOf, None, OnErr, OnOk, Some, length, slice_get};
+ghost use Rattle.std.specs.Prelude.{◌≡◌, ◌≢◌, ◌↔◌, ◌+◌, ◌-◌, ◌<◌, ◌≤◌, Contains, Err, IfNone, IfOk, IfSome, IsErrOf, None, OnErr, OnOk, Some, length, slice_get, ℕ};
 ghost use Rattle.itch_table.specs.After.{after};
 ghost use Rattle.day_core.specs.Owners.{machine_of};
 ghost use Rattle.debugger.specs.Finding.{IsOnward, IsRearward};
@@ -209,6 +209,8 @@ impl<'d, A: Allocator + Copy> Debugger<'d, A> {
     /// look for a stop by halves. An error says that memory was refused.
     pub fn add_break(&mut self, alloc: A, breakpoint: Break) -> Result<usize, AllocError>
         ensures place { IfOk result (λ place. slice_get self.new.breaks place ≡ Some breakpoint) }
+        ensures first { IfOk result (λ place. (earlier : ℕ) → earlier < place →
+            slice_get self.new.breaks earlier ≢ Some breakpoint) }
         ensures there { OnOk result (Contains self.old.breaks breakpoint → self.new ≡ self.old) }
         ensures new { OnOk result (¬ Contains self.old.breaks breakpoint →
             self.new ≡ with_break self.old breakpoint) }
@@ -228,6 +230,13 @@ impl<'d, A: Allocator + Copy> Debugger<'d, A> {
 }
 
 impl<'d, A: Allocator> Debugger<'d, A> {
+    /// How many messages the day has, which is the last position.
+    pub fn last(&self) -> u32
+        ensures { result ≡ length self.now.day }
+    {
+        self.day.len()
+    }
+
     /// The position: how many messages of the day come before what is shown.
     pub fn position(&self) -> u32
         ensures position { result ≡ self.now.position }

@@ -10,7 +10,8 @@
 //! | [`asm_run`] | a text | the file that the text denotes |
 //!
 //! All meet one contract, `Runs`, which says what was read, written and answered for each result. [`limits`] has the
-//! greatest inputs that they take, and [`status`] the exit status for what an engine answered.
+//! greatest inputs that they take, and [`status`] the exit status for what an engine answered. The functions that begin
+//! with `put_` add the lines of a report that other answers have too.
 #![tactic(auto)]
 
 mod engines;
@@ -26,3 +27,4 @@ pub use engines::dis::dis_run;
 pub use engines::replay::replay_run;
 pub use exit_status::status;
 pub use fault::ProgFault;
+pub use report::{put_count, put_levels, put_quoted_byte, put_stock_line, put_trades};

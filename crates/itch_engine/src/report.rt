@@ -4,3 +4,7 @@ mod messages;
 mod numbers;
 mod quoted_bytes;
 mod stock;
+
+pub use numbers::put_count;
+pub use quoted_bytes::put_quoted_byte;
+pub use stock::{put_levels, put_stock_line, put_trades};

@@ -23,4 +23,6 @@ mod words;
 
 pub use assembler::{AsmFault, assemble};
 pub use laws::{one_first_fault, one_meaning};
+pub use numbers::number_of_text;
 pub use quoted::denotes_itself;
+pub use words::{only_word, split_word};

@@ -46,9 +46,10 @@ fn word_length(line: &[u8]) -> usize
     line.len()
 }
 
-/// The first word of a line and what follows it, or `None` where the line has no word.
+/// The first word of a line and what follows it, or `None` where the line has no word. The form of a line is of this
+/// project.
 #[tactic(auto, using(crate::proofs::FirstWord::splitting))]
-pub(crate) fn split_word(line: &[u8]) -> Option<(&[u8], &[u8])>
+pub fn split_word(line: &[u8]) -> Option<(&[u8], &[u8])>
     ensures { MatchOption result
         (words line.now ≡ [])
         (λ parts. words line.now ≡ parts.0.now ∷ words parts.1.now) }
@@ -61,8 +62,8 @@ pub(crate) fn split_word(line: &[u8]) -> Option<(&[u8], &[u8])>
     Some(line.split_at(length))
 }
 
-/// The only word of a line, or `None` where it has none or more than one.
-pub(crate) fn only_word(line: &[u8]) -> Option<&[u8]>
+/// The only word of a line, or `None` where it has none or more than one. The form of a line is of this project.
+pub fn only_word(line: &[u8]) -> Option<&[u8]>
     ensures { MatchOption result
         (length (words line.now) ≢ 1)
         (λ word. words line.now ≡ word.now ∷ []) }

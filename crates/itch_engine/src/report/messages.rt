@@ -4,7 +4,7 @@ ghost use Rattle.byte_strings.specs.Extending.{Extends};
 ghost use Rattle.itch_engine.specs.Report.{refused_line, refused_lines, counts, mark, summary_line, is_applied, is_passed, is_refused};
 
 use crate::report::numbers::put_count;
-use crate::report::quoted_bytes::put_byte;
+use crate::report::quoted_bytes::put_quoted_byte;
 use itch_table::Outcome;
 use std::alloc::{AllocError, Allocator};
 
@@ -105,7 +105,7 @@ pub(crate) fn put_summary<A: Allocator>(
     put_mark(text, marked)?;
     put_count(text, b" tail ", tail_length)?;
     text.extend_from_slice(b" event ")?;
-    put_byte(text, event)?;
+    put_quoted_byte(text, event)?;
     text.push(b'\n')?;
     Ok(())
 }

@@ -15,8 +15,10 @@ fn put_number<N: itoa::Integer, A: Allocator>(
     text.extend_from_slice(buffer.format(number).as_bytes())
 }
 
-/// Adds a word, with the spaces that belong to it, followed by a number in decimal digits.
-pub(crate) fn put_count<N: itoa::Integer, A: Allocator>(
+/// Adds a word, with the spaces that belong to it, followed by a number in decimal digits. The form is of this project.
+///
+/// An error says that memory was refused; the text may then have a part of this.
+pub fn put_count<N: itoa::Integer, A: Allocator>(
     text: &mut Vec<u8, A>,
     word: &[u8],
     number: N,

@@ -5,7 +5,7 @@ ghost use Rattle.byte_strings.specs.Extending.{Extends};
 ghost use Rattle.itch_engine.specs.Report.{trading_words, stock_line, level_line, bid_line, ask_line, trades_line, book_lines, lines_of_stock};
 
 use crate::report::numbers::put_count;
-use crate::report::quoted_bytes::put_byte;
+use crate::report::quoted_bytes::put_quoted_byte;
 use itch_print::put_quoted;
 use itch_table::{Level, Status, Totals, Trading};
 use std::alloc::{AllocError, Allocator};
@@ -26,8 +26,11 @@ fn put_trading<A: Allocator>(
     put_quoted(text, &trading.reason)
 }
 
-// Adds the first line of a stock: its locate code, its symbol, its trading state and its short sale action.
-fn put_stock_line<A: Allocator>(
+/// Adds the first line of a stock: its locate code, its symbol, its trading state and its short sale action, as reports
+/// have it. The line is of this project.
+///
+/// An error says that memory was refused; the text may then have a part of the line.
+pub fn put_stock_line<A: Allocator>(
     text: &mut Vec<u8, A>,
     locate: u16,
     stock: [u8; 8],
@@ -41,7 +44,7 @@ fn put_stock_line<A: Allocator>(
     put_quoted(text, &stock)?;
     put_trading(text, trading)?;
     text.extend_from_slice(b" regsho ")?;
-    put_byte(text, regsho)?;
+    put_quoted_byte(text, regsho)?;
     text.push(b'\n')?;
     Ok(())
 }
@@ -60,8 +63,11 @@ fn put_level<A: Allocator>(
     Ok(())
 }
 
-// Adds the lines of one side's levels.
-fn put_levels<A: Allocator>(
+/// Adds the lines of one side's levels, each with the word for the side, as reports have them. The lines are of this
+/// project.
+///
+/// An error says that memory was refused; the text may then have a part of the lines.
+pub fn put_levels<A: Allocator>(
     text: &mut Vec<u8, A>,
     side: &[u8],
     levels: &[Level],
@@ -74,8 +80,10 @@ fn put_levels<A: Allocator>(
     Ok(())
 }
 
-// Adds the line of the sums over a stock's trades.
-fn put_trades<A: Allocator>(text: &mut Vec<u8, A>, totals: Totals) -> Result<(), AllocError>
+/// Adds the line of the sums over a stock's trades, as reports have it. The line is of this project.
+///
+/// An error says that memory was refused; the text may then have a part of the line.
+pub fn put_trades<A: Allocator>(text: &mut Vec<u8, A>, totals: Totals) -> Result<(), AllocError>
     ensures { Extends text.old text.new (trades_line totals) result }
 {
     put_count(text, b"trades ", totals.trades)?;

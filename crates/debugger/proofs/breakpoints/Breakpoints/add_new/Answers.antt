@@ -1,5 +1,7 @@
-use Rattle.std.proofs.Common.{◌≡◌, ◌++◌, ◌∷◌, [], List, true, ap, map, subst, sym, ◌∙◌, rules}
-use Rattle.std.specs.Prelude.{Contains, if◌then◌else◌, is_ok}
+use Rattle.std.proofs.Common.{◌≡◌, ◌<◌, ◌++◌, ◌∷◌, [], ℕ, List, true, length, ap, arith, map, subst, sym, ◌∙◌, rules, length-append}
+use Rattle.std.specs.Prelude.{Contains, Some, if◌then◌else◌, is_ok, slice_get}
+use Rattle.std.proofs.Math.ListN.{get_or-append}
+use Rattle.std.proofs.lemmas.Option.{get_or_from_slice_get, slice_get_within}
 use Rattle.std.proofs.lemmas.Bool.{cases_Bool}
 use Rattle.std.proofs.Common.{inl, inr}
 use Rattle.std.specs.List.{list_any}
@@ -41,3 +43,17 @@ returns-clause-added g c =
     let breaks = ap (λ (m : Marked). m.breaks) c.self.view_is in
     goes_last c.self.inside.breaks.keys _ _ c.args.breakpoint breaks c.requires c.in_ok-place.ensures.keys
     ∙ ap (λ ks. ks ++ c.args.breakpoint ∷ []) breaks
+
+-- where a breakpoint that isn't there goes last, no earlier place has it
+no_earlier : (breaks new : List Break) (k : Break) → ¬ Contains breaks k → new ≡ breaks ++ k ∷ [] → (place : ℕ) → slice_get new place ≡ Some k → (earlier : ℕ) → earlier < place → slice_get new earlier ≡ Some k → ⊥
+no_earlier breaks new k absent is place at earlier less there =
+    let last : place < length (breaks ++ k ∷ []) = slice_get_within (breaks ++ k ∷ []) place k (subst (λ (ks : List Break). slice_get ks place ≡ Some k) is at) in
+    let within : earlier < length breaks = omega (arith, last, less, length-append breaks (k ∷ [])) in
+    absent (earlier, within, sym (get_or-append breaks (k ∷ []) k earlier within) ∙ get_or_from_slice_get (breaks ++ k ∷ []) earlier k k (subst (λ (ks : List Break). slice_get ks earlier ≡ Some k) is there))
+
+pub returns-clause-first : goal.returns-clause-first
+returns-clause-first g c =
+    let breaks = ap (λ (m : Marked). m.breaks) c.self.view_is in
+    let added = goes_last c.self.inside.breaks.keys _ _ c.args.breakpoint breaks c.requires c.in_ok-place.ensures.keys in
+    let absent : ¬ Contains c.self.inside.breaks.keys c.args.breakpoint = λ there. c.requires (subst (λ (ks : List Break). Contains ks c.args.breakpoint) breaks there) in
+    no_earlier c.self.inside.breaks.keys c.insert_full.new.self.keys c.args.breakpoint absent added c.in_ok-place.place (search rules)

@@ -1,0 +1,202 @@
+-- Which replies the searches have, and a breakpoint that is added.
+use Rattle.std.proofs.Common.{◌≡◌, ◌≢◌, inl, inr, ℕ, zero, suc, ◌+◌, ◌-◌, ◌<◌, ◌≤◌, ◌==◌, ◌++◌, ◌∷◌, [], List, Bool, true, false, length, Option, Some, None, refl, sym, ap, subst, ◌∙◌, arith, ne_eqb, filter, cond, append-nil, add-one, get_or, eqb-true, eq-eqb, length-append, lt-ltb, ltb, ◌&&◌}
+use Rattle.std.specs.List.{position, position_or_len}
+use Rattle.std.proofs.lemmas.List.Sums.{fails_before_first}
+use Rattle.itch_table.specs.declared.order.Side.{Side}
+use Rattle.itch_table.specs.declared.order.Side.TheVariants.{Buy, Sell}
+use Rattle.itch_table.specs.Levels.{same_side}
+use Rattle.debugger.specs.declared.breakpoint.Break.TheVariants.{Price, Reference, Time}
+use Rattle.std.specs.Prelude.{Contains, slice_get, Result, Ok, Err, OnOk}
+use Rattle.std.proofs.Math.ListN.{get_or-append}
+use Rattle.std.specs.List.{range_with_len}
+use Rattle.std.proofs.lemmas.Bool.{cases_Bool, cases_lt, false≢true, true≢false}
+use Rattle.std.proofs.lemmas.Option.{get_or_from_slice_get, slice_get_within, slice_get-get_or}
+use Rattle.std.proofs.lemmas.List.Quantifiers.{position-Some}
+use Rattle.day_core.specs.Owners.{last_or}
+use Rattle.day_core.proofs.Progress.{last_push}
+use Rattle.day_core.proofs.Kept.{kept_more}
+use Rattle.debugger.specs.Finding.{IsOnward, IsRearward}
+use Rattle.debugger.specs.Sessions.{Session, moved_to, with_break}
+use Rattle.debugger.specs.Stops.{hit, stops_at}
+use Rattle.debugger.specs.declared.breakpoint.Break.{Break}
+use Rattle.itch_debug.specs.Answering.{Reply, first_or, add_reply, added_at, break_line, hit_at, next_stop, onward_reply, place_of, previous_stop, rearward_reply, same_break, stop_text}
+
+-- ---- searches
+
+-- the first of some numbers that passes
+found_first : (p : ℕ → Bool) (n a at other : ℕ) → a ≤ at → at < a + n → ((k : ℕ) → a ≤ k → k < at → p k ≡ false) → p at ≡ true → first_or other (filter p (range_with_len a n)) ≡ at
+found_first p zero a at other low high fails passes = absurd (omega arith)
+found_first p (suc n) a at other low high fails passes = elim (cases_lt a at) [
+  | inl less ↦ rw (fails a (omega arith) less) (found_first p n (a + 1) at other (omega arith) (omega arith) (λ k l h. fails k (omega arith) h) passes)
+  | inr not_less ↦
+      let same : a ≡ at = omega arith in
+      let here : p a ≡ true = ap p same ∙ passes in
+      rw here same
+]
+
+found_none : (p : ℕ → Bool) (n a other : ℕ) → ((k : ℕ) → a ≤ k → k < a + n → p k ≡ false) → first_or other (filter p (range_with_len a n)) ≡ other
+found_none p zero a other fails = refl
+found_none p (suc n) a other fails = rw (fails a (omega arith) (omega arith)) (found_none p n (a + 1) other (λ k l h. fails k (omega arith) (omega arith)))
+
+-- the next stop is the one that a search came to
+onward_at : (p : ℕ → Bool) (from last at : ℕ) → IsOnward p from last at → first_or last (filter p (range_with_len (from + 1) (last - from))) ≡ at
+onward_at p from last at h =
+    let later = h.later in
+    let within = h.within in
+    elim (cases_lt at last) [
+      | inl less ↦ found_first p (last - from) (from + 1) at last (omega arith) (omega arith) (λ k l g. h.between k (omega arith) g) (h.stops less)
+      | inr not_less ↦
+          let ends : at ≡ last = omega arith in
+          elim (cases_Bool (p at)) [
+            | inl on ↦ found_first p (last - from) (from + 1) at last (omega arith) (omega arith) (λ k l g. h.between k (omega arith) g) on
+            | inr off ↦ found_none p (last - from) (from + 1) last (λ k l g. elim (cases_lt k at) [
+              | inl before ↦ h.between k (omega arith) before
+              | inr here ↦ let same : k ≡ at = omega arith in ap p same ∙ off
+            ]) ∙ sym ends
+          ]
+    ]
+
+-- the last of the numbers from 1 that passes
+found_last : (p : ℕ → Bool) (n at : ℕ) → at ≤ n → ((k : ℕ) → at < k → k ≤ n → p k ≡ false) → (0 < at → p at ≡ true) → last_or 0 (filter p (range_with_len 1 n)) ≡ at
+found_last p zero at low fails passes = omega arith
+found_last p (suc n) at low fails passes =
+    let next : suc n ≡ n + 1 = omega arith in
+    let more = kept_more p 1 n (n + 1) (omega arith) in
+    elim (cases_lt at (n + 1)) [
+      | inl less ↦
+          let off : p (n + 1) ≡ false = fails (n + 1) less (omega arith) in
+          ap (λ (m : ℕ). last_or 0 (filter p (range_with_len 1 m))) next ∙ ap (last_or 0) more
+          ∙ ap (λ (b : Bool). last_or 0 (filter p (range_with_len 1 n) ++ cond b ((n + 1) ∷ []) [])) off
+          ∙ ap (last_or 0) (append-nil (filter p (range_with_len 1 n)))
+          ∙ found_last p n at (omega arith) (λ k l h. fails k l (omega arith)) passes
+      | inr not_less ↦
+          let same : at ≡ n + 1 = omega arith in
+          let on : p (n + 1) ≡ true = ap p (sym same) ∙ passes (omega arith) in
+          ap (λ (m : ℕ). last_or 0 (filter p (range_with_len 1 m))) next ∙ ap (last_or 0) more
+          ∙ ap (λ (b : Bool). last_or 0 (filter p (range_with_len 1 n) ++ cond b ((n + 1) ∷ []) [])) on
+          ∙ last_push 0 (filter p (range_with_len 1 n)) (n + 1) ∙ sym same
+    ]
+
+rearward_at : (p : ℕ → Bool) (from at : ℕ) → IsRearward p from at → last_or 0 (filter p (range_with_len 1 (from - 1))) ≡ at
+rearward_at p from at h =
+    let earlier = h.earlier in
+    found_last p (from - 1) at (omega arith) (λ k l g. h.between k l (omega arith)) h.stops
+
+hit_some : (s : Session) (at : ℕ) → 0 < at → hit_at s at ≡ hit s.breaks s.day at
+hit_some s zero h = absurd (omega arith)
+hit_some s (suc n) h = refl
+
+pub onward_done : (s t : Session) (at : ℕ) (place : Option ℕ) → IsOnward (stops_at s.breaks s.day) s.position (length s.day) at → place ≡ hit s.breaks s.day at → t ≡ moved_to s at → (let reply : Reply = record { text = stop_text t place; next = Some t } in onward_reply s ≡ reply)
+onward_done s t at place h is moved =
+    let later = h.later in
+    let within = h.within in
+    let apart : s.position ≢ length s.day = λ same. omega arith in
+    let found : next_stop s ≡ at = onward_at (stops_at s.breaks s.day) s.position (length s.day) at h in
+    rw (ne_eqb s.position (length s.day) apart, found, moved, is, hit_some s at (omega arith)) refl
+
+rearward_hit : (s : Session) (at : ℕ) (place : Option ℕ) → (0 < at → place ≡ hit s.breaks s.day at) → (at ≡ 0 → place ≡ None) → hit_at s at ≡ place
+rearward_hit s zero place is none = sym (none refl)
+rearward_hit s (suc n) place is none = sym (is (omega arith))
+
+pub rearward_done : (s t : Session) (at : ℕ) (place : Option ℕ) → IsRearward (stops_at s.breaks s.day) s.position at → (0 < at → place ≡ hit s.breaks s.day at) → (at ≡ 0 → place ≡ None) → t ≡ moved_to s at → (let reply : Reply = record { text = stop_text t place; next = Some t } in rearward_reply s ≡ reply)
+rearward_done s t at place h is none moved =
+    let earlier = h.earlier in
+    let apart : s.position ≢ 0 = λ same. omega arith in
+    let found : previous_stop s ≡ at = rearward_at (stops_at s.breaks s.day) s.position at h in
+    rw (ne_eqb s.position 0 apart, found, moved, rearward_hit s at place is none) refl
+
+-- ---- a breakpoint that is added
+
+and_both : (a b : Bool) → (a && b) ≡ true → (a ≡ true) × (b ≡ true)
+and_both true b h = (refl, h)
+and_both false b h = absurd (false≢true h)
+
+side_is : (a b : Side) → same_side a b ≡ true → a ≡ b
+side_is Buy Buy h = refl
+side_is Sell Sell h = refl
+side_is Buy Sell h = absurd (false≢true h)
+side_is Sell Buy h = absurd (false≢true h)
+
+side_same : (a : Side) → same_side a a ≡ true
+side_same Buy = refl
+side_same Sell = refl
+
+break_is : (a b : Break) → same_break a b ≡ true → a ≡ b
+break_is (Price l s p) (Price l' s' p') h =
+    let one = and_both (l == l') (same_side s s' && (p == p')) h in
+    let two = and_both (same_side s s') (p == p') one.1 in
+    let locates : l ≡ l' = eqb-true l l' one.0 in
+    let sides : s ≡ s' = side_is s s' two.0 in
+    let prices : p ≡ p' = eqb-true p p' two.1 in
+    cc
+break_is (Reference l r) (Reference l' r') h =
+    let both = and_both (l == l') (r == r') h in
+    let locates : l ≡ l' = eqb-true l l' both.0 in
+    let references : r ≡ r' = eqb-true r r' both.1 in
+    cc
+break_is (Time t) (Time t') h = let times : t ≡ t' = eqb-true t t' h in cc
+break_is (Price l s p) (Reference l' r') h = absurd (false≢true h)
+break_is (Price l s p) (Time t') h = absurd (false≢true h)
+break_is (Reference l r) (Price l' s' p') h = absurd (false≢true h)
+break_is (Reference l r) (Time t') h = absurd (false≢true h)
+break_is (Time t) (Price l' s' p') h = absurd (false≢true h)
+break_is (Time t) (Reference l' r') h = absurd (false≢true h)
+
+break_same : (a : Break) → same_break a a ≡ true
+break_same (Price l s p) = rw (eq-eqb l l refl, side_same s, eq-eqb p p refl) refl
+break_same (Reference l r) = rw (eq-eqb l l refl, eq-eqb r r refl) refl
+break_same (Time t) = eq-eqb t t refl
+
+none_past : (p : Break → Bool) (xs : List Break) → position p xs ≡ None → length xs ≤ position_or_len p xs
+none_past p xs h = elim (cases_lt (position_or_len p xs) (length xs)) [
+  | inl less ↦ let e : ltb (position_or_len p xs) (length xs) ≡ true = lt-ltb (position_or_len p xs) (length xs) less in let found = rw e at h in cc
+  | inr past ↦ past
+]
+
+-- a breakpoint without a place isn't there
+not_there : (bs : List Break) (b : Break) → place_of bs b ≡ None → ¬ Contains bs b
+not_there bs b h there =
+    let fails : same_break b (get_or bs there.0 b) ≡ false = fails_before_first (same_break b) bs there.0 b (omega (arith, none_past (same_break b) bs h, there.1)) in
+    false≢true (sym fails ∙ ap (λ (x : Break). same_break b x) there.2 ∙ break_same b)
+
+-- the first place of a breakpoint is its place
+first_place : (bs : List Break) (b : Break) (place found : ℕ) → slice_get bs place ≡ Some b → ((earlier : ℕ) → earlier < place → slice_get bs earlier ≢ Some b) → place_of bs b ≡ Some found → found ≡ place
+first_place bs b place found at first is =
+    let facts = position-Some (same_break b) bs found b is in
+    let here : b ≡ get_or bs found b = break_is b (get_or bs found b) facts.1 in
+    elim (cases_lt found place) [
+      | inl before ↦ absurd (first found before (slice_get-get_or bs found b facts.0 ∙ ap (λ (x : Break). let o : Option Break = Some x in o) (sym here)))
+      | inr not_before ↦ elim (cases_lt place found) [
+        | inl before ↦ absurd (false≢true (sym (facts.2 place before) ∙ ap (λ (x : Break). same_break b x) (get_or_from_slice_get bs place b b at) ∙ break_same b))
+        | inr not_after ↦ omega arith
+      ]
+    ]
+
+last_place : (bs : List Break) (b : Break) (place : ℕ) → ¬ Contains bs b → slice_get (bs ++ b ∷ []) place ≡ Some b → place ≡ length bs
+last_place bs b place absent at =
+    let within : place < length (bs ++ b ∷ []) = slice_get_within (bs ++ b ∷ []) place b at in
+    elim (cases_lt place (length bs)) [
+      | inl before ↦ absurd (absent (place, before, sym (get_or-append bs (b ∷ []) b place before) ∙ get_or_from_slice_get (bs ++ b ∷ []) place b b at))
+      | inr not_before ↦ omega (arith, within, length-append bs (b ∷ []))
+    ]
+
+added_by : (s t : Session) (b : Break) (place : ℕ) (found : Option ℕ) → place_of s.breaks b ≡ found → slice_get t.breaks place ≡ Some b → ((earlier : ℕ) → earlier < place → slice_get t.breaks earlier ≢ Some b) → (Contains s.breaks b → t ≡ s) → (¬ Contains s.breaks b → t ≡ with_break s b) → (let reply : Reply = record { text = break_line (place + 1); next = Some t } in added_at s b found ≡ reply)
+added_by s t b place (Some old) is at first there new =
+    let facts = position-Some (same_break b) s.breaks old b is in
+    let here : b ≡ get_or s.breaks old b = break_is b (get_or s.breaks old b) facts.1 in
+    let same : t ≡ s = there (old, facts.0, sym here) in
+    let found : old ≡ place = first_place s.breaks b place old (subst (λ (u : Session). slice_get u.breaks place ≡ Some b) same at) (subst (λ (u : Session). (earlier : ℕ) → earlier < place → slice_get u.breaks earlier ≢ Some b) same first) is in
+    rw (same, found) refl
+added_by s t b place None is at first there new =
+    let absent : ¬ Contains s.breaks b = not_there s.breaks b is in
+    let next : t ≡ with_break s b = new absent in
+    let found : place ≡ length s.breaks = last_place s.breaks b place absent (subst (λ (u : Session). slice_get u.breaks place ≡ Some b) next at) in
+    rw (next, found) refl
+
+pub added : (s t : Session) (b : Break) (place : ℕ) → slice_get t.breaks place ≡ Some b → ((earlier : ℕ) → earlier < place → slice_get t.breaks earlier ≢ Some b) → (Contains s.breaks b → t ≡ s) → (¬ Contains s.breaks b → t ≡ with_break s b) → (let reply : Reply = record { text = break_line (place + 1); next = Some t } in add_reply s b ≡ reply)
+added s t b place at first there new = added_by s t b place (place_of s.breaks b) refl at first there new
+
+-- a text that was added is the answer of the reply that has it
+pub replied : {A E : Type 0} (result : Result A E) (old new text : List ℕ) (reply : Reply) (t : Session) → (let other : Reply = record { text = text; next = Some t } in reply ≡ other) → OnOk result (new ≡ old ++ text) → OnOk result ((new ≡ old ++ reply.text) × (reply.next ≡ Some t))
+replied (Ok x) old new text reply t is added = (added ∙ ap (λ (r : Reply). old ++ r.text) (sym is), ap (λ (r : Reply). r.next) is)
+replied (Err e) old new text reply t is added = tt

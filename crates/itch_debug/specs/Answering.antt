@@ -1,0 +1,245 @@
+-- The answer of each command. The lines are of this project; each ends with a line feed, and its numbers are decimal.
+use Rattle.std.specs.Prelude.{◌≡◌, ℕ, ◌+◌, ◌-◌, ◌==◌, ◌&&◌, nat_le, Bool, true, false, if◌then◌else◌, zero, suc, List, [], ◌∷◌, ◌++◌, length, filter, position, codes, decimal, slice_get, Option, Some, None, Result, OnOk}
+use Rattle.std.specs.declared.vec.Vec.{Vec}
+use Rattle.std.specs.List.{flat_map, range_with_len}
+use Rattle.itch_layouts.specs.declared.message.Directory.{Directory}
+use Rattle.itch_table.specs.declared.outcome.Outcome.{Outcome}
+use Rattle.itch_table.specs.declared.outcome.Outcome.TheVariants.{Applied, Passed, Refused}
+use Rattle.itch_table.specs.declared.order.Order.{Order}
+use Rattle.itch_table.specs.declared.order.Side.{Side}
+use Rattle.itch_table.specs.declared.order.Side.TheVariants.{Buy, Sell}
+use Rattle.itch_table.specs.declared.status.Status.{Status}
+use Rattle.itch_table.specs.After.{after}
+use Rattle.itch_table.specs.Fault.{number_of}
+use Rattle.itch_table.specs.Levels.{levels, same_side}
+use Rattle.itch_table.specs.World.{World, orders_of, status, totals}
+use Rattle.itch_print.specs.Quoted.{quoted}
+use Rattle.itch_engine.specs.Report.{ask_line, bid_line, quoted_byte, stock_line, trades_line}
+use Rattle.day_core.specs.Owners.{last_or}
+use Rattle.debugger.specs.Sessions.{Session, moved_to, outcome_at, with_break, without_break}
+use Rattle.debugger.specs.Stops.{hit, stops_at}
+use Rattle.debugger.specs.declared.breakpoint.Break.{Break}
+use Rattle.debugger.specs.declared.breakpoint.Break.TheVariants.{Price, Reference, Time}
+use Rattle.debugger.specs.declared.debugging.DebugFault.{DebugFault}
+use Rattle.debugger.specs.declared.debugging.DebugFault.TheVariants.{Memory, PastEnd, BeforeStart}
+use Rattle.itch_debug.specs.declared.command.Command.{Command}
+use Rattle.itch_debug.specs.declared.command.Command.TheVariants.{Blank, Goto, Step, Back, Onward, Rearward, AddBreak, ListBreaks, RemoveBreak, Event, Show, Quit}
+
+-- ---- lines
+
+-- what became of the message at a position, or `start` at 0
+abbrev pub outcome_text : Option Outcome → List ℕ
+outcome_text None = codes "start"
+outcome_text (Some Applied) = codes "applied"
+outcome_text (Some Passed) = codes "passed"
+outcome_text (Some (Refused fault)) = codes "refused F" ++ decimal (number_of fault)
+
+-- a position of a day
+abbrev pub position_text : List (List ℕ) → ℕ → List ℕ
+position_text day n = codes "at " ++ decimal n ++ codes " " ++ outcome_text (outcome_at day n)
+
+-- the number of the breakpoint at a place, which counts from 1
+abbrev pub hit_text : Option ℕ → List ℕ
+hit_text None = codes " no break"
+hit_text (Some place) = codes " break " ++ decimal (place + 1)
+
+-- the line of a breakpoint's number
+abbrev pub break_line : ℕ → List ℕ
+break_line number = codes "break " ++ decimal number ++ codes "\n"
+
+-- `B` for a bid and `S` for an ask
+abbrev pub side_text : Side → List ℕ
+side_text Buy = codes "B"
+side_text Sell = codes "S"
+
+-- a breakpoint, as the command that adds it has it after `break`
+abbrev pub break_text : Break → List ℕ
+break_text (Price locate side price) =
+    codes "price " ++ decimal locate ++ codes " " ++ side_text side ++ codes " " ++ decimal price
+break_text (Reference locate reference) =
+    codes "reference " ++ decimal locate ++ codes " " ++ decimal reference
+break_text (Time time) = codes "time " ++ decimal time
+
+-- a breakpoint with its number
+abbrev pub numbered_break : ℕ → Break → List ℕ
+numbered_break number b = decimal number ++ codes " " ++ break_text b ++ codes "\n"
+
+-- the lines of these breakpoints, numbered from this number on
+abbrev pub break_lines : ℕ → List Break → List ℕ
+break_lines number [] = []
+break_lines number (b ∷ bs) = numbered_break number b ++ break_lines (number + 1) bs
+
+-- the lines of all breakpoints
+abbrev pub breaks_text : List Break → List ℕ
+breaks_text [] = codes "no breaks\n"
+breaks_text (b ∷ bs) = break_lines 1 (b ∷ bs)
+
+-- the line of the last event
+abbrev pub event_line : Option ℕ → List ℕ
+event_line event = codes "event " ++ quoted_byte event ++ codes "\n"
+
+-- ---- stocks
+
+-- the market participant of an order, or `none`
+abbrev pub attribution_text : Option (List ℕ) → List ℕ
+attribution_text None = codes "none"
+attribution_text (Some mpid) = quoted mpid
+
+-- the line of an order: its reference, its side, its shares, its price and its attribution
+abbrev pub order_line : Order → List ℕ
+order_line order =
+    codes "order " ++ decimal order.reference ++ codes " " ++ side_text order.side
+    ++ codes " " ++ decimal order.shares ++ codes " " ++ decimal order.price
+    ++ codes " " ++ attribution_text order.attribution ++ codes "\n"
+
+-- the levels of a stock: its bids and its asks
+abbrev pub sides_of : World → ℕ → List ℕ
+sides_of w locate =
+    flat_map bid_line (levels (orders_of w locate) Buy) ++ flat_map ask_line (levels (orders_of w locate) Sell)
+
+-- the levels, the orders and the totals of a stock
+abbrev pub book_of : World → ℕ → List ℕ
+book_of w locate =
+    sides_of w locate ++ flat_map order_line (orders_of w locate) ++ trades_line (totals w locate)
+
+-- a stock with this directory row, or that there is none
+abbrev pub listed_text : ℕ → Option Directory → Status → List ℕ → List ℕ
+listed_text locate None known book = codes "no stock " ++ decimal locate ++ codes "\n"
+listed_text locate (Some row) known book = stock_line locate row.stock known.trading known.regsho ++ book
+
+-- the lines of a stock, as the world has it
+abbrev pub stock_text : World → ℕ → List ℕ
+stock_text w locate =
+    let known = status w locate in listed_text locate known.directory known (book_of w locate)
+
+-- ---- breakpoints
+
+-- whether two breakpoints are one
+abbrev pub same_break : Break → Break → Bool
+same_break (Price locate side price) (Price locate' side' price') =
+    (locate == locate') && (same_side side side' && (price == price'))
+same_break (Reference locate reference) (Reference locate' reference') =
+    (locate == locate') && (reference == reference')
+same_break (Time time) (Time time') = time == time'
+same_break one other = false
+
+-- the place of a breakpoint in a list, counted from 0, where it is there
+abbrev pub place_of : List Break → Break → Option ℕ
+place_of breaks b = position (same_break b) breaks
+
+-- ---- answers
+
+-- why a move is refused; where memory was, nothing is written
+abbrev pub refusal_text : DebugFault → List ℕ
+refusal_text Memory = []
+refusal_text PastEnd = codes "? past end\n"
+refusal_text BeforeStart = codes "? before start\n"
+
+-- What is written for a command, and the session after it, none where it is over
+pub record Reply : Type 0 where
+  pub text : List ℕ
+  pub next : Option Session
+
+-- the text follows what was there, and this session is the one after the command
+abbrev pub Replies : {A T E : Type 0} → Vec ℕ A → Vec ℕ A → Reply → Option Session → Result T E → Type 0
+Replies old new reply next result = OnOk result ((new.items ≡ old.items ++ reply.text) × (reply.next ≡ next))
+
+-- a text alone
+abbrev pub says : Session → List ℕ → Reply
+says s text = record { text = text; next = Some s }
+
+abbrev pub past_end : Session → Reply
+past_end s = says s (refusal_text PastEnd)
+
+abbrev pub before_start : Session → Reply
+before_start s = says s (refusal_text BeforeStart)
+
+-- the line of a session's position
+abbrev pub stands : Session → Reply
+stands s = record { text = position_text s.day s.position ++ codes "\n"; next = Some s }
+
+-- a move to a position
+abbrev pub moves : Session → ℕ → Reply
+moves s n = stands (moved_to s n)
+
+-- the line of a session's position, which a search came to, with the place of the breakpoint that stops there
+abbrev pub stop_text : Session → Option ℕ → List ℕ
+stop_text s place = position_text s.day s.position ++ hit_text place ++ codes "\n"
+
+-- a move to where a search came to
+abbrev pub finds : Session → ℕ → Option ℕ → Reply
+finds s n place = record { text = stop_text (moved_to s n) place; next = Some (moved_to s n) }
+
+abbrev pub goto_reply : Session → ℕ → Reply
+goto_reply s n = if nat_le n (length s.day) then moves s n else past_end s
+
+abbrev pub step_reply : Session → Reply
+step_reply s = if s.position == length s.day then past_end s else moves s (s.position + 1)
+
+abbrev pub back_reply : Session → Reply
+back_reply s = if s.position == 0 then before_start s else moves s (s.position - 1)
+
+-- the first of some numbers, or another where there is none
+abbrev pub first_or : ℕ → List ℕ → ℕ
+first_or other [] = other
+first_or other (n ∷ ns) = n
+
+-- the first message after a position at which a breakpoint stops, or the last message
+abbrev pub next_stop : Session → ℕ
+next_stop s =
+    first_or (length s.day)
+    (filter (stops_at s.breaks s.day) (range_with_len (s.position + 1) (length s.day - s.position)))
+
+-- the last message before a position at which a breakpoint stops, or 0
+abbrev pub previous_stop : Session → ℕ
+previous_stop s = last_or 0 (filter (stops_at s.breaks s.day) (range_with_len 1 (s.position - 1)))
+
+-- the place of the first breakpoint that stops at a message; at 0 none does
+abbrev pub hit_at : Session → ℕ → Option ℕ
+hit_at s zero = None
+hit_at s (suc n) = hit s.breaks s.day (suc n)
+
+abbrev pub onward_reply : Session → Reply
+onward_reply s =
+    if s.position == length s.day then past_end s else finds s (next_stop s) (hit_at s (next_stop s))
+
+abbrev pub rearward_reply : Session → Reply
+rearward_reply s =
+    if s.position == 0 then before_start s else finds s (previous_stop s) (hit_at s (previous_stop s))
+
+-- a breakpoint that is there at a place keeps it, another one goes last
+abbrev pub added_at : Session → Break → Option ℕ → Reply
+added_at s b (Some place) = says s (break_line (place + 1))
+added_at s b None = record { text = break_line (length s.breaks + 1); next = Some (with_break s b) }
+
+abbrev pub add_reply : Session → Break → Reply
+add_reply s b = added_at s b (place_of s.breaks b)
+
+abbrev pub removed_at : Session → ℕ → Option Break → Reply
+removed_at s place None = says s (codes "? no such break\n")
+removed_at s place (Some b) = record { text = codes "removed\n"; next = Some (without_break s place) }
+
+-- the breakpoint of a number, which counts from 1
+abbrev pub remove_reply : Session → ℕ → Reply
+remove_reply s zero = says s (codes "? no such break\n")
+remove_reply s (suc place) = removed_at s place (slice_get s.breaks place)
+
+-- the answer of a command
+abbrev pub reply_to : Session → Command → Reply
+reply_to s Blank = says s []
+reply_to s (Goto n) = goto_reply s n
+reply_to s Step = step_reply s
+reply_to s Back = back_reply s
+reply_to s Onward = onward_reply s
+reply_to s Rearward = rearward_reply s
+reply_to s (AddBreak b) = add_reply s b
+reply_to s ListBreaks = says s (breaks_text s.breaks)
+reply_to s (RemoveBreak number) = remove_reply s number
+reply_to s Event = says s (event_line (after s.day s.position).event)
+reply_to s (Show locate) = says s (stock_text (after s.day s.position) locate)
+reply_to s Quit = record { text = []; next = None }
+
+-- the answer of a line, which may be no command
+abbrev pub reply_or : Session → Option Command → Reply
+reply_or s (Some command) = reply_to s command
+reply_or s None = says s (codes "? command\n")

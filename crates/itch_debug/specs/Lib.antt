@@ -1,0 +1,4 @@
+pub mod Commands
+pub mod Answering
+pub mod Sessions
+pub mod Going

@@ -1,0 +1,13 @@
+//! A debugging session over a day: a line asks for something, and its answer is lines of text.
+//!
+//! [`answer_line`] does what one line asks for. The commands and their answers are of this project.
+#![tactic(auto)]
+
+mod answer;
+mod command;
+mod lines;
+mod session;
+mod stock;
+
+pub use command::Command;
+pub use session::{Next, answer_line};

@@ -1,0 +1,169 @@
+//! The lines of answers.
+ghost use Rattle.std.specs.Prelude.{◌≡◌, ◌≢◌, ◌+◌, ◌++◌, OnOk, codes, drop, length};
+ghost use Rattle.byte_strings.specs.Extending.{Extends};
+ghost use Rattle.itch_table.specs.After.{after};
+ghost use Rattle.itch_debug.specs.Answering.{break_line, break_text, breaks_text, event_line, hit_text, numbered_break, outcome_text, position_text, refusal_text, side_text};
+
+use debugger::{Break, DebugFault, Debugger};
+use itch_engine::{put_count, put_quoted_byte};
+use itch_table::{Outcome, Side};
+use std::alloc::{AllocError, Allocator};
+
+// Adds what became of the message at a position, or `start` at 0.
+fn put_outcome<A: Allocator>(
+    text: &mut Vec<u8, A>,
+    outcome: Option<Outcome>,
+) -> Result<(), AllocError>
+    ensures { Extends text.old text.new (outcome_text outcome) result }
+{
+    match outcome {
+        None => text.extend_from_slice(b"start"),
+        Some(Outcome::Applied) => text.extend_from_slice(b"applied"),
+        Some(Outcome::Passed) => text.extend_from_slice(b"passed"),
+        Some(Outcome::Refused(fault)) => put_count(text, b"refused F", fault.number()),
+    }
+}
+
+/// Adds the position and what became of its message.
+pub(crate) fn put_position<A: Allocator>(
+    text: &mut Vec<u8, A>,
+    debugger: &Debugger<'_, A>,
+) -> Result<(), AllocError>
+    ensures { Extends text.old text.new (position_text debugger.now.day debugger.now.position) result }
+{
+    put_count(text, b"at ", debugger.position())?;
+    text.push(b' ')?;
+    put_outcome(text, debugger.outcome())
+}
+
+/// Adds the line of the position.
+pub(crate) fn put_position_line<A: Allocator>(
+    text: &mut Vec<u8, A>,
+    debugger: &Debugger<'_, A>,
+) -> Result<(), AllocError>
+    ensures { Extends text.old text.new
+        (position_text debugger.now.day debugger.now.position ++ codes "\n") result }
+{
+    put_position(text, debugger)?;
+    text.push(b'\n')?;
+    Ok(())
+}
+
+/// Adds the number of the breakpoint at a place.
+pub(crate) fn put_hit<A: Allocator>(
+    text: &mut Vec<u8, A>,
+    place: Option<usize>,
+) -> Result<(), AllocError>
+    ensures { Extends text.old text.new (hit_text place) result }
+{
+    match place {
+        None => text.extend_from_slice(b" no break"),
+        Some(place) => put_count(text, b" break ", place as u128 + 1),
+    }
+}
+
+/// Adds why a move was refused. Where memory was, the answer is an error.
+pub(crate) fn put_refusal<A: Allocator>(
+    text: &mut Vec<u8, A>,
+    fault: DebugFault,
+) -> Result<(), AllocError>
+    ensures text { Extends text.old text.new (refusal_text fault) result }
+    ensures memory { OnOk result (fault ≢ DebugFault.Memory) }
+{
+    match fault {
+        DebugFault::Memory => Err(AllocError),
+        DebugFault::PastEnd => text.extend_from_slice(b"? past end\n"),
+        DebugFault::BeforeStart => text.extend_from_slice(b"? before start\n"),
+    }
+}
+
+/// Adds the line of the number of the breakpoint at a place.
+pub(crate) fn put_place<A: Allocator>(text: &mut Vec<u8, A>, place: usize) -> Result<(), AllocError>
+    ensures { Extends text.old text.new (break_line (place + 1)) result }
+{
+    put_count(text, b"break ", place as u128 + 1)?;
+    text.push(b'\n')?;
+    Ok(())
+}
+
+/// Adds the letter of a side.
+pub(crate) fn put_side<A: Allocator>(text: &mut Vec<u8, A>, side: Side) -> Result<(), AllocError>
+    ensures { Extends text.old text.new (side_text side) result }
+{
+    match side {
+        Side::Buy => text.extend_from_slice(b"B"),
+        Side::Sell => text.extend_from_slice(b"S"),
+    }
+}
+
+// Adds a breakpoint.
+fn put_break<A: Allocator>(text: &mut Vec<u8, A>, breakpoint: Break) -> Result<(), AllocError>
+    ensures { Extends text.old text.new (break_text breakpoint) result }
+{
+    match breakpoint {
+        Break::Price {
+            locate,
+            side,
+            price,
+        } => {
+            put_count(text, b"price ", locate)?;
+            text.push(b' ')?;
+            put_side(text, side)?;
+            put_count(text, b" ", price)
+        }
+        Break::Reference { locate, reference } => {
+            put_count(text, b"reference ", locate)?;
+            put_count(text, b" ", reference)
+        }
+        Break::Time { time } => put_count(text, b"time ", time.get()),
+    }
+}
+
+// Adds the line of a breakpoint, with its number.
+fn put_numbered_break<A: Allocator>(
+    text: &mut Vec<u8, A>,
+    number: u128,
+    breakpoint: Break,
+) -> Result<(), AllocError>
+    ensures { Extends text.old text.new (numbered_break number breakpoint) result }
+{
+    put_count(text, b"", number)?;
+    text.push(b' ')?;
+    put_break(text, breakpoint)?;
+    text.push(b'\n')?;
+    Ok(())
+}
+
+/// Adds the lines of all breakpoints.
+pub(crate) fn put_breaks<A: Allocator>(
+    text: &mut Vec<u8, A>,
+    debugger: &Debugger<'_, A>,
+) -> Result<(), AllocError>
+    ensures { Extends text.old text.new (breaks_text debugger.now.breaks) result }
+{
+    let count = debugger.break_len();
+    if count == 0 {
+        return text.extend_from_slice(b"no breaks\n");
+    }
+    'places: for place in 0..count {
+        let Some(breakpoint) = debugger.break_at(place) else {
+            unreachable!();
+        };
+        put_numbered_break(text, place as u128 + 1, breakpoint)?;
+    }
+    Ok(())
+}
+
+/// Adds the line of the last event.
+pub(crate) fn put_event<A: Allocator>(
+    text: &mut Vec<u8, A>,
+    debugger: &Debugger<'_, A>,
+) -> Result<(), AllocError>
+    ensures { Extends text.old text.new
+        (event_line (after debugger.now.day debugger.now.position).event) result }
+{
+    text.extend_from_slice(b"event ")?;
+    put_quoted_byte(text, debugger.event())?;
+    text.push(b'\n')?;
+    Ok(())
+}

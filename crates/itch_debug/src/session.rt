@@ -1,0 +1,42 @@
+//! A session, line by line.
+ghost use Rattle.std.specs.Prelude.{◌≡◌, Some, OnOk, IfOk};
+ghost use Rattle.byte_strings.specs.Extending.{Extends};
+ghost use Rattle.itch_debug.specs.Going.{session_of};
+ghost use Rattle.itch_debug.specs.Sessions.{reply_of};
+
+use crate::answer::answer;
+use crate::command::{Command, parse};
+use debugger::Debugger;
+use std::alloc::{AllocError, Allocator};
+
+/// Whether a session goes on.
+#[derive(Debug, Clone, Copy, PartialEq, Eq)]
+pub enum Next {
+    /// It goes on.
+    Going,
+    /// It is over.
+    Over,
+}
+
+/// Does what a line of a session asks for, and adds its answer to `text`: the lines that the command is answered by, and
+/// nothing for a blank line and for `quit`, which ends the session. `line` has no line feed. The commands and their
+/// answers are of this project.
+///
+/// An error says that memory was refused; `text` may then have a part of the answer.
+pub fn answer_line<A: Allocator + Copy>(
+    alloc: A,
+    text: &mut Vec<u8, A>,
+    debugger: &mut Debugger<'_, A>,
+    line: &[u8],
+) -> Result<Next, AllocError>
+    ensures text { Extends text.old text.new (reply_of (Some debugger.old) line.now).text result }
+    ensures next { IfOk result (λ next.
+        (reply_of (Some debugger.old) line.now).next ≡ session_of next debugger.new) }
+{
+    let command = parse(line);
+    if let Some(Command::Quit) = command {
+        return Ok(Next::Over);
+    }
+    answer(alloc, text, debugger, command)?;
+    Ok(Next::Going)
+}
