@@ -10,6 +10,7 @@ mod workers;
 
 use binaryfile::{Day, Feed, Limits};
 use std::rt::Runtime;
+use std::sync::Wait;
 use std::test::Fail;
 use std::thread::Threads;
 use std::{env, fs};
@@ -21,7 +22,10 @@ const LIMITS: Limits = Limits {
 };
 
 // Compares the machines over one file, and prints how many messages and stocks it has.
-fn compare_file<R: Runtime + AllocGlobal + Threads + Sync>(rt: &R, path: &str) -> Result<(), Fail> {
+fn compare_file<R: Runtime + AllocGlobal + Threads + Wait + Sync>(
+    rt: &R,
+    path: &str,
+) -> Result<(), Fail> {
     let Ok(file) = fs::open(rt, path) else {
         return Err(Fail::new("the file can't be opened"));
     };
@@ -38,7 +42,7 @@ fn compare_file<R: Runtime + AllocGlobal + Threads + Sync>(rt: &R, path: &str) -
 }
 
 // Compares the machines over each file, up to the first where they differ.
-fn run<R: Runtime + AllocGlobal + Threads + Sync>(rt: &R) -> Result<(), Fail> {
+fn run<R: Runtime + AllocGlobal + Threads + Wait + Sync>(rt: &R) -> Result<(), Fail> {
     let Ok(arguments) = env::args(rt) else {
         return Err(Fail::new("the arguments can't be read"));
     };

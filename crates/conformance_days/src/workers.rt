@@ -5,8 +5,10 @@ use day_core::{replay_parts, split};
 use itch_engine::replay_run;
 use itch_table::{Outcome, Plain};
 use std::alloc::Allocator;
+use std::sync::Wait;
 use std::test::Fail;
 use std::thread::Threads;
+use stock_workers::FreeGate;
 use support::{same, same_bytes, same_list};
 
 /// The numbers of workers.
@@ -45,7 +47,7 @@ fn compare_parts<R: Threads + Sync, A: Allocator + Copy + Send + Sync>(
 }
 
 // The report of a day.
-fn report_of<R: Threads + Sync, A: Allocator + Copy + Send + Sync>(
+fn report_of<R: Threads + Wait + Sync, A: Allocator + Copy + Send + Sync>(
     rt: &R,
     alloc: A,
     day: &Day<A>,
@@ -61,13 +63,14 @@ fn report_of<R: Threads + Sync, A: Allocator + Copy + Send + Sync>(
         &mut Feed::new(day.bytes()),
         &mut Sink::new(&mut report),
         workers,
+        &FreeGate,
     )?;
     Ok(report)
 }
 
 /// Compares what a day makes for each number of workers with what the plain machine makes of it, and the reports with
 /// each other.
-pub fn compare_workers<R: Threads + Sync, A: Allocator + Copy + Send + Sync>(
+pub fn compare_workers<R: Threads + Wait + Sync, A: Allocator + Copy + Send + Sync>(
     rt: &R,
     alloc: A,
     day: &Day<A>,

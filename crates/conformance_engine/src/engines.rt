@@ -3,7 +3,9 @@ use binaryfile::{Feed, Sink};
 use itch_engine::{ProgFault, asm_run, dis_run, hex_run, replay_run};
 use std::alloc::Allocator;
 use std::io::{Read, Write};
+use std::sync::Wait;
 use std::thread::Threads;
+use stock_workers::FreeGate;
 use support::{DIGITS, FILE, REPORT, TEXT};
 
 /// An engine.
@@ -52,7 +54,7 @@ impl Engine {
 
     /// Runs the engine.
     pub(crate) fn run<
-        T: Threads + Sync,
+        T: Threads + Wait + Sync,
         A: Allocator + Copy + Send + Sync,
         R: Read + Drop,
         W: Write,
@@ -60,7 +62,7 @@ impl Engine {
         let mut feed = Feed::new(reader);
         let mut sink = Sink::new(writer);
         match self {
-            Engine::Replay => replay_run(rt, alloc, &mut feed, &mut sink, 1),
+            Engine::Replay => replay_run(rt, alloc, &mut feed, &mut sink, 1, &FreeGate),
             Engine::Digits => hex_run(rt, alloc, &mut feed, &mut sink),
             Engine::Disassembler => dis_run(alloc, &mut feed, &mut sink).map(|()| 0),
             Engine::Assembler => asm_run(alloc, &mut feed, &mut sink).map(|()| 0),

@@ -2,6 +2,7 @@
 use crate::engines::Engine;
 use itch_engine::{ProgFault, status};
 use itch_text::AsmFault;
+use std::sync::Wait;
 use std::test::Fail;
 use std::thread::Threads;
 use support::{same, same_bytes};
@@ -31,7 +32,7 @@ const INPUTS: [(Engine, &[u8], ProgFault); 8] = [
 ];
 
 // A run of an engine, with what it answers and what it writes.
-fn try_run<T: AllocGlobal + Threads + Sync>(
+fn try_run<T: AllocGlobal + Threads + Wait + Sync>(
     rt: &T,
     engine: Engine,
     input: &[u8],

@@ -4,12 +4,14 @@ use binaryfile::{Feed, Sink};
 use itch_engine::{ProgFault, replay_run};
 use refusing::{Refusal, Refusing};
 use std::io::ErrorKind;
+use std::sync::Wait;
 use std::test::Fail;
 use std::thread::Threads;
+use stock_workers::FreeGate;
 use support::{FILE, Failure, Narrow, Pieces, REPORT, same, same_bytes};
 
 // A run on the worked file, which comes in pieces.
-fn try_pieces<T: AllocGlobal + Threads + Sync>(
+fn try_pieces<T: AllocGlobal + Threads + Wait + Sync>(
     rt: &T,
     engine: Engine,
     most: usize,
@@ -36,7 +38,7 @@ fn engines_write_their_output(rt: HostRuntime) -> Result<(), Fail> {
 }
 
 // A replay of the worked file by so many workers.
-fn try_workers<T: AllocGlobal + Threads + Sync>(rt: &T, workers: u32) -> Result<(), Fail> {
+fn try_workers<T: AllocGlobal + Threads + Wait + Sync>(rt: &T, workers: u32) -> Result<(), Fail> {
     let mut output = Vec::new(rt.alloc());
     if workers == 0 || workers > 64 {
         return Err(Fail::new("a replay has 1 to 64 workers"));
@@ -47,6 +49,7 @@ fn try_workers<T: AllocGlobal + Threads + Sync>(rt: &T, workers: u32) -> Result<
         &mut Feed::new(FILE),
         &mut Sink::new(&mut output),
         workers,
+        &FreeGate,
     );
     same("an answer", &(workers, answer), &(workers, Ok(1)))?;
     same_bytes("a report", &output, REPORT)
@@ -61,7 +64,7 @@ fn reports_are_the_same_for_all_numbers_of_workers(rt: HostRuntime) -> Result<()
 }
 
 // A run whose reader gives one byte a call and fails at one call.
-fn try_read<T: AllocGlobal + Threads + Sync>(
+fn try_read<T: AllocGlobal + Threads + Wait + Sync>(
     rt: &T,
     engine: Engine,
     failing: u64,
@@ -89,7 +92,7 @@ fn engines_send_nothing_after_a_failed_read(rt: HostRuntime) -> Result<(), Fail>
 }
 
 // A run whose writer takes one byte a call, and fails when it has taken so many.
-fn try_write<T: AllocGlobal + Threads + Sync>(
+fn try_write<T: AllocGlobal + Threads + Wait + Sync>(
     rt: &T,
     engine: Engine,
     taken: usize,
@@ -121,7 +124,7 @@ fn engines_have_sent_a_prefix_after_a_failed_write(rt: HostRuntime) -> Result<()
 }
 
 // How many growths a run on the worked file has.
-fn growths_of<T: AllocGlobal + Threads + Sync>(rt: &T, engine: Engine) -> Result<u64, Fail> {
+fn growths_of<T: AllocGlobal + Threads + Wait + Sync>(rt: &T, engine: Engine) -> Result<u64, Fail> {
     let heap = Refusing::new(rt.alloc(), Refusal::Never);
     let mut output = Vec::new(rt.alloc());
     let answer = engine.run(rt, &heap, engine.input(), &mut output);
@@ -131,7 +134,7 @@ fn growths_of<T: AllocGlobal + Threads + Sync>(rt: &T, engine: Engine) -> Result
 
 // A run some of whose growths are refused. Where it isn't out of memory, a list that asked for more than it needs has
 // made do with less, and then the output is whole.
-fn try_refusal<T: AllocGlobal + Threads + Sync>(
+fn try_refusal<T: AllocGlobal + Threads + Wait + Sync>(
     rt: &T,
     engine: Engine,
     refusal: Refusal,

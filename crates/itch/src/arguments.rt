@@ -3,7 +3,7 @@ ghost use Rattle.std.specs.Prelude.{◌≡◌, ◌≢◌};
 ghost use Rattle.clap.specs.Values.{kind_of};
 ghost use Rattle.clap.specs.declared.error.kind.ErrorKind.TheVariants.{DisplayHelp, DisplayVersion};
 
-use clap::{Arg, ArgMatches, Command, Error};
+use clap::{Arg, ArgMatches, Command, Error, value_parser};
 use std::alloc::{AllocError, Global};
 
 /// What FILE is.
@@ -12,8 +12,8 @@ const DAY_HELP: &str = "A Nasdaq TotalView-ITCH 5.0 day in Nasdaq BinaryFILE for
 /// What the arguments ask for.
 #[derive(Drop)]
 pub enum Task<'a> {
-    /// To replay a file.
-    Replay { file: &'a str },
+    /// To replay a file, by so many workers as the arguments say.
+    Replay { file: &'a str, workers: u32 },
     /// To write a file's text.
     Disassemble { file: &'a str },
     /// To make a file of a text.
@@ -27,11 +27,24 @@ fn path<'a>(alloc: Global, name: &'a str, help: &'a str) -> Arg<'a> {
     Arg::new(alloc, name).help(help).required(true)
 }
 
+// The number of workers, from 1 to 64.
+fn workers<'a>(alloc: Global) -> Arg<'a> {
+    Arg::new(alloc, "workers")
+        .long("workers")
+        .value_name("N")
+        .help(
+            "How many threads replay the day, from 1 to 64; the report is the same for each number",
+        )
+        .value_parser(value_parser!(u32).range(1..=64))
+        .default_value("1")
+}
+
 // The arguments that replay a file.
 fn replay_command<'a>(alloc: Global) -> Result<Command<'a>, AllocError> {
     Command::new(alloc, "replay")
         .about("Replays a day and prints its report")
-        .arg(path(alloc, "FILE", DAY_HELP))
+        .arg(path(alloc, "FILE", DAY_HELP))?
+        .arg(workers(alloc))
 }
 
 // The arguments that print a file's text.
@@ -79,7 +92,8 @@ pub fn chosen_task<'a>(matches: &ArgMatches<'a>) -> Task<'a> {
     if let Some(replay) = matches.subcommand_matches("replay")
         && let Some(file) = replay.get_str("FILE")
     {
-        return Task::Replay { file };
+        let workers = replay.get_one("workers").unwrap_or(1);
+        return Task::Replay { file, workers };
     }
     if let Some(dis) = matches.subcommand_matches("dis")
         && let Some(file) = dis.get_str("FILE")

@@ -11,15 +11,16 @@ use itch_engine::{ProgFault, asm_run, dis_run, hex_run, replay_run, status};
 use output::Created;
 use std::process::ExitCode;
 use std::rt::Runtime;
+use std::sync::Wait;
 use std::thread::Threads;
 use std::{env, fs, io};
+use stock_workers::FreeGate;
 
 /// The status for invalid arguments.
 const MISUSE: u8 = 2;
 
-/// Into how many parts the day of a file is split. They are replayed one after another, and four are faster than one, since
-/// the books of fewer stocks are in use at a time.
-const PARTS: u32 = 4;
+/// The most workers that a day is replayed by.
+const MOST_WORKERS: u32 = 64;
 
 /// The status where something can't be read or written.
 const DEVICE: u8 = 3;
@@ -33,14 +34,26 @@ fn end(rt: &impl Eprint, answer: Result<u32, ProgFault>) -> ExitCode {
     ExitCode::from(status(&answer))
 }
 
-// Replays a file, and writes its report on standard output.
-fn replay<R: Runtime + AllocGlobal + Threads + Sync>(rt: &R, path: &str) -> Result<u32, ProgFault> {
+// Replays a file by this many workers, and writes its report on standard output. The arguments give no number but from
+// 1 to 64.
+fn replay<R: Runtime + AllocGlobal + Threads + Wait + Sync>(
+    rt: &R,
+    path: &str,
+    workers: u32,
+) -> Result<u32, ProgFault> {
     let Ok(file) = fs::open(rt, path) else {
         return Err(ProgFault::Read);
     };
     let mut feed = Feed::new(file);
     let mut sink = Sink::new(io::writer(rt));
-    replay_run(rt, rt.alloc(), &mut feed, &mut sink, PARTS)
+    replay_run(
+        rt,
+        rt.alloc(),
+        &mut feed,
+        &mut sink,
+        workers.clamp(1, MOST_WORKERS),
+        &FreeGate,
+    )
 }
 
 // Writes the text of a file on standard output.
@@ -69,7 +82,9 @@ fn assemble<R: Runtime + AllocGlobal>(rt: &R, text: &str, out: &str) -> Result<u
 }
 
 // Replays the file whose hexadecimal digits are standard input, and writes its report on standard output.
-fn replay_digits<R: Runtime + AllocGlobal + Threads + Sync>(rt: &R) -> Result<u32, ProgFault> {
+fn replay_digits<R: Runtime + AllocGlobal + Threads + Wait + Sync>(
+    rt: &R,
+) -> Result<u32, ProgFault> {
     let mut feed = Feed::new(rt.reader());
     let mut sink = Sink::new(io::writer(rt));
     hex_run(rt, rt.alloc(), &mut feed, &mut sink)
@@ -87,13 +102,13 @@ fn explain<R: Runtime>(rt: &R, error: &clap::Error) -> ExitCode {
 }
 
 // Does what the arguments ask for.
-fn run<R: Runtime + AllocGlobal + Threads + Sync>(rt: &R, arguments: &[String]) -> ExitCode {
+fn run<R: Runtime + AllocGlobal + Threads + Wait + Sync>(rt: &R, arguments: &[String]) -> ExitCode {
     let matches = match arguments::parse(rt.alloc(), arguments) {
         Ok(matches) => matches,
         Err(error) => return explain(rt, &error),
     };
     match arguments::chosen_task(&matches) {
-        Task::Replay { file } => end(rt, replay(rt, file)),
+        Task::Replay { file, workers } => end(rt, replay(rt, file, workers)),
         Task::Disassemble { file } => end(rt, disassemble(rt, file)),
         Task::Assemble { text, out } => end(rt, assemble(rt, text, out)),
         Task::ReplayDigits => end(rt, replay_digits(rt)),

@@ -6,7 +6,9 @@ use binaryfile::{Feed, Sink};
 use itch_engine::{ProgFault, replay_run};
 use std::alloc::Allocator;
 use std::io::{self, Read, Write};
+use std::sync::Wait;
 use std::thread::Threads;
+use stock_workers::FreeGate;
 
 /// A writer that keeps nothing of what it is given but how many lines it was.
 #[derive(Debug, Clone, Copy, PartialEq, Eq)]
@@ -32,9 +34,9 @@ impl Write for LineCounter {
 
 /// How many lines the report of a day file has.
 ///
-/// Any reader and any writer will do: a feed and a sink wrap them, and remember their failures. The threads of `rt`
-/// help to split a long day.
-pub fn report_lines<T: Threads + Sync, A: Allocator + Copy + Send + Sync, R: Read>(
+/// Any reader and any writer will do: a feed and a sink wrap them, and remember their failures. One worker replays the
+/// day, which [`FreeGate`] lets pass at once before each message.
+pub fn report_lines<T: Threads + Wait + Sync, A: Allocator + Copy + Send + Sync, R: Read>(
     rt: &T,
     alloc: A,
     feed: &mut Feed<R>,
@@ -43,7 +45,7 @@ pub fn report_lines<T: Threads + Sync, A: Allocator + Copy + Send + Sync, R: Rea
     ensures read { IsErrOf result ProgFault.Read ↔ HasFailed feed.new }
 {
     let mut counter = LineCounter { lines: 0 };
-    replay_run(rt, alloc, feed, &mut Sink::new(&mut counter), 1)?;
+    replay_run(rt, alloc, feed, &mut Sink::new(&mut counter), 1, &FreeGate)?;
     Ok(counter.lines)
 }
 

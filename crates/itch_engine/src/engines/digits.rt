@@ -11,10 +11,12 @@ use crate::report::day::Report;
 use binaryfile::{Feed, Sink, read_to_end, send};
 use std::alloc::Allocator;
 use std::io::{Read, Write};
+use std::sync::Wait;
 use std::thread::Threads;
+use stock_workers::FreeGate;
 
 // The report of a file that is given in hexadecimal digits, and how many of its messages are refused.
-fn report_of_digits<R: Threads + Sync, A: Allocator + Copy + Send + Sync>(
+fn report_of_digits<R: Threads + Wait + Sync, A: Allocator + Copy + Send + Sync>(
     rt: &R,
     alloc: A,
     input: Vec<u8, A>,
@@ -23,17 +25,17 @@ fn report_of_digits<R: Threads + Sync, A: Allocator + Copy + Send + Sync>(
     ensures fault { IfErr result (Fails digits_replayer input.items) }
 {
     let bytes = decode_digits(alloc, input)?;
-    report_of_file(rt, alloc, bytes, 1)
+    report_of_file(rt, alloc, bytes, 1, &FreeGate)
 }
 
 /// Reads a day file that is given in hexadecimal digits, replays it and writes the report, as [`replay_run`] does.
 ///
-/// The day is split for one worker. Spaces and line feeds are passed over. [`ProgFault::TooManyBytes`] comes above
+/// One worker does the whole day. Spaces and line feeds are passed over. [`ProgFault::TooManyBytes`] comes above
 /// [`MOST_HEX_BYTES`] bytes of input, and [`ProgFault::BadHex`] only where there is an odd number of digits, or a byte
 /// that is no hexadecimal digit, no space and no line feed.
 ///
 /// [`replay_run`]: crate::replay_run
-pub fn hex_run<T: Threads + Sync, A: Allocator + Copy + Send + Sync, R: Read, W: Write>(
+pub fn hex_run<T: Threads + Wait + Sync, A: Allocator + Copy + Send + Sync, R: Read, W: Write>(
     rt: &T,
     alloc: A,
     feed: &mut Feed<R>,

@@ -9,21 +9,24 @@ use crate::report::day::{Report, report_of_day};
 use binaryfile::{Day, Feed, Sink, read_to_end, send};
 use std::alloc::Allocator;
 use std::io::{Read, Write};
+use std::sync::Wait;
 use std::thread::Threads;
+use stock_workers::Gate;
 
 /// The report of a file, and how many of its messages are refused.
-pub(crate) fn report_of_file<R: Threads + Sync, A: Allocator + Copy + Send + Sync>(
+pub(crate) fn report_of_file<R: Threads + Wait + Sync, A: Allocator + Copy + Send + Sync, G: Gate>(
     rt: &R,
     alloc: A,
     input: Vec<u8, A>,
     workers: u32,
+    gate: &G,
 ) -> Result<Report<A>, ProgFault>
     requires { (1 ≤ workers) × (workers ≤ 64) }
     ensures report { IfOk result (λ report. Replays input.items report.text.items report.refused) }
     ensures fault { IfErr result (Fails replayer input.items) }
 {
     let day = Day::from_bytes(alloc, input, MOST_MESSAGES)?;
-    Ok(report_of_day(rt, alloc, &day, workers)?)
+    Ok(report_of_day(rt, alloc, &day, workers, gate)?)
 }
 
 /// Reads a day file, replays it and writes the report. It answers how many messages were refused.
@@ -33,26 +36,33 @@ pub(crate) fn report_of_file<R: Threads + Sync, A: Allocator + Copy + Send + Syn
 /// [`ProgFault::Read`] comes exactly where the feed has failed, [`ProgFault::TooManyBytes`] above
 /// [`MOST_FILE_BYTES`] bytes, [`ProgFault::TooManyMessages`] above [`MOST_MESSAGES`] messages, and
 /// [`ProgFault::Memory`] only where memory was refused. The report is the same for every number of workers, from 1 to
-/// 64: the day is split into their parts, which are replayed one after another. The threads of `rt` help to split a long
-/// day. The report is of this project.
+/// 64: each replays the messages of its stocks in a thread of its own, calls the gate before each of them, and may wait
+/// there. Where no thread can be made, the work is done all the same. The report is of this project.
 ///
 /// ```text
 /// let mut feed = Feed::new(file);
 /// let mut sink = Sink::new(output);
-/// let refused = replay_run(rt, rt.alloc(), &mut feed, &mut sink, 1)?;
+/// let refused = replay_run(rt, rt.alloc(), &mut feed, &mut sink, 1, &FreeGate)?;
 /// ```
-pub fn replay_run<T: Threads + Sync, A: Allocator + Copy + Send + Sync, R: Read, W: Write>(
+pub fn replay_run<
+    T: Threads + Wait + Sync,
+    A: Allocator + Copy + Send + Sync,
+    R: Read,
+    W: Write,
+    G: Gate,
+>(
     rt: &T,
     alloc: A,
     feed: &mut Feed<R>,
     sink: &mut Sink<W>,
     workers: u32,
+    gate: &G,
 ) -> Result<u32, ProgFault>
     requires { (1 ≤ workers) × (workers ≤ 64) }
     ensures { Runs replayer R.remaining W.contents feed.old feed.new sink.old sink.new result }
 {
     let input = read_to_end(alloc, feed, MOST_FILE_BYTES)?;
-    let report = report_of_file(rt, alloc, input, workers)?;
+    let report = report_of_file(rt, alloc, input, workers, gate)?;
     send(sink, &report.text)?;
     Ok(report.refused)
 }

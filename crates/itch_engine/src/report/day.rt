@@ -9,11 +9,13 @@ ghost use Rattle.itch_engine.specs.Report.{machine_lines, report_of_file, refuse
 use crate::report::messages::{count_refused, put_refused_lines, put_summary};
 use crate::report::stock::put_stock;
 use binaryfile::Day;
-use day_core::{ReplayedDay, SplitFault, replay_parts, split};
 use itch_table::Side;
 use std::alloc::{AllocError, Allocator};
+use std::sync::Wait;
 use std::thread::Threads;
 use stock_machine::Stock;
+use stock_workers::{Gate, Replayed, RunFault, run};
+use top_cell::Board;
 
 /// The report of a day, and how many of its messages were refused.
 #[derive(Drop)]
@@ -22,21 +24,23 @@ pub(crate) struct Report<A: Allocator> {
     pub refused: u32,
 }
 
-// A day, replayed by its parts for this many workers, one after another.
-fn replay<R: Threads + Sync, A: Allocator + Copy + Send + Sync>(
+// A day, replayed by this many workers in threads, on a board of its own.
+fn replay<R: Threads + Wait + Sync, A: Allocator + Copy + Send + Sync, G: Gate>(
     rt: &R,
     alloc: A,
     day: &Day<A>,
     workers: u32,
-) -> Result<ReplayedDay<A>, AllocError>
+    gate: &G,
+) -> Result<Replayed<A>, AllocError>
     requires { (1 ≤ workers) × (workers ≤ 64) }
     ensures { IfOk result (λ replayed. IsReplayed day.now.payloads
         replayed.outcomes.items replayed.stocks.items replayed.event) }
 {
-    match split(rt, alloc, day, workers) {
-        Ok(parts) => replay_parts(alloc, &parts, day),
-        Err(SplitFault::Memory) => Err(AllocError),
-        Err(SplitFault::Workers) => unreachable!(),
+    let (board, writers) = Board::new(rt, &alloc, day)?;
+    match run(rt, alloc, day, &board, writers, workers, gate) {
+        Ok(replayed) => Ok(replayed),
+        Err(RunFault::Memory) => Err(AllocError),
+        Err(RunFault::Workers) => unreachable!(),
     }
 }
 
@@ -79,7 +83,7 @@ fn put_stocks<A: Allocator + Copy>(
 fn report_text<A: Allocator + Copy>(
     alloc: A,
     day: &Day<A>,
-    replayed: &ReplayedDay<A>,
+    replayed: &Replayed<A>,
 ) -> Result<Vec<u8, A>, AllocError>
     requires few { length day.now.payloads < 2 ^ 32 }
     requires bytes { All AreBytes day.now.payloads }
@@ -100,13 +104,14 @@ fn report_text<A: Allocator + Copy>(
     Ok(text)
 }
 
-/// Replays a day by its parts for this many workers, and reports.
+/// Replays a day by this many workers in threads, each of which calls the gate before each message, and reports.
 #[tactic(auto, unfolding(crate::specs::Report::refused_count))]
-pub(crate) fn report_of_day<R: Threads + Sync, A: Allocator + Copy + Send + Sync>(
+pub(crate) fn report_of_day<R: Threads + Wait + Sync, A: Allocator + Copy + Send + Sync, G: Gate>(
     rt: &R,
     alloc: A,
     day: &Day<A>,
     workers: u32,
+    gate: &G,
 ) -> Result<Report<A>, AllocError>
     requires workers { (1 ≤ workers) × (workers ≤ 64) }
     requires few { length day.now.payloads < 2 ^ 32 }
@@ -114,7 +119,7 @@ pub(crate) fn report_of_day<R: Threads + Sync, A: Allocator + Copy + Send + Sync
     ensures text { IfOk result (λ found. found.text.items ≡ report_of_file day.now) }
     ensures refused { IfOk result (λ found. found.refused ≡ refused_count day.now.payloads) }
 {
-    let replayed = replay(rt, alloc, day, workers)?;
+    let replayed = replay(rt, alloc, day, workers, gate)?;
     let text = report_text(alloc, day, &replayed)?;
     let refused = count_refused(&replayed.outcomes) as u32;
     Ok(Report { text, refused })
