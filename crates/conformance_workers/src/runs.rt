@@ -1,0 +1,118 @@
+//! Whole runs, by several numbers of workers.
+use binaryfile::Day;
+use itch_table::{Fault, Outcome};
+use std::alloc::{Allocator, Global};
+use std::sync::Wait;
+use std::test::Fail;
+use std::thread::Threads;
+use stock_machine::Stock;
+use stock_workers::{FreeGate, Replayed, RunFault, run};
+use support::{crossed_book, day_with, same, same_list, system, two_stocks};
+use top_cell::{Board, TopWriter};
+
+/// A day, replayed on a new board.
+pub fn replayed<R: Threads + Wait + Sync>(
+    rt: &R,
+    alloc: &Global,
+    day: &Day<Global>,
+    workers: u32,
+) -> Result<Replayed<Global>, Fail> {
+    let (board, writers) = Board::new(rt, alloc, day)?;
+    run(rt, *alloc, day, &board, writers, workers, &FreeGate).map_err(|_| Fail::new(
+        "the day isn't replayed",
+    ))
+}
+
+// The message at which the writer at a place stands.
+fn message_at(writers: &[TopWriter], place: usize) -> Option<u32> {
+    match writers.get(place) {
+        Some(writer) => Some(writer.message()),
+        None => None,
+    }
+}
+
+// The bid and the ask of the stock at a place.
+fn prices_at(stocks: &[Stock<Global>], place: usize) -> Option<(u32, u32)> {
+    match stocks.get(place) {
+        Some(stock) => {
+            let top = stock.top();
+            Some((top.bid_price, top.ask_price))
+        }
+        None => None,
+    }
+}
+
+// What became of the messages of two stocks.
+const OUTCOMES: [Outcome; 7] = [
+    Outcome::Applied,
+    Outcome::Applied,
+    Outcome::Applied,
+    Outcome::Applied,
+    Outcome::Applied,
+    Outcome::Refused(Fault::NoDirectory),
+    Outcome::Refused(Fault::ReferenceUnknown),
+];
+
+#[test]
+fn two_stocks_are_the_same_for_each_number_of_workers(rt: HostRuntime) -> Result<(), Fail> {
+    let alloc = rt.alloc();
+    let day = two_stocks(alloc)?;
+    for workers in [1, 2, 3, 64] {
+        let replayed = replayed(&rt, &alloc, &day, workers)?;
+        same_list("the outcomes", &replayed.outcomes, &OUTCOMES)?;
+        same("how many stocks", &replayed.stocks.len(), &3)?;
+        same(
+            "the second stock",
+            &prices_at(&replayed.stocks, 1),
+            &Some((200, 0)),
+        )?;
+        same("how many writers", &replayed.writers.len(), &3)?;
+        same(
+            "the first writer",
+            &message_at(&replayed.writers, 0),
+            &Some(7),
+        )?;
+        same(
+            "the last writer",
+            &message_at(&replayed.writers, 2),
+            &Some(6),
+        )?;
+        same("the event", &replayed.event, &None)?;
+    }
+    Ok(())
+}
+
+#[test]
+fn a_crossed_book_ends_at_its_last_message(rt: HostRuntime) -> Result<(), Fail> {
+    let alloc = rt.alloc();
+    let day = crossed_book(alloc)?;
+    for workers in [1, 2, 3, 64] {
+        let replayed = replayed(&rt, &alloc, &day, workers)?;
+        same("how many writers", &replayed.writers.len(), &1)?;
+        same("the writer", &message_at(&replayed.writers, 0), &Some(3))?;
+        let prices = prices_at(&replayed.stocks, 0);
+        same("the stock", &prices, &Some((1_010_000, 1_000_000)))?;
+    }
+    Ok(())
+}
+
+#[test]
+fn an_event_is_answered(rt: HostRuntime) -> Result<(), Fail> {
+    let alloc = rt.alloc();
+    let day = day_with(alloc, &[system(0, b'O'), system(0, b'S')])?;
+    let replayed = replayed(&rt, &alloc, &day, 2)?;
+    same("the event", &replayed.event, &Some(b'S'))?;
+    same("how many stocks", &replayed.stocks.len(), &0)
+}
+
+#[test]
+fn a_number_of_workers_is_from_1_to_64(rt: HostRuntime) -> Result<(), Fail> {
+    let alloc = rt.alloc();
+    let day = two_stocks(alloc)?;
+    for workers in [0, 65] {
+        let (board, writers) = Board::new(&rt, &alloc, &day)?;
+        let fault = run(&rt, alloc, &day, &board, writers, workers, &FreeGate).err();
+        same("the fault", &fault, &Some(RunFault::Workers))?;
+    }
+    Ok(())
+}
