@@ -22,7 +22,7 @@ pub enum Next {
 /// nothing for a blank line and for `quit`, which ends the session. `line` has no line feed. The commands and their
 /// answers are of this project.
 ///
-/// An error says that memory was refused; `text` may then have a part of the answer.
+/// An error says that memory was refused; `text` may then have a part of the answer, and the debugger may have moved.
 pub fn answer_line<A: Allocator + Copy>(
     alloc: A,
     text: &mut Vec<u8, A>,

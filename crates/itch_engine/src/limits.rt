@@ -11,6 +11,3 @@ pub const MOST_TEXT_BYTES: u64 = 1 << 40;
 
 /// The most bytes of a day file that is given in hexadecimal digits, digits and white space together: 2^30.
 pub const MOST_HEX_BYTES: u64 = 1 << 30;
-
-/// The most bytes of a session's commands: 2^30.
-pub const MOST_COMMAND_BYTES: u64 = 1 << 30;

@@ -1,0 +1,9 @@
+//! Debugging sessions: worked lines and their answers, lines that are no command, and memory that is refused.
+#![tactic(auto)]
+
+#[cfg(test)]
+mod memory;
+#[cfg(test)]
+mod sessions;
+#[cfg(test)]
+mod worked;

@@ -1,0 +1,61 @@
+//! Days by their texts, and sessions that are led through lines.
+ghost use Rattle.std.specs.Prelude.{◌<◌};
+
+use binaryfile::Day;
+use debugger::Debugger;
+use itch_debug::{Next, answer_line};
+use itch_text::assemble;
+use std::alloc::Allocator;
+use std::test::Fail;
+use support::{day_of, same, same_bytes};
+
+/// An order that is executed, a halt, another execution, a broken trade and a delete.
+pub const TRADED: &str =
+    "directory locate=1 tracking=0 time=0 stock=\"AAPL\" category=\"Q\" status=\"N\" lot=100 lots_only=\"N\" issue_class=\"C\" issue_subtype=\"Z\" authenticity=\"P\" short_sale=\"N\" ipo=\"N\" luld=\"1\" etp=\"N\" leverage=0 inverse=\"N\"\n\
+     add locate=1 tracking=0 time=1 reference=1 side=\"B\" shares=100 stock=\"AAPL\" price=1500000\n\
+     execute locate=1 tracking=0 time=2 reference=1 shares=40 match_no=9\n\
+     trading locate=1 tracking=0 time=3 stock=\"AAPL\" state=\"H\" reserved=\"\" reason=\"T1\"\n\
+     execute locate=1 tracking=0 time=4 reference=1 shares=10 match_no=10\n\
+     broken locate=1 tracking=0 time=5 match_no=9\n\
+     delete locate=1 tracking=0 time=6 reference=1\n";
+
+/// An order that is replaced under its own reference, which is refused, and under another one.
+pub const REPLACED: &str =
+    "directory locate=1 tracking=0 time=0 stock=\"AAPL\" category=\"Q\" status=\"N\" lot=100 lots_only=\"N\" issue_class=\"C\" issue_subtype=\"Z\" authenticity=\"P\" short_sale=\"N\" ipo=\"N\" luld=\"1\" etp=\"N\" leverage=0 inverse=\"N\"\n\
+     add locate=1 tracking=0 time=1 reference=1 side=\"B\" shares=100 stock=\"AAPL\" price=1500000\n\
+     replace locate=1 tracking=0 time=2 reference=1 new_reference=1 shares=50 price=1490000\n\
+     replace locate=1 tracking=0 time=3 reference=1 new_reference=2 shares=50 price=1490000\n";
+
+/// Four events at times 10, 30, 20 and 40.
+pub const EVENTS: &str = "system locate=0 tracking=0 time=10 event=\"O\"\n\
+     system locate=0 tracking=0 time=30 event=\"S\"\n\
+     system locate=0 tracking=0 time=20 event=\"Q\"\n\
+     system locate=0 tracking=0 time=40 event=\"M\"\n";
+
+/// The day of a text.
+pub fn day_in<A: Allocator + Copy>(alloc: A, text: &str) -> Result<Day<A>, Fail> {
+    match assemble(alloc, text.as_bytes()) {
+        Ok(file) => day_of(alloc, file),
+        Err(_) => Err(Fail::new("no file")),
+    }
+}
+
+/// Hands a new session of a day these lines, each of which ends with a line feed, and compares all answers with these.
+pub fn follow<A: Allocator + Copy>(
+    alloc: A,
+    text: &str,
+    every: u32,
+    lines: &str,
+    wanted: &str,
+) -> Result<(), Fail>
+    requires { 0 < every }
+{
+    let day = day_in(alloc, text)?;
+    let mut debugger = Debugger::new(alloc, &day, every)?;
+    let mut answers = Vec::new(alloc);
+    for line in lines.as_bytes().split(|byte| *byte == b'\n') {
+        let next = answer_line(alloc, &mut answers, &mut debugger, line)?;
+        same("a line that isn't `quit`", &next, &Next::Going)?;
+    }
+    same_bytes("the answers", &answers, wanted.as_bytes())
+}
