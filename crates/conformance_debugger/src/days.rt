@@ -1,6 +1,6 @@
 //! The days of the tests.
 use binaryfile::Day;
-use debugger::{Break, Debugger};
+use debugger::Break;
 use itch_layouts::{Msg, Nanos};
 use itch_table::Side;
 use std::alloc::Allocator;
@@ -50,18 +50,4 @@ pub fn tour<A: Allocator + Copy>(alloc: A) -> Result<Day<A>, Fail> {
             (6, AAPL.delete(1)),
         ],
     )
-}
-
-/// The breakpoints of a debugger, from the first on.
-pub fn breaks_of<A: Allocator + Copy>(
-    alloc: A,
-    debugger: &Debugger<'_, A>,
-) -> Result<Vec<Break, A>, Fail> {
-    let mut breaks = Vec::new(alloc);
-    for place in 0..debugger.break_len() {
-        if let Some(found) = debugger.break_at(place) {
-            breaks.push(found)?;
-        }
-    }
-    Ok(breaks)
 }

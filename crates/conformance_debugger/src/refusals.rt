@@ -1,4 +1,5 @@
 //! A debugger whose memory is refused.
+use crate::calls::{Answer, Call};
 use crate::days::{BIDS, time_break, tour};
 use binaryfile::Day;
 use debugger::{Break, DebugFault, Debugger};
@@ -7,29 +8,6 @@ use refusing::{Refusal, Refusing};
 use std::alloc::Allocator;
 use std::test::Fail;
 use support::same;
-
-// A call that may take memory.
-#[derive(Debug, Clone, Copy, PartialEq, Eq)]
-enum Call {
-    Goto,
-    Step,
-    Back,
-    Onward,
-    Rearward,
-    AddBreak,
-    Stock,
-}
-
-// All of them.
-const CALLS: [Call; 7] = [
-    Call::Goto,
-    Call::Step,
-    Call::Back,
-    Call::Onward,
-    Call::Rearward,
-    Call::AddBreak,
-    Call::Stock,
-];
 
 // What a debugger says of itself: its position, the outcome and the event there, and its breakpoints.
 #[derive(Debug, Clone, Copy, PartialEq, Eq)]
@@ -53,6 +31,22 @@ fn seen_of<A: Allocator>(debugger: &Debugger<'_, A>) -> Seen {
     }
 }
 
+// What a call answers, and what the debugger is then.
+#[derive(Debug, Clone, Copy, PartialEq, Eq)]
+struct Done {
+    answer: Result<Answer, DebugFault>,
+    seen: Seen,
+}
+
+// Makes a call.
+fn done_by<A: Allocator + Copy>(alloc: A, debugger: &mut Debugger<'_, A>, call: Call) -> Done {
+    let answer = call.make(alloc, debugger);
+    Done {
+        answer,
+        seen: seen_of(debugger),
+    }
+}
+
 // A debugger after message 3 of the tour, with a breakpoint.
 fn debugger_at_3<A: Allocator + Copy>(alloc: A, day: &Day<A>) -> Result<Debugger<'_, A>, Fail> {
     let mut debugger = Debugger::new(alloc, day, 2)?;
@@ -61,64 +55,47 @@ fn debugger_at_3<A: Allocator + Copy>(alloc: A, day: &Day<A>) -> Result<Debugger
     Ok(debugger)
 }
 
-impl Call {
-    // Makes the call, and answers a number that it gives.
-    fn make<A: Allocator + Copy>(
-        self,
-        alloc: A,
-        debugger: &mut Debugger<'_, A>,
-        late: Break,
-    ) -> Result<u64, DebugFault> {
-        match self {
-            Call::Goto => debugger.goto(alloc, 6)?,
-            Call::Step => debugger.step(alloc)?,
-            Call::Back => debugger.back(alloc)?,
-            Call::Onward => return Ok(u64::from(debugger.onward(alloc)?.at)),
-            Call::Rearward => return Ok(u64::from(debugger.rearward(alloc)?.at)),
-            Call::AddBreak => return Ok(debugger.add_break(alloc, late)? as u64),
-            Call::Stock => return Ok(debugger.stock(alloc, 1)?.top().bid_shares),
-        }
-        Ok(0)
-    }
-}
-
 // Makes a call with these growths refused, and answers whether it was. It then leaves the debugger as it was, and
 // does with memory what it would have done; a call that does without those growths does so at once.
-fn refuse<A: Allocator + Copy>(
-    heap: &Refusing<A>,
-    day: &Day<&Refusing<A>>,
+fn refuse<'h, A: Allocator + Copy>(
+    heap: &'h Refusing<A>,
+    day: &Day<&'h Refusing<A>>,
     call: Call,
     refusal: Refusal,
-    wanted: (Result<u64, DebugFault>, Seen),
+    wanted: &Done,
 ) -> Result<bool, Fail> {
     heap.restart(Refusal::Never);
-    let late = time_break(3)?;
     let mut debugger = debugger_at_3(heap, day)?;
     let before = seen_of(&debugger);
     heap.restart(refusal);
-    let tried = call.make(heap, &mut debugger, late);
-    let refused = tried == Err(DebugFault::Memory);
+    let mut done = done_by(heap, &mut debugger, call);
+    let refused = done.answer == Err(DebugFault::Memory);
     if refused {
-        same(
-            "after a refusal",
-            &(call, seen_of(&debugger)),
-            &(call, before),
-        )?;
+        same("after a refusal", &done.seen, &before)?;
         heap.restart(Refusal::Never);
-        let again = call.make(heap, &mut debugger, late);
-        same(
-            "with memory",
-            &(call, again, seen_of(&debugger)),
-            &(call, wanted.0, wanted.1),
-        )?;
-    } else {
-        same(
-            "without a growth",
-            &(call, tried, seen_of(&debugger)),
-            &(call, wanted.0, wanted.1),
-        )?;
+        done = done_by(heap, &mut debugger, call);
     }
+    same("a call", &done, wanted)?;
     Ok(refused)
+}
+
+// Makes a call with each of its growths refused, alone and with all after it.
+fn refuse_each<'h, A: Allocator + Copy>(
+    heap: &'h Refusing<A>,
+    day: &Day<&'h Refusing<A>>,
+    call: Call,
+) -> Result<(), Fail> {
+    let mut debugger = debugger_at_3(heap, day)?;
+    heap.restart(Refusal::Never);
+    let wanted = done_by(heap, &mut debugger, call);
+    let growths = heap.asked();
+    same("some growths", &(growths > 0 && growths <= 60), &true)?;
+    for growth in 1..=growths {
+        refuse(heap, day, call, Refusal::Only(growth), &wanted)?;
+        let refused = refuse(heap, day, call, Refusal::From(growth), &wanted)?;
+        same("refused", &(call, growth, refused), &(call, growth, true))?;
+    }
+    Ok(())
 }
 
 #[test]
@@ -126,18 +103,16 @@ fn a_refused_call_leaves_the_debugger(rt: HostRuntime) -> Result<(), Fail> {
     let heap = Refusing::new(rt.alloc(), Refusal::Never);
     let day = tour(&heap)?;
     let late = time_break(3)?;
-    for call in CALLS {
-        let mut debugger = debugger_at_3(&heap, &day)?;
-        heap.restart(Refusal::Never);
-        let made = call.make(&heap, &mut debugger, late);
-        let growths = heap.asked();
-        let wanted = (made, seen_of(&debugger));
-        same("some growths", &(growths > 0 && growths <= 60), &true)?;
-        for growth in 1..=growths {
-            refuse(&heap, &day, call, Refusal::Only(growth), wanted)?;
-            let refused = refuse(&heap, &day, call, Refusal::From(growth), wanted)?;
-            same("refused", &(call, growth, refused), &(call, growth, true))?;
-        }
+    for call in [
+        Call::Goto(6),
+        Call::Step,
+        Call::Back,
+        Call::Onward,
+        Call::Rearward,
+        Call::AddBreak(late),
+        Call::Stock(1),
+    ] {
+        refuse_each(&heap, &day, call)?;
     }
     Ok(())
 }
