@@ -52,11 +52,11 @@ fn shown<A: Allocator + Copy>(
 impl Call {
     /// Makes the call.
     pub fn make<A: Allocator + Copy>(
-        self,
+        &self,
         alloc: A,
         debugger: &mut Debugger<'_, A>,
     ) -> Result<Answer, DebugFault> {
-        match self {
+        match *self {
             Call::Goto(n) => debugger.goto(alloc, n)?,
             Call::Step => debugger.step(alloc)?,
             Call::Back => debugger.back(alloc)?,

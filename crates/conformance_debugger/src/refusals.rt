@@ -39,7 +39,7 @@ struct Done {
 }
 
 // Makes a call.
-fn done_by<A: Allocator + Copy>(alloc: A, debugger: &mut Debugger<'_, A>, call: Call) -> Done {
+fn done_by<A: Allocator + Copy>(alloc: A, debugger: &mut Debugger<'_, A>, call: &Call) -> Done {
     let answer = call.make(alloc, debugger);
     Done {
         answer,
@@ -60,7 +60,7 @@ fn debugger_at_3<A: Allocator + Copy>(alloc: A, day: &Day<A>) -> Result<Debugger
 fn refuse<'h, A: Allocator + Copy>(
     heap: &'h Refusing<A>,
     day: &Day<&'h Refusing<A>>,
-    call: Call,
+    call: &Call,
     refusal: Refusal,
     wanted: &Done,
 ) -> Result<bool, Fail> {
@@ -83,7 +83,7 @@ fn refuse<'h, A: Allocator + Copy>(
 fn refuse_each<'h, A: Allocator + Copy>(
     heap: &'h Refusing<A>,
     day: &Day<&'h Refusing<A>>,
-    call: Call,
+    call: &Call,
 ) -> Result<(), Fail> {
     let mut debugger = debugger_at_3(heap, day)?;
     heap.restart(Refusal::Never);
@@ -93,7 +93,7 @@ fn refuse_each<'h, A: Allocator + Copy>(
     for growth in 1..=growths {
         refuse(heap, day, call, Refusal::Only(growth), &wanted)?;
         let refused = refuse(heap, day, call, Refusal::From(growth), &wanted)?;
-        same("refused", &(call, growth, refused), &(call, growth, true))?;
+        same("refused", &(growth, refused), &(growth, true))?;
     }
     Ok(())
 }
@@ -112,7 +112,7 @@ fn a_refused_call_leaves_the_debugger(rt: HostRuntime) -> Result<(), Fail> {
         Call::AddBreak(late),
         Call::Stock(1),
     ] {
-        refuse_each(&heap, &day, call)?;
+        refuse_each(&heap, &day, &call)?;
     }
     Ok(())
 }
