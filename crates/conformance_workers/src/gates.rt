@@ -1,11 +1,17 @@
 //! Workers that a gate holds.
+ghost use Rattle.itch_table.specs.Shows.{locates_of_day};
+ghost use Rattle.top_cell.specs.Boards.{AreNew, IsOn};
+
+use crate::screens::first_screen;
+use binaryfile::Day;
+use std::alloc::{Allocator, Global};
 use std::sync::Wait;
 use std::sync::atomic::{AtomicU64, Ordering};
 use std::test::Fail;
-use std::thread::{Threads, yield_now};
+use std::thread::{Threads, join, yield_now};
 use stock_workers::{Gate, run};
-use support::{AAPL, MSFT, day_with, same};
-use top_cell::Board;
+use support::{AAPL, MSFT, crossed_book, day_with, same};
+use top_cell::{Board, Reading, Screen};
 
 // How often a worker that is held looks whether it may go on, at most; each time other threads may run.
 const LOOKS: u32 = 1_000_000;
@@ -59,5 +65,89 @@ fn two_workers_run_beside_each_other(rt: HostRuntime) -> Result<(), Fail> {
         "how many met the other",
         &gate.met.load(Ordering::SeqCst),
         &2,
+    )
+}
+
+// Holds the worker at message 2 until a screen has seen message 1.
+#[derive(Drop)]
+struct Seeing {
+    seen: AtomicU64,
+    held: AtomicU64,
+}
+
+impl Gate for Seeing {
+    fn at<R: Threads + Wait + Sync>(&self, _rt: &R, _worker: u32, message: u32) {
+        if message == 2 && is_set(&self.seen) {
+            self.held.fetch_add(1, Ordering::SeqCst);
+        }
+    }
+}
+
+// Reads until message 1 is there, then lets the worker go on. The answer is that reading, or none where it didn't come.
+fn see_first<R: Wait, A: Allocator>(
+    rt: &R,
+    board: &Board<'_, A>,
+    mut screen: Screen,
+    gate: &Seeing,
+) -> Option<Reading>
+    requires { IsOn board.now screen.place }
+{
+    for _ in 0..LOOKS {
+        let reading = screen.read(rt, board);
+        if reading.message == 1 {
+            gate.seen.store(1, Ordering::SeqCst);
+            return Some(reading);
+        }
+        yield_now();
+    }
+    None
+}
+
+// A run by one worker, and a screen in another thread: whether the day is replayed, and what the screen has seen.
+fn run_and_see<R: Threads + Wait + Sync>(
+    rt: &R,
+    alloc: &Global,
+    day: &Day<Global>,
+    gate: &Seeing,
+) -> Result<(bool, Option<Reading>), Fail> {
+    let (board, mut writers) = Board::new(rt, alloc, day)?;
+    let screen = first_screen(rt, &board, &mut writers)?;
+    let board = &board;
+    Ok(join(
+        rt,
+        || -> bool
+            requires { AreNew day.now.payloads (locates_of_day day.now.payloads) board.now writers.items }
+        { run(rt, *alloc, day, board, writers, 1, gate).is_ok() },
+        || -> Option<Reading>
+            requires { IsOn board.now screen.place }
+        { see_first(rt, board, screen, gate) },
+    ))
+}
+
+#[test]
+fn a_screen_reads_while_a_worker_is_held(rt: HostRuntime) -> Result<(), Fail> {
+    let alloc = rt.alloc();
+    let day = crossed_book(alloc)?;
+    let gate = Seeing {
+        seen: AtomicU64::new(0),
+        held: AtomicU64::new(0),
+    };
+    let (replayed, seen) = run_and_see(&rt, &alloc, &day, &gate)?;
+    let first = Reading {
+        message: 1,
+        bid_price: 0,
+        bid_shares: 0,
+        ask_price: 0,
+        ask_shares: 0,
+    };
+    same(
+        "the day and the screen",
+        &(replayed, seen),
+        &(true, Some(first)),
+    )?;
+    same(
+        "how often it was held",
+        &gate.held.load(Ordering::SeqCst),
+        &1,
     )
 }

@@ -1,7 +1,12 @@
-//! A day that workers replay in threads: the same for each number of workers, and workers that are held.
+//! A day that workers replay in threads: the same for each number of workers, workers that are held, and memory
+//! that is refused.
 #![tactic(auto)]
 
 #[cfg(test)]
 mod gates;
 #[cfg(test)]
+mod memory;
+#[cfg(test)]
 mod runs;
+#[cfg(test)]
+mod screens;
