@@ -7,19 +7,27 @@ use std::alloc::Allocator;
 use std::test::Fail;
 use support::{same, same_bytes};
 
-// Hands a session at position 5 a line while one growth is refused, and answers whether it was. Either way the session
-// goes on to show the day.
-fn try_growth<A: Allocator>(heap: &Refusing<A>, line: &[u8], growth: u64) -> Result<bool, Fail> {
+// Hands a session at position 5, which has a breakpoint, a line while one growth is refused, and answers whether it
+// was. An answer is then the one that is wanted, and after a refusal the session goes on to show the day.
+fn try_growth<A: Allocator>(
+    heap: &Refusing<A>,
+    line: &str,
+    wanted: &str,
+    growth: u64,
+) -> Result<bool, Fail> {
     heap.restart(Refusal::Never);
     let day = day_in(heap, TRADED)?;
     let mut debugger = Debugger::new(heap, &day, 1)?;
-    let mut answer = Vec::new(heap);
-    answer_line(heap, &mut answer, &mut debugger, b"break time 3")?;
-    answer_line(heap, &mut answer, &mut debugger, b"goto 5")?;
+    let mut setting = Vec::new(heap);
+    answer_line(heap, &mut setting, &mut debugger, b"break time 3")?;
+    answer_line(heap, &mut setting, &mut debugger, b"goto 5")?;
     heap.restart(Refusal::Only(growth));
     let mut text = Vec::new(heap);
-    let refused = answer_line(heap, &mut text, &mut debugger, line).is_err();
+    let refused = answer_line(heap, &mut text, &mut debugger, line.as_bytes()).is_err();
     heap.restart(Refusal::Never);
+    if !refused {
+        same_bytes(line, &text, wanted.as_bytes())?;
+    }
     let mut later = Vec::new(heap);
     answer_line(heap, &mut later, &mut debugger, b"goto 5")?;
     same_bytes("a later move", &later, b"at 5 applied\n")?;
@@ -31,22 +39,23 @@ fn a_line_without_memory_is_an_error_and_the_next_one_is_answered(
     rt: HostRuntime,
 ) -> Result<(), Fail> {
     let heap = Refusing::new(rt.alloc(), Refusal::Never);
-    for line in [
-        "goto 2",
-        "step",
-        "back",
-        "onward",
-        "rearward",
-        "break price 1 B 1500000",
-        "show 1",
+    for (line, wanted) in [
+        ("goto 2", "at 2 applied\n"),
+        ("step", "at 6 applied\n"),
+        ("back", "at 4 applied\n"),
+        ("onward", "at 7 applied no break\n"),
+        ("rearward", "at 4 applied break 1\n"),
+        ("break price 1 B 1500000", "break 2\n"),
+        ("breaks", "1 time 3\n"),
+        ("remove 1", "removed\n"),
+        ("event", "event none\n"),
+        ("show 2", "no stock 2\n"),
     ] {
-        let mut refusals = 0u32;
+        let mut refused = false;
         for growth in 1..=40 {
-            if try_growth(&heap, line.as_bytes(), growth)? {
-                refusals += 1;
-            }
+            refused |= try_growth(&heap, line, wanted, growth)?;
         }
-        same(line, &(refusals > 0), &true)?;
+        same(line, &refused, &true)?;
     }
     Ok(())
 }

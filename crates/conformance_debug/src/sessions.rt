@@ -166,8 +166,8 @@ fn a_number_has_at_most_twenty_digits_and_a_limit(rt: HostRuntime) -> Result<(),
 
 // Lines, and their answers.
 const OTHER: &str = "\n\
-        \n\
-       goto   2 \n\
+     \x20\x20\x20\n\
+     \x20\x20goto   2 \n\
      GOTO 2\n\
      goto\n\
      goto 2 3\n\

@@ -33,7 +33,7 @@ fn workers<'a>(alloc: Global) -> Arg<'a> {
         .long("workers")
         .value_name("N")
         .help(
-            "How many threads replay the day, from 1 to 64; the report is the same for each number",
+            "How many workers replay the day, from 1 to 64; the report is the same for each number",
         )
         .value_parser(value_parser!(u32).range(1..=64))
         .default_value("1")
