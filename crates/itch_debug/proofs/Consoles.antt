@@ -1,6 +1,6 @@
 -- How a session goes on by a byte, and where it halts.
 use Rattle.std.proofs.Common.{◌≡◌, ◌<◌, ◌≤◌, ◌+◌, ℕ, suc, get_or, List, [], ◌∷◌, ◌++◌, Option, Some, None, Bool, true, false, refl, sym, ap, subst, ◌∙◌, arith, rules, length, take, drop, append_assoc, append-nil, length-append, inl, inr}
-use Rattle.std.specs.Prelude.{Result, Ok, Err, IfErr, IfSome, nat_lt}
+use Rattle.std.specs.Prelude.{Result, Ok, Err, OnOk, IfErr, IfSome, nat_lt}
 use Rattle.std.specs.Io.KnownBytes.{Appends, Consumes, IsAtEnd}
 use Rattle.std.specs.List.{All, slice_split}
 use Rattle.std.proofs.Math.Seq.{take-suc}
@@ -16,7 +16,7 @@ use Rattle.itch_engine.specs.declared.fault.ProgFault.TheVariants.{Memory, Read,
 use Rattle.itch_debug.specs.Answering.{Reply, reply_or}
 use Rattle.itch_debug.specs.Commands.{command_of}
 use Rattle.itch_debug.specs.Sessions.{answers, is_line_feed, replies, reply_of, session_after}
-use Rattle.itch_debug.specs.Runs.{AnswersPart, AnswersWhole, Halts, IsPrefix, Leads, Stands, Unfinished, start}
+use Rattle.itch_debug.specs.Runs.{AnswersPart, AnswersWhole, EndsEarly, Halts, IsPrefix, Leads, Stands, Unfinished, start}
 
 -- ---- lines, one after another
 
@@ -229,3 +229,41 @@ err_piece result day before after commands piece i less h =
 
 pub more_whole : (day : List (List ℕ)) (before after : Option (List ℕ)) (commands kept extra : List ℕ) (session : Option Session) → Stands day before after commands session kept → AnswersWhole day before after (commands ++ extra)
 more_whole day before after commands kept extra session h = whole_more day before after commands extra (whole_of day before after commands kept session h)
+
+-- ---- the end of the commands
+
+answers_all : (day lines : List (List ℕ)) (begun commands : List ℕ) → All (λ byte. is_line_feed byte ≡ false) begun → Leads lines begun commands → answers day commands ≡ replies (lines ++ begun ∷ []) (start day)
+unfolding answers
+answers_all day lines begun commands is leads =
+    ap (λ (x : List ℕ). replies (slice_split is_line_feed x) (start day)) (sym (append-nil commands))
+    ∙ ap (λ (x : List (List ℕ)). replies x (start day)) (leads [])
+    ∙ ap (λ (x : List ℕ). replies (lines ++ slice_split is_line_feed x) (start day)) (append-nil begun)
+    ∙ ap (λ (x : List (List ℕ)). replies (lines ++ x) (start day)) (slice_split_none is_line_feed begun is)
+
+pub all_answered : {A : Type 0} (result : Result A ProgFault) (day : List (List ℕ)) (before mid after : Option (List ℕ)) (commands kept : List ℕ) (session : Option Session) → Stands day before mid commands session kept → OnOk result (Appends mid after (reply_of session kept).text) → OnOk result (Appends before after (answers day commands))
+all_answered (Ok x) day before mid after commands kept session h sent =
+    let all : answers day commands ≡ replies h.lines (start day) ++ (reply_of session kept).text =
+    answers_all day h.lines h.begun commands h.begun_is h.leads ∙ ended_text day before mid commands kept session h in
+    subst (Appends before after) (sym all) (Appends-trans before mid after (replies h.lines (start day)) (reply_of session kept).text h.wrote sent)
+all_answered (Err fault) day before mid after commands kept session h sent = tt
+
+ends_early : (day : List (List ℕ)) (before mid after : Option (List ℕ)) (commands kept : List ℕ) (session : Option Session) (fault : ProgFault) → Stands day before mid commands session kept → Unfinished fault mid after (reply_of session kept).text → EndsEarly day before after commands fault
+ends_early day before mid after commands kept session Memory h nothing =
+    nothing_more day before mid after commands (whole_of day before mid commands kept session h) nothing
+ends_early day before mid after commands kept session Write h part =
+    let answer = (reply_of session kept).text in
+    let text = replies h.lines (start day) in (
+      text ++ take part.0 answer,
+      Appends-trans before mid after text (take part.0 answer) h.wrote part.1,
+      (
+        drop part.0 answer,
+        answers_all day h.lines h.begun commands h.begun_is h.leads ∙ ended_text day before mid commands kept session h
+            ∙ ap (λ (x : List ℕ). text ++ x) (sym (take-append-drop part.0 answer))
+            ∙ sym (append_assoc text (take part.0 answer) (drop part.0 answer)),
+      ),
+    )
+ends_early day before mid after commands kept session fault h never = absurd never
+
+pub finish_halts : {A : Type 0} (result : Result A ProgFault) (day : List (List ℕ)) (before mid after : Option (List ℕ)) (commands kept : List ℕ) (session : Option Session) → Stands day before mid commands session kept → IfErr result (λ fault. Unfinished fault mid after (reply_of session kept).text) → IfErr result (EndsEarly day before after commands)
+finish_halts (Ok x) day before mid after commands kept session h e = tt
+finish_halts (Err fault) day before mid after commands kept session h e = ends_early day before mid after commands kept session fault h e

@@ -3,8 +3,8 @@ ghost use Rattle.std.specs.Prelude.{◌≡◌, ◌≢◌, ◌++◌, ◌∷◌, [
 ghost use Rattle.std.specs.Io.KnownBytes.{Appends};
 ghost use Rattle.binaryfile.specs.Devices.{HasFailed};
 ghost use Rattle.itch_debug.specs.Going.{session_of};
-ghost use Rattle.itch_debug.specs.Runs.{Halts, Stands, Unfinished};
-ghost use Rattle.itch_debug.specs.Sessions.{reply_of};
+ghost use Rattle.itch_debug.specs.Runs.{EndsEarly, Halts, Stands, Unfinished};
+ghost use Rattle.itch_debug.specs.Sessions.{answers, reply_of};
 
 use crate::session::{Next, answer_line};
 use binaryfile::{Sink, send};
@@ -138,5 +138,21 @@ impl<'d, A: Allocator + Copy> Console<'d, A> {
             self.take_byte(alloc, sink, *byte)?;
         }
         Ok(())
+    }
+
+    /// Answers the line that has begun, which is the last, and sends the answer: then all commands are answered.
+    pub fn finish<W: Write>(&mut self, alloc: A, sink: &mut Sink<W>) -> Result<(), ProgFault>
+        ensures ok { (day : List (List ℕ)) (before : Option (List ℕ)) (commands : List ℕ) →
+            Stands day before (W.contents sink.old.device) commands
+            (session_of self.old.next self.old.debugger) self.old.begun.items →
+            OnOk result (Appends before (W.contents sink.new.device) (answers day commands)) }
+        ensures err { (day : List (List ℕ)) (before : Option (List ℕ)) (commands : List ℕ) →
+            Stands day before (W.contents sink.old.device) commands
+            (session_of self.old.next self.old.debugger) self.old.begun.items →
+            IfErr result (EndsEarly day before (W.contents sink.new.device) commands) }
+        ensures write { IsErrOf result ProgFault.Write → HasFailed sink.new }
+        ensures for_good { HasFailed sink.old → sink.new ≡ sink.old }
+    {
+        self.end_line(alloc, sink)
     }
 }
