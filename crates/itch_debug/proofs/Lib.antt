@@ -1,3 +1,4 @@
+pub mod Consoles
 pub mod Numbers
 pub mod Replying
 pub mod StockLines

@@ -2,3 +2,4 @@ pub mod Commands
 pub mod Answering
 pub mod Sessions
 pub mod Going
+pub mod Runs

@@ -5,6 +5,7 @@
 
 mod answer;
 mod command;
+mod console;
 mod lines;
 mod session;
 mod stock;
