@@ -1,6 +1,6 @@
 //! Leads each day file that is named through the plain machine, through a machine for each of its stocks, through the
-//! parts of several numbers of workers and through a debugger, and compares what they say. It prints a line for each file,
-//! and ends with status 1 where two differ.
+//! parts of several numbers of workers and through a debugger, and compares what they say. It prints a line for each
+//! file, and ends with status 1 where two differ.
 #![tactic(auto)]
 
 mod comparing;

@@ -87,7 +87,7 @@ fn a_run_without_memory_ends(rt: HostRuntime) -> Result<(), Fail> {
         &false,
     )?;
     let growths = heap.asked();
-    same("some growths", &(growths > 20 && growths <= 200), &true)?;
+    same("some growths", &(growths > 0 && growths <= 1_000), &true)?;
     for growth in 1..=growths {
         is_refused(&rt, &heap, &day, Refusal::Only(growth))?;
         let refused = is_refused(&rt, &heap, &day, Refusal::From(growth))?;

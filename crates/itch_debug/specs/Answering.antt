@@ -95,7 +95,8 @@ order_line order =
 -- the levels of a stock: its bids and its asks
 abbrev pub sides_of : World → ℕ → List ℕ
 sides_of w locate =
-    flat_map bid_line (levels (orders_of w locate) Buy) ++ flat_map ask_line (levels (orders_of w locate) Sell)
+    flat_map bid_line (levels (orders_of w locate) Buy)
+    ++ flat_map ask_line (levels (orders_of w locate) Sell)
 
 -- the levels, the orders and the totals of a stock
 abbrev pub book_of : World → ℕ → List ℕ

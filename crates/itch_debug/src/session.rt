@@ -18,11 +18,12 @@ pub enum Next {
     Over,
 }
 
-/// Does what a line of a session asks for, and adds its answer to `text`: the lines that the command is answered by, and
+/// Does what a line of a session asks for, and adds its answer to `text`: the lines that answer the command, and
 /// nothing for a blank line and for `quit`, which ends the session. `line` has no line feed. The commands and their
 /// answers are of this project.
 ///
-/// An error says that memory was refused; `text` may then have a part of the answer, and the debugger may have moved.
+/// An error says that memory was refused; `text` may then have a part of the answer, and the position and the
+/// breakpoints may have changed.
 pub fn answer_line<A: Allocator + Copy>(
     alloc: A,
     text: &mut Vec<u8, A>,

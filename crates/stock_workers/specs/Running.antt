@@ -13,14 +13,16 @@ use Rattle.stock_workers.specs.declared.forking.Waiting.{Waiting}
 
 -- a worker of the day that hasn't started: the writers of its stocks have published nothing, and are of the
 -- board
-pub record IsWaiting (split : Split) (board : List CellId) (worker : ℕ) (writers : List WriterAt) : Type 0 where
+pub record IsWaiting (split : Split) (board : List CellId) (worker : ℕ) (writers : List WriterAt)
+    : Type 0 where
   pub one : worker < split.workers
   pub none_done : WritersAt split.day (λ _. 0) (own_locates split.workers worker split.day) writers
   pub on_board : All (λ w. IsOn board w.place) writers
 
 -- all workers of a split day before they start, in the order of their numbers, each with the writers of its
 -- stocks
-pub record AreWaiting {A : Type 0} (split : Split) (writer : ℕ → WriterAt) (all : List (Waiting A)) : Type 0 where
+pub record AreWaiting {A : Type 0} (split : Split) (writer : ℕ → WriterAt) (all : List (Waiting A))
+    : Type 0 where
   pub splits_are : map (λ w. w.parts.now) all ≡ each_worker (λ worker. split) split
   pub numbers_are : map (λ w. w.worker) all ≡ each_worker (λ worker. worker) split
   pub writers_are : map (λ w. w.writers.items) all ≡ each_worker (for_own_stocks writer split) split
