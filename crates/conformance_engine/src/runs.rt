@@ -5,9 +5,10 @@ use itch_engine::{ProgFault, replay_run};
 use refusing::{Refusal, Refusing};
 use std::io::ErrorKind;
 use std::sync::Wait;
+use std::sync::atomic::{AtomicU64, Ordering};
 use std::test::Fail;
 use std::thread::Threads;
-use stock_workers::FreeGate;
+use stock_workers::Gate;
 use support::{FILE, Failure, Narrow, Pieces, REPORT, same, same_bytes};
 
 // A run on the worked file, which comes in pieces.
@@ -37,22 +38,47 @@ fn engines_write_their_output(rt: HostRuntime) -> Result<(), Fail> {
     Ok(())
 }
 
-// A replay of the worked file by so many workers.
+// Counts how often workers come to a message, and adds up the numbers of these messages.
+#[derive(Drop)]
+struct Counting {
+    calls: AtomicU64,
+    sum: AtomicU64,
+}
+
+impl Gate for Counting {
+    fn at<R: Threads + Wait + Sync>(&self, _rt: &R, _worker: u32, message: u32) {
+        self.calls.fetch_add(1, Ordering::SeqCst);
+        self.sum.fetch_add(u64::from(message), Ordering::SeqCst);
+    }
+}
+
+// A replay of the worked file by so many workers, who come to messages 1 and 2, the only ones of a stock.
 fn try_workers<T: AllocGlobal + Threads + Wait + Sync>(rt: &T, workers: u32) -> Result<(), Fail> {
     let mut output = Vec::new(rt.alloc());
     if workers == 0 || workers > 64 {
         return Err(Fail::new("a replay has 1 to 64 workers"));
     }
+    let gate = Counting {
+        calls: AtomicU64::new(0),
+        sum: AtomicU64::new(0),
+    };
     let answer = replay_run(
         rt,
         rt.alloc(),
         &mut Feed::new(FILE),
         &mut Sink::new(&mut output),
         workers,
-        &FreeGate,
+        &gate,
     );
     same("an answer", &(workers, answer), &(workers, Ok(1)))?;
-    same_bytes("a report", &output, REPORT)
+    same_bytes("a report", &output, REPORT)?;
+    let calls = gate.calls.load(Ordering::SeqCst);
+    let sum = gate.sum.load(Ordering::SeqCst);
+    same(
+        "calls of the gate",
+        &(workers, calls, sum),
+        &(workers, 2, 3),
+    )
 }
 
 #[test]
