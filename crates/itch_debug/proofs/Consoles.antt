@@ -1,16 +1,15 @@
 -- How a session goes on by a byte, and where it halts.
-use Rattle.std.proofs.Common.{◌≡◌, ◌<◌, ◌≤◌, ◌+◌, ℕ, suc, get_or, List, [], ◌∷◌, ◌++◌, Option, Some, None, Bool, true, false, refl, sym, ap, subst, ◌∙◌, arith, rules, length, take, drop, append_assoc, append-nil, length-append, inl, inr}
-use Rattle.std.specs.Prelude.{Result, Ok, Err, OnOk, IfErr, IfSome, nat_lt}
-use Rattle.std.specs.Io.KnownBytes.{Appends, Consumes, IsAtEnd}
+use Rattle.std.proofs.Common.{◌≡◌, ◌<◌, ◌≤◌, ◌+◌, ℕ, suc, get_or, List, [], ◌∷◌, ◌++◌, Option, Some, None, false, refl, sym, ap, subst, ◌∙◌, arith, length, take, drop, append_assoc, append-nil, length-append, inl, inr}
+use Rattle.std.specs.Prelude.{Result, Ok, Err, OnOk, IfErr}
+use Rattle.std.specs.Io.KnownBytes.{Appends}
 use Rattle.std.specs.List.{All, slice_split}
 use Rattle.std.proofs.Math.Seq.{take-suc}
-use Rattle.std.proofs.KnownBytes.{Appends-nil, Appends-trans, Consumes-trans}
+use Rattle.std.proofs.KnownBytes.{Appends-trans}
 use Rattle.std.proofs.lemmas.Bool.{cases_lt, lt-ltb}
-use Rattle.std.proofs.lemmas.Bool.Decides.{nat_tests}
 use Rattle.std.proofs.lemmas.List.{length-take-le, take-append-drop, take-append-le, take_all}
 use Rattle.std.proofs.lemmas.List.Elements.{All-append, All-cons, All-nil}
 use Rattle.std.proofs.lemmas.List.Splits.{slice_split_at, slice_split_none}
-use Rattle.debugger.specs.Sessions.{Session, new_session}
+use Rattle.debugger.specs.Sessions.{Session}
 use Rattle.itch_engine.specs.declared.fault.ProgFault.{ProgFault}
 use Rattle.itch_engine.specs.declared.fault.ProgFault.TheVariants.{Memory, Read, Write}
 use Rattle.itch_debug.specs.Answering.{Reply, reply_or}
@@ -20,7 +19,7 @@ use Rattle.itch_debug.specs.Runs.{AnswersPart, AnswersWhole, EndsEarly, Halts, I
 
 -- ---- lines, one after another
 
-replies_more : (lines rest : List (List ℕ)) (s : Option Session) → replies (lines ++ rest) s ≡ replies lines s ++ replies rest (session_after lines s)
+pub replies_more : (lines rest : List (List ℕ)) (s : Option Session) → replies (lines ++ rest) s ≡ replies lines s ++ replies rest (session_after lines s)
 replies_more [] rest s = refl
 replies_more (line ∷ lines) rest s =
     ap (λ (x : List ℕ). (reply_of s line).text ++ x) (replies_more lines rest (reply_of s line).next)

@@ -1,4 +1,5 @@
 pub mod Consoles
 pub mod Numbers
 pub mod Replying
+pub mod Serving
 pub mod StockLines

@@ -1,5 +1,5 @@
 -- Which replies the searches have, and a breakpoint that is added.
-use Rattle.std.proofs.Common.{◌≡◌, ◌≢◌, inl, inr, ℕ, zero, suc, ◌+◌, ◌-◌, ◌<◌, ◌≤◌, ◌==◌, ◌++◌, ◌∷◌, [], List, Bool, true, false, length, Option, Some, None, refl, sym, ap, subst, ◌∙◌, arith, ne_eqb, filter, cond, append-nil, add-one, get_or, eqb-true, eq-eqb, length-append, lt-ltb, ltb, ◌&&◌}
+use Rattle.std.proofs.Common.{◌≡◌, ◌≢◌, inl, inr, ℕ, zero, suc, ◌+◌, ◌-◌, ◌<◌, ◌≤◌, ◌==◌, ◌++◌, ◌∷◌, [], List, Bool, true, false, length, Option, Some, None, refl, sym, ap, subst, ◌∙◌, arith, ne_eqb, filter, cond, append-nil, get_or, eqb-true, eq-eqb, length-append, lt-ltb, ltb, ◌&&◌}
 use Rattle.std.specs.List.{position, position_or_len}
 use Rattle.std.proofs.lemmas.List.Sums.{fails_before_first}
 use Rattle.itch_table.specs.declared.order.Side.{Side}
@@ -9,7 +9,7 @@ use Rattle.debugger.specs.declared.breakpoint.Break.TheVariants.{Price, Referenc
 use Rattle.std.specs.Prelude.{Contains, slice_get, Result, Ok, Err, OnOk}
 use Rattle.std.proofs.Math.ListN.{get_or-append}
 use Rattle.std.specs.List.{range_with_len}
-use Rattle.std.proofs.lemmas.Bool.{cases_Bool, cases_lt, false≢true, true≢false}
+use Rattle.std.proofs.lemmas.Bool.{cases_Bool, cases_lt, false≢true}
 use Rattle.std.proofs.lemmas.Option.{get_or_from_slice_get, slice_get_within, slice_get-get_or}
 use Rattle.std.proofs.lemmas.List.Quantifiers.{position-Some}
 use Rattle.day_core.specs.Owners.{last_or}

@@ -1,5 +1,5 @@
 -- The answer of each command. The lines are of this project; each ends with a line feed, and its numbers are decimal.
-use Rattle.std.specs.Prelude.{◌≡◌, ℕ, ◌+◌, ◌-◌, ◌==◌, ◌&&◌, nat_le, Bool, true, false, if◌then◌else◌, zero, suc, List, [], ◌∷◌, ◌++◌, length, filter, position, codes, decimal, slice_get, Option, Some, None, Result, OnOk}
+use Rattle.std.specs.Prelude.{◌≡◌, ℕ, ◌+◌, ◌-◌, ◌==◌, ◌&&◌, nat_le, Bool, false, if◌then◌else◌, zero, suc, List, [], ◌∷◌, ◌++◌, length, filter, position, codes, decimal, slice_get, Option, Some, None, Result, OnOk}
 use Rattle.std.specs.declared.vec.Vec.{Vec}
 use Rattle.std.specs.List.{flat_map, range_with_len}
 use Rattle.itch_layouts.specs.declared.message.Directory.{Directory}

@@ -1,11 +1,15 @@
 -- What a debugging session reads, writes and answers. All is of this project.
-use Rattle.std.specs.Prelude.{◌≡◌, ℕ, false, List, [], ◌++◌, take, Option, Some}
-use Rattle.std.specs.Io.KnownBytes.{Appends}
+use Rattle.std.specs.Prelude.{◌≡◌, ◌≤◌, ◌<◌, ◌⊎◌, ℕ, ◌+◌, ◌^◌, Bool, false, IsTrue, List, [], ◌++◌, length, take, Option, Some, IfSome}
+use Rattle.std.specs.Io.KnownBytes.{Appends, Consumes}
 use Rattle.std.specs.List.{All, slice_split}
 use Rattle.itch_engine.specs.declared.fault.ProgFault.{ProgFault}
 use Rattle.itch_engine.specs.declared.fault.ProgFault.TheVariants.{Memory, Read, Write}
 use Rattle.debugger.specs.Sessions.{Session, new_session}
 use Rattle.itch_debug.specs.Sessions.{answers, is_line_feed, replies, session_after}
+
+-- the most bytes of commands that a session takes
+abbrev pub most_command_bytes : ℕ
+most_command_bytes = 2 ^ 30
 
 -- a session of a day that begins
 abbrev pub start : List (List ℕ) → Option Session
@@ -74,3 +78,61 @@ EndsEarly day before after commands Memory = AnswersWhole day before after comma
 EndsEarly day before after commands Write =
     (text : List ℕ) × Appends before after text × ((rest : List ℕ) × (answers day commands ≡ text ++ rest))
 EndsEarly day before after commands fault = ⊥
+
+-- The reader gave these commands, the session stands where they bring it, and `left` more bytes may come.
+pub record Serves (day : List (List ℕ)) (unread unread_after before after : Option (List ℕ))
+    (session : Option Session) (kept : List ℕ) (left : ℕ) : Type 0 where
+  pub commands : List ℕ
+  pub gave : Consumes unread unread_after commands
+  pub stands : Stands day before after commands session kept
+  pub counted : length commands + left ≡ most_command_bytes
+
+-- Read comes exactly where the feed has failed or more bytes came than a session takes.
+abbrev pub Cause : ProgFault → Bool → ℕ → Type 0
+Cause Read failed count = IsTrue failed ⊎ (most_command_bytes < count)
+Cause fault failed count = (failed ≡ false) × (count ≤ most_command_bytes)
+
+-- The reader gave these commands, and a fault came.
+pub record Faults (day : List (List ℕ)) (unread unread_after before after : Option (List ℕ)) (failed : Bool)
+    (fault : ProgFault) : Type 0 where
+  pub commands : List ℕ
+  pub gave : Consumes unread unread_after commands
+  pub halts : Halts day before after commands fault
+  pub cause : Cause fault failed (length commands)
+
+-- Where these commands have come in, what is left of the input changes no answer.
+abbrev pub ChangesNothing : List (List ℕ) → List ℕ → Option (List ℕ) → Type 0
+ChangesNothing day commands left = IfSome left (λ more. answers day (commands ++ more) ≡ answers day commands)
+
+-- The reader gave these commands, to its end or to one that ends the session, and the session stands where they
+-- bring it.
+pub record ServesAll (day : List (List ℕ)) (unread unread_after before after : Option (List ℕ))
+    (session : Option Session) (kept : List ℕ) : Type 0 where
+  pub commands : List ℕ
+  pub gave : Consumes unread unread_after commands
+  pub within : length commands ≤ most_command_bytes
+  pub stands : Stands day before after commands session kept
+  pub all : ChangesNothing day commands unread_after
+
+-- The reader gave these commands, to its end or to one that ends the session, and their answers were written, and
+-- nothing else.
+pub record Answers (day : List (List ℕ)) (unread unread_after before after : Option (List ℕ)) : Type 0 where
+  pub commands : List ℕ
+  pub gave : Consumes unread unread_after commands
+  pub within : length commands ≤ most_command_bytes
+  pub wrote : Appends before after (answers day commands)
+  pub all : ChangesNothing day commands unread_after
+
+-- A fault came at the end of the commands.
+pub record HaltsAtEnd (day : List (List ℕ)) (unread_after before after : Option (List ℕ)) (commands : List ℕ)
+    (fault : ProgFault) : Type 0 where
+  pub early : EndsEarly day before after commands fault
+  pub all : ChangesNothing day commands unread_after
+
+-- The reader gave these commands, and a fault came among their lines or at their end.
+pub record Fails (day : List (List ℕ)) (unread unread_after before after : Option (List ℕ)) (failed : Bool)
+    (fault : ProgFault) : Type 0 where
+  pub commands : List ℕ
+  pub gave : Consumes unread unread_after commands
+  pub halts : Halts day before after commands fault ⊎ HaltsAtEnd day unread_after before after commands fault
+  pub cause : Cause fault failed (length commands)

@@ -1,4 +1,4 @@
-use Rattle.std.proofs.Common.{rules, ◌≡◌, ◌<◌, ◌^◌, lit≤}
+use Rattle.std.proofs.Common.{rules, ◌<◌, ◌^◌, lit≤}
 use Rattle.std.specs.Prelude.{IfSome}
 use Rattle.itch_debug.proofs.Numbers.{number_is}
 use Rattle.itch_debug.proofs.command.number_in.Goals as goal

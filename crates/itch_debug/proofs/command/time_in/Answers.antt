@@ -1,6 +1,4 @@
-use Rattle.std.proofs.Common.{rules, ◌≡◌, arith}
-use Rattle.std.proofs.lemmas.Grind.{common_steps}
-use Rattle.std.proofs.lemmas.Bool.Decides.{nat_tests}
+use Rattle.std.proofs.Common.{rules}
 use Rattle.itch_text.specs.Values.{NumberText}
 use Rattle.itch_debug.proofs.Numbers.{number_found, kept_below}
 use Rattle.itch_debug.proofs.command.time_in.Goals as goal

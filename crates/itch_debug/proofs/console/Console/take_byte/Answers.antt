@@ -1,9 +1,9 @@
-use Rattle.std.proofs.Common.{◌≡◌, ◌<◌, ◌≤◌, ◌++◌, ◌∷◌, [], ℕ, List, false, length, rules, arith, refl}
+use Rattle.std.proofs.Common.{◌≡◌, ◌<◌, ◌≤◌, ◌++◌, ◌∷◌, [], false, length, rules, arith, refl}
 use Rattle.std.specs.Prelude.{IfErr}
 use Rattle.std.proofs.lemmas.Bool.Decides.{nat_tests}
 use Rattle.itch_engine.specs.declared.fault.ProgFault.TheVariants.{Memory}
 use Rattle.itch_debug.specs.Going.{session_of}
-use Rattle.itch_debug.specs.Runs.{Halts, Stands, Unfinished}
+use Rattle.itch_debug.specs.Runs.{Unfinished}
 use Rattle.itch_debug.specs.Sessions.{is_line_feed, reply_of}
 use Rattle.itch_debug.proofs.Consoles.{halts_ended, memory_halts, stands_byte, stands_ended}
 use Rattle.itch_debug.proofs.console.Console.take_byte.Goals as goal

@@ -1,4 +1,4 @@
-use Rattle.std.proofs.Common.{◌≡◌, ◌<◌, ◌++◌, ◌∷◌, [], ℕ, List, get_or, length, take, rules}
+use Rattle.std.proofs.Common.{◌<◌, ◌++◌, ◌∷◌, [], ℕ, get_or, length, take, rules}
 use Rattle.std.specs.Prelude.{IfErr}
 use Rattle.itch_debug.specs.Runs.{Halts}
 use Rattle.itch_debug.proofs.Consoles.{err_piece}
