@@ -18,6 +18,8 @@ pub enum Task<'a> {
     Disassemble { file: &'a str },
     /// To make a file of a text.
     Assemble { text: &'a str, out: &'a str },
+    /// To answer the commands of standard input about a file.
+    Debug { file: &'a str },
     /// To replay the file whose hexadecimal digits are standard input.
     ReplayDigits,
 }
@@ -70,6 +72,13 @@ fn asm_command<'a>(alloc: Global) -> Result<Command<'a>, AllocError> {
         ))
 }
 
+// The arguments that debug a file.
+fn debug_command<'a>(alloc: Global) -> Result<Command<'a>, AllocError> {
+    Command::new(alloc, "debug")
+        .about("Goes through a day both ways, by commands on standard input")
+        .arg(path(alloc, "FILE", DAY_HELP))
+}
+
 // The arguments that the program takes.
 fn itch_command<'a>(alloc: Global) -> Result<Command<'a>, AllocError> {
     Command::new(alloc, "itch")
@@ -79,7 +88,8 @@ fn itch_command<'a>(alloc: Global) -> Result<Command<'a>, AllocError> {
         .disable_help_subcommand(true)
         .subcommand(replay_command(alloc)?)?
         .subcommand(dis_command(alloc)?)?
-        .subcommand(asm_command(alloc)?)
+        .subcommand(asm_command(alloc)?)?
+        .subcommand(debug_command(alloc)?)
 }
 
 /// The arguments, read, or why they are invalid.
@@ -105,6 +115,11 @@ pub fn chosen_task<'a>(matches: &ArgMatches<'a>) -> Task<'a> {
         && let Some(out) = asm.get_str("OUT")
     {
         return Task::Assemble { text, out };
+    }
+    if let Some(debug) = matches.subcommand_matches("debug")
+        && let Some(file) = debug.get_str("FILE")
+    {
+        return Task::Debug { file };
     }
     Task::ReplayDigits
 }

@@ -5,8 +5,10 @@ mod arguments;
 mod output;
 
 use arguments::Task;
-use binaryfile::{Feed, Sink};
+use binaryfile::{Day, Feed, Limits, Sink};
 use clap::error::ErrorKind;
+use itch_debug::debug_run;
+use itch_engine::limits::{MOST_FILE_BYTES, MOST_MESSAGES};
 use itch_engine::{ProgFault, asm_run, dis_run, hex_run, replay_run, status};
 use output::Created;
 use std::process::ExitCode;
@@ -81,6 +83,22 @@ fn assemble<R: Runtime + AllocGlobal>(rt: &R, text: &str, out: &str) -> Result<u
     }
 }
 
+// Answers the commands of standard input about a file, on standard output.
+fn debug<R: Runtime + AllocGlobal>(rt: &R, path: &str) -> Result<u32, ProgFault> {
+    let Ok(file) = fs::open(rt, path) else {
+        return Err(ProgFault::Read);
+    };
+    let limits = Limits {
+        bytes: MOST_FILE_BYTES,
+        messages: MOST_MESSAGES,
+    };
+    let day = Day::load(rt.alloc(), &mut Feed::new(file), limits)?;
+    let mut commands = Feed::new(rt.reader());
+    let mut sink = Sink::new(io::writer(rt));
+    debug_run(rt.alloc(), &day, &mut commands, &mut sink)?;
+    Ok(0)
+}
+
 // Replays the file whose hexadecimal digits are standard input, and writes its report on standard output.
 fn replay_digits<R: Runtime + AllocGlobal + Threads + Wait + Sync>(
     rt: &R,
@@ -111,6 +129,7 @@ fn run<R: Runtime + AllocGlobal + Threads + Wait + Sync>(rt: &R, arguments: &[St
         Task::Replay { file, workers } => end(rt, replay(rt, file, workers)),
         Task::Disassemble { file } => end(rt, disassemble(rt, file)),
         Task::Assemble { text, out } => end(rt, assemble(rt, text, out)),
+        Task::Debug { file } => end(rt, debug(rt, file)),
         Task::ReplayDigits => end(rt, replay_digits(rt)),
     }
 }
