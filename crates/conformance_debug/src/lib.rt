@@ -4,6 +4,8 @@
 #[cfg(test)]
 mod memory;
 #[cfg(test)]
+mod runs;
+#[cfg(test)]
 mod sessions;
 #[cfg(test)]
 mod worked;
