@@ -22,8 +22,8 @@ pub use crate::load::{LoadFault, read_to_end};
 pub use crate::payloads::Payloads;
 pub use crate::sink::{Sink, WriteFault, send};
 
-/// One entry in every 16 has its place in the index of a day, so the index has half a byte a message.
-const STRIDE: usize = 16;
+/// One entry in every 8 has its place in the index of a day, so the index has a byte a message.
+const STRIDE: usize = 8;
 
 /// The law on which the view of a [`Day`] rests: every string of bytes has exactly one splitting into payloads, a
 /// marker or none, and a tail. Calling it does nothing.

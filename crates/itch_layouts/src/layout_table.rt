@@ -1,6 +1,6 @@
 //! The table of layouts.
 ghost use Rattle.std.specs.Prelude.{◌≡◌, IsTrue, map, option_map};
-ghost use Rattle.itch_layouts.specs.Layouts.{head_fields, layout_of_kind, layout_of_mnemonic, table};
+ghost use Rattle.itch_layouts.specs.Layouts.{head_fields, layout_of_kind, layout_of_mnemonic, size_of, table};
 ghost use Rattle.itch_layouts.specs.Soundness.{is_sound};
 ghost use Rattle.itch_layouts.specs.StaticFields.{as_field};
 ghost use Rattle.itch_layouts.specs.StaticLayouts.{as_layout, as_static_layout};
@@ -136,6 +136,16 @@ fn item_of_kind(kind: u8) -> Option<&'static StaticLayout>
         }
     }
     None
+}
+
+/// The size in bytes of a type's payloads, or `None` where the type has no layout.
+///
+/// Nasdaq TotalView-ITCH 5.0, "Message Formats".
+#[tactic(auto, unfolding(crate::specs::Layouts::size_of))]
+pub fn size_of_kind(kind: u8) -> Option<u16>
+    ensures { result ≡ size_of kind }
+{
+    Some(item_of_kind(kind)?.size)
 }
 
 /// The layout of a type, or `None` where the type has no layout.

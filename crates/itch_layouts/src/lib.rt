@@ -16,12 +16,12 @@ mod writer;
 pub use field::{Field, Form};
 pub use laws::{one_layout, one_message, one_payload, one_shape};
 pub use layout::Layout;
-pub use layout_table::{head_fields, layout_of_kind, layout_of_mnemonic};
+pub use layout_table::{head_fields, layout_of_kind, layout_of_mnemonic, size_of_kind};
 pub use message::{
     Add, AddMpid, Breach, Broken, Cancel, Collar, Cross, Decline, Delete, Directory, Execute,
     ExecutePrice, Head, Imbalance, Ipo, Msg, NonCrossTrade, Operational, Participant, Regsho,
     Replace, Retail, System, TradingAction,
 };
 pub use nanos::Nanos;
-pub use shape::{Shape, read_msg, size_of_kind};
+pub use shape::{Shape, read_msg};
 pub use writer::write_msg;

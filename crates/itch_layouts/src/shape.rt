@@ -6,7 +6,6 @@ ghost use Rattle.itch_layouts.specs.Means.{Means, Reads};
 ghost use Rattle.itch_layouts.specs.Shapes.{shape_of};
 ghost use Rattle.itch_layouts.specs.declared.message.Msg.{Msg};
 
-use crate::layout_table::layout_of_kind;
 use crate::message::Msg;
 use crate::readers;
 
@@ -19,16 +18,6 @@ pub enum Shape {
     Unknown,
     /// The type has a layout, and the payload's length isn't its size.
     BadLength,
-}
-
-/// The size in bytes of a type's payloads, or `None` where the type has no layout.
-///
-/// Nasdaq TotalView-ITCH 5.0, "Message Formats".
-#[tactic(auto, unfolding(crate::specs::Layouts::size_of))]
-pub fn size_of_kind(kind: u8) -> Option<u16>
-    ensures { result ≡ size_of kind }
-{
-    Some(layout_of_kind(kind)?.size)
 }
 
 // The shape of a payload whose type has a layout of another size.
