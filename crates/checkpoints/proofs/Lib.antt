@@ -1,3 +1,4 @@
 pub mod Reading
+pub mod Indexing
 pub mod Splitting
 pub mod Along

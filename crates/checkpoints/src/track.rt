@@ -1,8 +1,9 @@
 //! One stock along a day.
 ghost use Rattle.std.specs.Prelude.{◌≡◌, ◌*◌, ◌<◌, ◌≤◌, IfOk, length};
 ghost use Rattle.day_core.specs.Owners.{machine_of};
-ghost use Rattle.checkpoints.specs.Copies.{IsTrack, copies_of, machine_after_own, numbers_of};
+ghost use Rattle.checkpoints.specs.Copies.{IsTrack, copies_of, distance_of, machine_after_own, numbers_of};
 
+use crate::index::StockIndex;
 use crate::own::{advance, numbers_of};
 use binaryfile::Day;
 use std::alloc::{AllocError, Allocator};
@@ -12,8 +13,9 @@ use stock_machine::Stock;
 /// One stock along a day: its machine after any number of the day's messages.
 ///
 /// The stock's messages are kept by their numbers, four bytes each, and a copy of its machine after every so many of
-/// them, so that at most so many are stepped to any place. It is seen as the day and the stock's locate code. All is of
-/// this project.
+/// them, so that fewer than so many are stepped to any place. The copies lie as many messages apart as is asked for, or
+/// further where that would make more than 64, the first among them. It is seen as the day and the stock's locate code.
+/// All is of this project.
 #[derive(Drop)]
 pub struct Track<'d, A: Allocator> {
     day: &'d Day<A>,
@@ -33,32 +35,71 @@ impl<'d, A: Allocator> Model for Track<'d, A> {
     ghost invariant = { λ t. IsTrack t.day.now.payloads t.locate t.every t.numbers.items t.copies.items };
 }
 
+// The most copies of a machine, the first among them.
+const MOST_COPIES: usize = 64;
+
+// How many messages lie from one copy to the next, where a stock has messages with these numbers.
+fn distance_of(every: u32, numbers: &[u32]) -> usize
+    ensures { result ≡ distance_of every (length numbers.now) }
+{
+    (every as usize).max(numbers.len() / MOST_COPIES + 1)
+}
+
 // A stock's machine before its first message, and after every so many of its messages. Each is stepped from a
 // copy of the one before.
 fn copies_of<A: Allocator + Copy>(
     alloc: A,
     day: &Day<A>,
     locate: u16,
-    every: usize,
+    distance: usize,
     numbers: &[u32],
 ) -> Result<Vec<Stock<A>, A>, AllocError>
-    requires some { 0 < every }
+    requires some { 0 < distance }
     requires numbers { numbers.now ≡ numbers_of day.now.payloads locate }
-    ensures { IfOk result (λ copies. copies.items ≡ copies_of day.now.payloads locate every) }
+    ensures { IfOk result (λ copies. copies.items ≡ copies_of day.now.payloads locate distance) }
 {
     let mut copies = Vec::new(alloc);
     copies.push(Stock::new(alloc, locate))?;
-    for last in 0..numbers.len() / every {
+    for last in 0..numbers.len() / distance {
         let mut stock = copies[last].copy(alloc)?;
-        advance(&mut stock, day, numbers, last * every, (last + 1) * every)?;
+        advance(
+            &mut stock,
+            day,
+            numbers,
+            last * distance,
+            (last + 1) * distance,
+        )?;
         copies.push(stock)?;
     }
     Ok(copies)
 }
 
 impl<'d, A: Allocator + Copy> Track<'d, A> {
-    /// Goes through the day once, and keeps a copy of the stock's machine after every `every` of its messages, of which
-    /// the caller hands at least one. An error says that memory was refused.
+    // The track of a stock by the numbers of its messages.
+    fn along(
+        alloc: A,
+        day: &'d Day<A>,
+        locate: u16,
+        every: u32,
+        numbers: Vec<u32, A>,
+    ) -> Result<Track<'d, A>, AllocError>
+        requires some { 0 < every }
+        requires numbers { numbers.items ≡ numbers_of day.now.payloads locate }
+        ensures { IfOk result (λ track. track ≡ record { day = day.now.payloads; locate = locate }) }
+    {
+        let distance = distance_of(every, &numbers);
+        let copies = copies_of(alloc, day, locate, distance, &numbers)?;
+        Ok(Track {
+            day,
+            locate,
+            every,
+            numbers,
+            copies,
+        })
+    }
+
+    /// Goes through the day once, and keeps copies of the stock's machine `every` of its messages apart, or further
+    /// apart where they would be many. `every` is at least 1. An error says that memory was refused.
     pub fn make(
         alloc: A,
         day: &'d Day<A>,
@@ -69,14 +110,22 @@ impl<'d, A: Allocator + Copy> Track<'d, A> {
         ensures { IfOk result (λ track. track ≡ record { day = day.now.payloads; locate = locate }) }
     {
         let numbers = numbers_of(alloc, day, locate)?;
-        let copies = copies_of(alloc, day, locate, every as usize, &numbers)?;
-        Ok(Track {
-            day,
-            locate,
-            every,
-            numbers,
-            copies,
-        })
+        Track::along(alloc, day, locate, every, numbers)
+    }
+
+    /// What [`Track::make`] makes, by an index of the day and without going through the day. `every` is at least 1. An
+    /// error says that memory was refused.
+    pub fn from_index(
+        alloc: A,
+        index: &StockIndex<'d, A>,
+        locate: u16,
+        every: u32,
+    ) -> Result<Track<'d, A>, AllocError>
+        requires { 0 < every }
+        ensures { IfOk result (λ track. track ≡ record { day = index.now; locate = locate }) }
+    {
+        let numbers = Vec::from_slice(alloc, index.numbers(locate))?;
+        Track::along(alloc, index.day(), locate, every, numbers)
     }
 
     /// The stock's machine after the first `n` messages of the day, of which there are as many. An error says that
@@ -85,11 +134,11 @@ impl<'d, A: Allocator + Copy> Track<'d, A> {
         requires { n ≤ length self.now.day }
         ensures { IfOk result (λ stock. stock ≡ machine_of self.now.day self.now.locate n) }
     {
-        let every = self.every as usize;
+        let distance = distance_of(self.every, &self.numbers);
         let taken = self.numbers.partition_point(|number| *number <= n);
-        let last = taken / every;
+        let last = taken / distance;
         let mut stock = self.copies[last].copy(alloc)?;
-        advance(&mut stock, self.day, &self.numbers, last * every, taken)?;
+        advance(&mut stock, self.day, &self.numbers, last * distance, taken)?;
         Ok(stock)
     }
 }

@@ -11,3 +11,5 @@ mod days;
 mod moves;
 #[cfg(test)]
 mod refusals;
+#[cfg(test)]
+mod tracks;

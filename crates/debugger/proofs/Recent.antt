@@ -28,5 +28,5 @@ module _ (day : List (List ℕ)) (every : ℕ) (tracks : List Tracked) (are : Ar
   }
 
   -- one is put first
-  pub tracks_kept : (t : Tracked) → t.day ≡ day → length tracks ≤ 7 → AreTracks day every (t ∷ tracks)
+  pub tracks_kept : (t : Tracked) → t.day ≡ day → length tracks ≤ 63 → AreTracks day every (t ∷ tracks)
   tracks_kept t of room = record { some = are.some; same = All-cons IsOf t tracks of are.same; few = omega arith }

@@ -59,7 +59,7 @@ pub record Marked : Type 0 where
 pub record AreTracks (day : List (List ℕ)) (every : ℕ) (tracks : List Tracked) : Type 0 where
   pub some : 0 < every
   pub same : All (λ t. t.day ≡ day) tracks
-  pub few : length tracks ≤ 8
+  pub few : length tracks ≤ 64
 
 -- what a debugger keeps beside its breakpoints, each of the same day
 pub record IsSession (day : List (List ℕ)) (position : ℕ) (outcome : Option Outcome) (systems : List ℕ)

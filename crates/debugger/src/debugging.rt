@@ -74,8 +74,10 @@ impl<'d, A: Allocator> Model for Debugger<'d, A> {
 }
 
 impl<'d, A: Allocator + Copy> Debugger<'d, A> {
-    /// A debugger of a day at position 0, without breakpoints. It keeps a copy of a stock's machine after every `every`
-    /// of the stock's messages, of which the caller hands at least one. An error says that memory was refused.
+    /// A debugger of a day at position 0, without breakpoints. It keeps copies of a stock's machine `every` of its
+    /// messages apart, or further apart where they would be many ([`Track`](checkpoints::Track)); `every` is at least
+    /// 1. It goes through the day twice, and keeps four to eight bytes a message. An error says that memory was
+    /// refused.
     pub fn new(alloc: A, day: &'d Day<A>, every: u32) -> Result<Debugger<'d, A>, AllocError>
         requires { 0 < every }
         ensures { IfOk result (λ debugger. debugger ≡ new_session day.now.payloads) }
@@ -86,7 +88,7 @@ impl<'d, A: Allocator + Copy> Debugger<'d, A> {
             outcome: None,
             systems: systems_of(alloc, day)?,
             breakpoints: Breakpoints::new(alloc, day),
-            tracks: Tracks::new(alloc, day, every),
+            tracks: Tracks::new(alloc, day, every)?,
         })
     }
 

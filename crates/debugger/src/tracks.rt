@@ -4,18 +4,18 @@ ghost use Rattle.checkpoints.specs.Copies.{Tracked};
 ghost use Rattle.day_core.specs.Owners.{machine_of};
 
 use binaryfile::Day;
-use checkpoints::Track;
+use checkpoints::{StockIndex, Track};
 use std::alloc::{AllocError, Allocator};
 use std::marker::Model;
 use stock_machine::Stock;
 
 // The most tracks that are kept.
-const MOST_TRACKS: usize = 8;
+const MOST_TRACKS: usize = 64;
 
-/// Tracks of the stocks that were asked for last, at most eight of them, seen as the day that they are of.
+/// Tracks of the stocks that were asked for last, at most 64 of them, seen as the day that they are of.
 #[derive(Drop)]
 pub struct Tracks<'d, A: Allocator> {
-    day: &'d Day<A>,
+    index: StockIndex<'d, A>,
     every: u32,
     // The one that was asked for last is the first.
     recent: Vec<Track<'d, A>, A>,
@@ -27,9 +27,9 @@ impl<'d, A: Allocator> Model for Tracks<'d, A> {
 
     ghost Value = { List (List ℕ) };
 
-    ghost view = { λ t. t.day.now.payloads };
+    ghost view = { λ t. t.index };
 
-    ghost invariant = { λ t. AreTracks t.day.now.payloads t.every t.recent.items };
+    ghost invariant = { λ t. AreTracks t.index t.every t.recent.items };
 }
 
 // The place of a stock's track.
@@ -42,16 +42,17 @@ fn place_of<A: Allocator>(recent: &[Track<'_, A>], locate: u16) -> Option<usize>
 }
 
 impl<'d, A: Allocator + Copy> Tracks<'d, A> {
-    /// No track yet. Each will keep a copy of its stock's machine after every `every` of the stock's messages.
-    pub fn new(alloc: A, day: &'d Day<A>, every: u32) -> Tracks<'d, A>
+    /// No track yet. Each will keep copies of its stock's machine `every` of the stock's messages apart, or further
+    /// apart where they would be many. An error says that memory was refused.
+    pub fn new(alloc: A, day: &'d Day<A>, every: u32) -> Result<Tracks<'d, A>, AllocError>
         requires { 0 < every }
-        ensures { result ≡ day.now.payloads }
+        ensures { IfOk result (λ tracks. tracks ≡ day.now.payloads) }
     {
-        Tracks {
-            day,
+        Ok(Tracks {
+            index: StockIndex::new(alloc, day)?,
             every,
             recent: Vec::new(alloc),
-        }
+        })
     }
 
     // Takes out a stock's track, or makes one where there is none.
@@ -61,7 +62,7 @@ impl<'d, A: Allocator + Copy> Tracks<'d, A> {
     {
         match place_of(&self.recent, locate) {
             Some(place) => Ok(self.recent.remove(place)),
-            None => Track::make(alloc, self.day, locate, self.every),
+            None => Track::from_index(alloc, &self.index, locate, self.every),
         }
     }
 
