@@ -3,7 +3,8 @@ ghost use Rattle.itch_table.specs.Shows.{locates_of_day};
 ghost use Rattle.top_cell.specs.Boards.{AreNew, IsOn};
 
 use crate::screens::first_screen;
-use binaryfile::Day;
+use binaryfile::{Day, Feed, Sink};
+use itch_engine::replay_run;
 use std::alloc::{Allocator, Global};
 use std::sync::Wait;
 use std::sync::atomic::{AtomicU64, Ordering};
@@ -35,6 +36,17 @@ fn is_set(word: &AtomicU64) -> bool {
     false
 }
 
+impl Meeting {
+    // Nobody has come yet.
+    fn new() -> Meeting {
+        Meeting {
+            first: AtomicU64::new(0),
+            second: AtomicU64::new(0),
+            met: AtomicU64::new(0),
+        }
+    }
+}
+
 impl Gate for Meeting {
     fn at<R: Threads + Wait + Sync>(&self, _rt: &R, worker: u32, message: u32) {
         let (own, other) = match (worker, message) {
@@ -53,19 +65,29 @@ impl Gate for Meeting {
 fn two_workers_run_beside_each_other(rt: HostRuntime) -> Result<(), Fail> {
     let alloc = rt.alloc();
     let day = day_with(alloc, &[AAPL.directory(), MSFT.directory()])?;
-    let gate = Meeting {
-        first: AtomicU64::new(0),
-        second: AtomicU64::new(0),
-        met: AtomicU64::new(0),
-    };
+    let gate = Meeting::new();
     let (board, writers) = Board::new(&rt, &alloc, &day)?;
-    let replayed = run(&rt, alloc, &day, &board, writers, 2, &gate);
-    same("the day is replayed", &replayed.is_ok(), &true)?;
-    same(
-        "how many met the other",
-        &gate.met.load(Ordering::SeqCst),
-        &2,
-    )
+    let replayed = run(&rt, alloc, &day, &board, writers, 2, &gate).is_ok();
+    let met = gate.met.load(Ordering::SeqCst);
+    same("who met the other in a run", &(replayed, met), &(true, 2))
+}
+
+#[test]
+fn two_workers_of_a_report_run_beside_each_other(rt: HostRuntime) -> Result<(), Fail> {
+    let alloc = rt.alloc();
+    let day = day_with(alloc, &[AAPL.directory(), MSFT.directory()])?;
+    let gate = Meeting::new();
+    let mut report = Vec::new(alloc);
+    let answer = replay_run(
+        &rt,
+        alloc,
+        &mut Feed::new(day.bytes()),
+        &mut Sink::new(&mut report),
+        2,
+        &gate,
+    );
+    let met = gate.met.load(Ordering::SeqCst);
+    same("who met the other in a replay", &(answer, met), &(Ok(0), 2))
 }
 
 // Holds the worker at message 2 until a screen has seen message 1.

@@ -1,5 +1,5 @@
-//! A day that workers replay in threads: the same for each number of workers, workers that are held, and memory
-//! that is refused.
+//! A day that workers replay in threads: the same for each number of workers, one worker turn by turn, workers that are
+//! held, and memory that is refused.
 #![tactic(auto)]
 
 #[cfg(test)]
@@ -10,3 +10,5 @@ mod memory;
 mod runs;
 #[cfg(test)]
 mod screens;
+#[cfg(test)]
+mod turns;

@@ -1,4 +1,5 @@
 //! Whole runs, by several numbers of workers.
+use crate::screens::first_screen;
 use binaryfile::Day;
 use itch_table::{Fault, Outcome};
 use std::alloc::{Allocator, Global};
@@ -8,7 +9,7 @@ use std::thread::Threads;
 use stock_machine::Stock;
 use stock_workers::{FreeGate, Replayed, RunFault, run};
 use support::{crossed_book, day_with, same, same_list, system, two_stocks};
-use top_cell::{Board, TopWriter};
+use top_cell::{Board, Reading, TopWriter};
 
 /// A day, replayed on a new board.
 pub fn replayed<R: Threads + Wait + Sync>(
@@ -94,6 +95,30 @@ fn a_crossed_book_ends_at_its_last_message(rt: HostRuntime) -> Result<(), Fail> 
         same("the stock", &prices, &Some((1_010_000, 1_000_000)))?;
     }
     Ok(())
+}
+
+#[test]
+fn screens_read_the_last_message_after_a_run(rt: HostRuntime) -> Result<(), Fail> {
+    let alloc = rt.alloc();
+    let day = crossed_book(alloc)?;
+    let (board, mut writers) = Board::new(&rt, &alloc, &day)?;
+    let mut early = first_screen(&rt, &board, &mut writers)?;
+    same("before the run", &early.message(), &0)?;
+    let mut replayed = run(&rt, alloc, &day, &board, writers, 2, &FreeGate)?;
+    let mut late = first_screen(&rt, &board, &mut replayed.writers)?;
+    let crossed = Reading {
+        message: 3,
+        bid_price: 1_010_000,
+        bid_shares: 100,
+        ask_price: 1_000_000,
+        ask_shares: 50,
+    };
+    let found = (early.read(&rt, &board), late.read(&rt, &board));
+    same(
+        "a screen from before the run, and one from after it",
+        &found,
+        &(crossed, crossed),
+    )
 }
 
 #[test]

@@ -61,7 +61,7 @@ impl Screen {
     /// The stock's best bid and ask after some message, which isn't earlier than the one at which the screen stood
     /// and becomes it. The words are loaded anew at each call. The caller hands the screen's own board, here and below.
     ///
-    /// It may wait for a publish that is under way on the same cell.
+    /// It may wait for a publish or another read that is under way on the same cell.
     pub fn read<R: Wait, A: Allocator>(&mut self, rt: &R, board: &Board<'_, A>) -> Reading
         requires { IsOn board.now self.old.place }
         ensures shows { Shows self.old.place.day self.old.place.locate result.message (words_read result) }

@@ -59,7 +59,7 @@ impl TopWriter {
     /// published. A message is published also where the best bid and ask stay as they were. The caller hands the
     /// writer's own board, and the best bid and ask that the day's stock has after the message.
     ///
-    /// It may wait for a read that is under way on the same cell.
+    /// It may wait for reads that are under way on the same cell.
     pub fn publish<R: Wait, A: Allocator>(
         &mut self,
         rt: &R,
