@@ -1,2 +1,3 @@
 pub mod Tops
 pub mod Kinds
+pub mod Watching
