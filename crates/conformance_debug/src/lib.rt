@@ -4,8 +4,12 @@
 #[cfg(test)]
 mod memory;
 #[cfg(test)]
+mod refusals;
+#[cfg(test)]
 mod runs;
 #[cfg(test)]
 mod sessions;
+#[cfg(test)]
+mod transcript;
 #[cfg(test)]
 mod worked;

@@ -1,0 +1,80 @@
+//! Sessions that run out of memory.
+use crate::worked::{TRADED, day_in};
+use binaryfile::{Day, Feed, Sink};
+use itch_debug::debug_run;
+use itch_engine::ProgFault;
+use refusing::{Refusal, Refusing};
+use std::alloc::Allocator;
+use std::test::Fail;
+use support::{Failure, Narrow, Pieces, same, same_bytes};
+
+// Lines, and the answer of each.
+const LINES: &str =
+    "goto 5\nbreak price 1 B 1500000\nshow 1\nrearward\nbreaks\nfoo\nremove 1\nstep";
+
+const ANSWERS: [&str; 8] = [
+    "at 5 applied\n",
+    "break 1\n",
+    "stock 1 \"AAPL\" state \"H\" reason \"T1\" regsho none\n\
+     bid 1500000 50\n\
+     order 1 B 50 1500000 none\n\
+     trades 2 shares 50 notional 75000000 unprinted 0\n",
+    "at 3 applied break 1\n",
+    "1 price 1 B 1500000\n",
+    "? command\n",
+    "removed\n",
+    "at 4 applied\n",
+];
+
+// How many whole answers these bytes are, which are no part of another one.
+fn answered(bytes: &[u8]) -> Result<usize, Fail> {
+    let mut left = bytes;
+    let mut count = 0usize;
+    for answer in ANSWERS {
+        let Some(rest) = left.strip_prefix(answer.as_bytes()) else {
+            break;
+        };
+        left = rest;
+        count = count.wrapping_add(1);
+    }
+    same_bytes("a part of an answer", left, b"")?;
+    Ok(count)
+}
+
+// Runs a session whose growths are refused so, and answers how it ended, and how many answers were sent.
+fn run<'h, A: Allocator + Copy>(
+    alloc: A,
+    heap: &'h Refusing<A>,
+    day: &Day<&'h Refusing<A>>,
+    refusal: Refusal,
+) -> Result<(Result<(), ProgFault>, usize), Fail> {
+    let mut reader = Pieces::new(LINES.as_bytes(), 7);
+    let mut writer = Narrow::failing(alloc, 0, Failure::TakesNone);
+    let mut feed = Feed::new(&mut reader);
+    let mut sink = Sink::new(&mut writer);
+    heap.restart(refusal);
+    let ended = debug_run(heap, day, &mut feed, &mut sink);
+    Ok((ended, answered(writer.taken())?))
+}
+
+// Each growth is refused with all after it, which ends the session, and alone, which ends it at the same answer or is
+// done without. No growth ends it at an earlier answer than the growth before it does.
+#[test]
+fn a_session_without_memory_has_sent_the_answers_before(rt: HostRuntime) -> Result<(), Fail> {
+    let alloc = rt.alloc();
+    let heap = Refusing::new(alloc, Refusal::Never);
+    let day = day_in(&heap, TRADED)?;
+    let whole = run(alloc, &heap, &day, Refusal::Never)?;
+    same("with memory", &whole, &(Ok(()), ANSWERS.len()))?;
+    let growths = heap.asked();
+    let mut before = 0;
+    for growth in 1..=growths {
+        let ended = run(alloc, &heap, &day, Refusal::From(growth))?;
+        same("without memory", &ended.0, &Err(ProgFault::Memory))?;
+        same("no earlier answer", &(before <= ended.1), &true)?;
+        let alone = run(alloc, &heap, &day, Refusal::Only(growth))?;
+        same("a growth alone", &(alone == ended || alone == whole), &true)?;
+        before = ended.1;
+    }
+    same("the last answer", &before, &(ANSWERS.len() - 1))
+}
