@@ -1,9 +1,17 @@
 //! What the machine of one stock says, beside what the plain machine says of that stock.
-use itch_table::{Plain, Side};
+use itch_table::{Outcome, Plain, Side};
 use std::alloc::Allocator;
 use std::test::Fail;
 use stock_machine::Stock;
 use support::{same, same_list};
+
+/// Hands the plain machine the next payload, and answers what became of it.
+pub fn step<A: Allocator + Copy>(plain: &mut Plain<A>, payload: &[u8]) -> Result<Outcome, Fail> {
+    if plain.steps() == u32::MAX {
+        return Err(Fail::new("a machine takes no more messages"));
+    }
+    Ok(plain.step(payload)?)
+}
 
 // The top, the totals and the status.
 fn same_known<A: Allocator + Copy>(plain: &Plain<A>, stock: &Stock<A>) -> Result<(), Fail> {

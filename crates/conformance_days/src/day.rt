@@ -1,5 +1,5 @@
 //! A day, message by message, through the plain machine and through a machine for each of its stocks.
-use crate::comparing::same_stocks;
+use crate::comparing::{same_stocks, step};
 use binaryfile::Day;
 use itch_table::{Outcome, Part, Plain, part};
 use std::alloc::{AllocError, Allocator};
@@ -48,10 +48,7 @@ pub fn compare<A: Allocator + Copy>(alloc: A, day: &Day<A>) -> Result<usize, Fai
     let mut stocks = Vec::new(alloc);
     let mut messages = 0u64;
     for payload in day.payloads() {
-        if plain.steps() == u32::MAX {
-            return Err(Fail::new("a machine takes no more messages"));
-        }
-        let outcome = plain.step(payload)?;
+        let outcome = step(&mut plain, payload)?;
         same("an outcome", &take(alloc, &mut stocks, payload)?, &outcome)?;
         if let Part::Locate(_) = part(payload) {
             messages = messages.saturating_add(1);

@@ -1,14 +1,21 @@
-//! Leads each day file that is named through the plain machine, through a machine for each of its stocks, through the
-//! parts of several numbers of workers and through a debugger, and compares what they say. It prints a line for each
-//! file, and ends with status 1 where two differ.
+//! Leads each day file that is named, and days at random, through the plain machine, through a machine for each of
+//! their stocks, through the parts of several numbers of workers, one after another and in threads, and through a
+//! debugger, and compares what they say. It prints a line for each file and one for the days at random, and ends with
+//! status 1 where two differ.
 #![tactic(auto)]
 
 mod comparing;
 mod day;
 mod places;
+mod random;
+mod random_days;
+mod stops;
+mod tally;
+mod texts;
 mod workers;
 
 use binaryfile::{Day, Feed, Limits};
+use std::alloc::Allocator;
 use std::rt::Runtime;
 use std::sync::Wait;
 use std::test::Fail;
@@ -21,6 +28,18 @@ const LIMITS: Limits = Limits {
     messages: 1 << 16,
 };
 
+// Compares the machines over a day, and answers how many stocks have messages.
+fn compare_day<R: Threads + Wait + Sync, A: Allocator + Copy + Send + Sync>(
+    rt: &R,
+    alloc: A,
+    day: &Day<A>,
+) -> Result<usize, Fail> {
+    let stocks = day::compare(alloc, day)?;
+    workers::compare_workers(rt, alloc, day)?;
+    places::compare_places(rt, alloc, day)?;
+    Ok(stocks)
+}
+
 // Compares the machines over one file, and prints how many messages and stocks it has.
 fn compare_file<R: Runtime + AllocGlobal + Threads + Wait + Sync>(
     rt: &R,
@@ -32,16 +51,14 @@ fn compare_file<R: Runtime + AllocGlobal + Threads + Wait + Sync>(
     let Ok(day) = Day::load(rt.alloc(), &mut Feed::new(file), LIMITS) else {
         return Err(Fail::new("the file can't be loaded"));
     };
-    let stocks = day::compare(rt.alloc(), &day)?;
-    workers::compare_workers(rt, rt.alloc(), &day)?;
-    places::compare_places(rt, rt.alloc(), &day)?;
+    let stocks = compare_day(rt, rt.alloc(), &day)?;
     match println!(rt; "{path}: {} messages, {stocks} stocks", day.len()) {
         Ok(()) => Ok(()),
         Err(_) => Err(Fail::new("a line can't be printed")),
     }
 }
 
-// Compares the machines over each file, up to the first where they differ.
+// Compares the machines over each file and over days at random, up to the first where they differ.
 fn run<R: Runtime + AllocGlobal + Threads + Wait + Sync>(rt: &R) -> Result<(), Fail> {
     let Ok(arguments) = env::args(rt) else {
         return Err(Fail::new("the arguments can't be read"));
@@ -49,7 +66,15 @@ fn run<R: Runtime + AllocGlobal + Threads + Wait + Sync>(rt: &R) -> Result<(), F
     for path in arguments.skip(1) {
         compare_file(rt, &path)?;
     }
-    Ok(())
+    random_days::compare_random_days(rt, rt.alloc())?;
+    match println!(rt;
+        "at random: {} days, {} messages each",
+        random_days::DAYS,
+        random_days::MESSAGES
+    ) {
+        Ok(()) => Ok(()),
+        Err(_) => Err(Fail::new("a line can't be printed")),
+    }
 }
 
 fn main(rt: HostRuntime) -> Result<(), Fail> {

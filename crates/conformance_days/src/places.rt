@@ -1,5 +1,5 @@
 //! A day at any place that a debugger goes to, beside the plain machine.
-use crate::comparing::same_stock;
+use crate::comparing::{same_stock, step};
 use binaryfile::Day;
 use day_core::locates;
 use debugger::Debugger;
@@ -9,7 +9,7 @@ use std::test::Fail;
 use std::thread::Threads;
 use support::same;
 
-// How many messages of a stock are stepped at most to any place.
+// How many of a stock's messages apart a debugger is asked to keep copies.
 const DISTANCES: [u32; 5] = [1, 2, 3, 7, 1_000];
 
 // The plain machine after the first messages of a day, and the outcome of the last of them.
@@ -21,10 +21,7 @@ fn plain_at<A: Allocator + Copy>(
     let mut plain = Plain::new(alloc);
     let mut outcome = None;
     for payload in day.payloads().take(n as usize) {
-        if plain.steps() == u32::MAX {
-            return Err(Fail::new("a machine takes no more messages"));
-        }
-        outcome = Some(plain.step(payload)?);
+        outcome = Some(step(&mut plain, payload)?);
     }
     Ok((plain, outcome))
 }
@@ -61,7 +58,7 @@ pub fn compare_places<R: Threads + Sync, A: Allocator + Copy + Send + Sync>(
     let every = if day.len() <= 100 { 1 } else { 100 };
     for distance in DISTANCES {
         if distance == 0 {
-            return Err(Fail::new("a track steps no message"));
+            return Err(Fail::new("copies lie no message apart"));
         }
         let mut debugger = Debugger::new(alloc, day, distance)?;
         for n in 0..=day.len() {

@@ -1,49 +1,85 @@
 //! A day replayed for several numbers of workers, beside the plain machine.
-use crate::comparing::same_stocks;
+use crate::comparing::{same_stocks, step};
 use binaryfile::{Day, Feed, Sink};
 use day_core::{replay_parts, split};
 use itch_engine::replay_run;
-use itch_table::{Outcome, Plain};
+use itch_table::{Outcome, Part, Plain, part};
 use std::alloc::Allocator;
 use std::sync::Wait;
 use std::test::Fail;
 use std::thread::Threads;
-use stock_workers::FreeGate;
+use stock_machine::Stock;
+use stock_workers::{FreeGate, run};
 use support::{same, same_bytes, same_list};
+use top_cell::Board;
 
 /// The numbers of workers.
 const WORKERS: [u32; 4] = [1, 2, 3, 64];
 
-// Leads the plain machine through a day, and notes the outcomes.
-fn follow<A: Allocator + Copy>(
-    day: &Day<A>,
-    plain: &mut Plain<A>,
-    outcomes: &mut Vec<Outcome, A>,
-) -> Result<(), Fail> {
-    for payload in day.payloads() {
-        if plain.steps() == u32::MAX {
-            return Err(Fail::new("a machine takes no more messages"));
-        }
-        outcomes.push(plain.step(payload)?)?;
-    }
-    Ok(())
+// What the plain machine makes of a day.
+#[derive(Drop)]
+struct Wanted<A: Allocator> {
+    plain: Plain<A>,
+    outcomes: Vec<Outcome, A>,
+    // How many messages are of a stock.
+    messages: u64,
 }
 
-// Replays a day by its parts, and compares the outcomes, the event and all stocks with those of the plain machine.
+// Leads the plain machine through a day.
+fn follow<A: Allocator + Copy>(alloc: A, day: &Day<A>) -> Result<Wanted<A>, Fail> {
+    let mut plain = Plain::new(alloc);
+    let mut outcomes = Vec::new(alloc);
+    let mut messages = 0u64;
+    for payload in day.payloads() {
+        outcomes.push(step(&mut plain, payload)?)?;
+        if let Part::Locate(_) = part(payload) {
+            messages = messages.saturating_add(1);
+        }
+    }
+    Ok(Wanted {
+        plain,
+        outcomes,
+        messages,
+    })
+}
+
+// Compares the outcomes, the event and all stocks of a day with those of the plain machine.
+fn same_day<A: Allocator + Copy>(
+    alloc: A,
+    outcomes: &[Outcome],
+    stocks: &[Stock<A>],
+    event: Option<u8>,
+    wanted: &Wanted<A>,
+) -> Result<(), Fail> {
+    same_list("the outcomes", outcomes, &wanted.outcomes)?;
+    same("the last event", &event, &wanted.plain.event())?;
+    same_stocks(alloc, &wanted.plain, stocks, wanted.messages)
+}
+
+// Replays a day by its parts, one after another.
 fn compare_parts<R: Threads + Sync, A: Allocator + Copy + Send + Sync>(
     rt: &R,
     alloc: A,
     day: &Day<A>,
     workers: u32,
-    plain: &Plain<A>,
-    outcomes: &[Outcome],
+    wanted: &Wanted<A>,
 ) -> Result<(), Fail> {
     let parts = split(rt, alloc, day, workers)?;
-    let replayed = replay_parts(alloc, &parts, day)?;
-    let messages = u64::from(day.len()).saturating_sub(parts.fixed().len() as u64);
-    same_list("the outcomes", &replayed.outcomes, outcomes)?;
-    same("the last event", &replayed.event, &plain.event())?;
-    same_stocks(alloc, plain, &replayed.stocks, messages)
+    let found = replay_parts(alloc, &parts, day)?;
+    same_day(alloc, &found.outcomes, &found.stocks, found.event, wanted)
+}
+
+// Replays a day by workers in threads.
+fn compare_run<R: Threads + Wait + Sync, A: Allocator + Copy + Send + Sync>(
+    rt: &R,
+    alloc: A,
+    day: &Day<A>,
+    workers: u32,
+    wanted: &Wanted<A>,
+) -> Result<(), Fail> {
+    let (board, writers) = Board::new(rt, &alloc, day)?;
+    let found = run(rt, alloc, day, &board, writers, workers, &FreeGate)?;
+    same_day(alloc, &found.outcomes, &found.stocks, found.event, wanted)
 }
 
 // The report of a day.
@@ -75,12 +111,11 @@ pub fn compare_workers<R: Threads + Wait + Sync, A: Allocator + Copy + Send + Sy
     alloc: A,
     day: &Day<A>,
 ) -> Result<(), Fail> {
-    let mut plain = Plain::new(alloc);
-    let mut outcomes = Vec::new(alloc);
-    follow(day, &mut plain, &mut outcomes)?;
+    let wanted = follow(alloc, day)?;
     let report = report_of(rt, alloc, day, 1)?;
     for workers in WORKERS {
-        compare_parts(rt, alloc, day, workers, &plain, &outcomes)?;
+        compare_parts(rt, alloc, day, workers, &wanted)?;
+        compare_run(rt, alloc, day, workers, &wanted)?;
         same_bytes("a report", &report_of(rt, alloc, day, workers)?, &report)?;
     }
     Ok(())

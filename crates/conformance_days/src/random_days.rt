@@ -1,0 +1,75 @@
+//! Days at random, through all machines, the debugger and the text form.
+use crate::compare_day;
+use crate::random::random_day;
+use crate::stops::compare_stops;
+use crate::tally::Tally;
+use crate::texts::compare_texts;
+use debugger::Break;
+use itch_layouts::Nanos;
+use itch_table::Side;
+use rand::SeedableRng;
+use rand::rngs::SmallRng;
+use std::alloc::Allocator;
+use std::sync::Wait;
+use std::test::Fail;
+use std::thread::Threads;
+
+/// How many days there are.
+pub const DAYS: u64 = 100;
+
+/// How many messages each of them has after the first directory messages.
+pub const MESSAGES: u32 = 97;
+
+// How many texts with one byte changed are assembled for each day.
+const CHANGED_TEXTS: u32 = 50;
+
+// How many of these denote a file at least, over all days.
+const ASSEMBLED_TEXTS: u64 = 100;
+
+// Breakpoints of each kind.
+fn breakpoints() -> Result<[Break; 4], Fail> {
+    let Some(time) = Nanos::new(u64::from(u16::MAX)) else {
+        return Err(Fail::new("no time"));
+    };
+    Ok([
+        Break::Price {
+            locate: 1,
+            side: Side::Buy,
+            price: 2,
+        },
+        Break::Price {
+            locate: 3,
+            side: Side::Sell,
+            price: 4,
+        },
+        Break::Reference {
+            locate: 2,
+            reference: 5,
+        },
+        Break::Time { time },
+    ])
+}
+
+/// Compares the machines, the debugger and the texts over days at random, and fails too where an outcome is rare.
+pub fn compare_random_days<R: Threads + Wait + Sync, A: Allocator + Copy + Send + Sync>(
+    rt: &R,
+    alloc: A,
+) -> Result<(), Fail> {
+    let mut tally = Tally::NONE;
+    let mut assembled = 0u64;
+    for seed in 0..DAYS {
+        let day = random_day(alloc, seed, MESSAGES)?;
+        compare_day(rt, alloc, &day)?;
+        for breakpoint in breakpoints()? {
+            compare_stops(alloc, &day, breakpoint)?;
+        }
+        let mut random = SmallRng::seed_from_u64(seed);
+        let texts = compare_texts(alloc, &day, &mut random, CHANGED_TEXTS)?;
+        assembled = assembled.saturating_add(texts);
+        tally.add_day(alloc, &day)?;
+    }
+    if assembled < ASSEMBLED_TEXTS {
+        return Err(Fail::new(format_args!("{assembled} changed texts denote a file")));
+    }
+    tally.judge()
+}
