@@ -1,4 +1,4 @@
--- The tracks that were asked for last.
+-- The tracks that are kept.
 use Rattle.std.proofs.Common.{◌≡◌, ℕ, suc, ◌<◌, ◌≤◌, List, ◌∷◌, length, take, drop, arith}
 use Rattle.std.specs.List.{remove}
 use Rattle.std.proofs.lemmas.List.{length-take}
@@ -7,26 +7,33 @@ use Rattle.std.proofs.lemmas.List.Elements.{All-append, All-cons, All-drop, All-
 use Rattle.checkpoints.specs.Copies.{Tracked}
 use Rattle.debugger.specs.Sessions.{AreTracks}
 
-module _ (day : List (List ℕ)) (every : ℕ) (tracks : List Tracked) (are : AreTracks day every tracks) where
+module _ (day : List (List ℕ)) (every : ℕ) (busy tracks : List Tracked) (are : AreTracks day every busy tracks) where
   abbrev IsOf : Tracked → Type 0
   IsOf t = t.day ≡ day
 
   -- one is taken out
-  pub tracks_removed : (i : ℕ) → i < length tracks → AreTracks day every (remove tracks i)
+  pub tracks_removed : (i : ℕ) → i < length tracks → AreTracks day every busy (remove tracks i)
   tracks_removed i lt = record {
     some = are.some;
-    same = All-append IsOf (take i tracks) (drop (suc i) tracks) (All-take IsOf i tracks are.same) (All-drop IsOf (suc i) tracks are.same);
+    busy_of = are.busy_of;
+    recent_of = All-append IsOf (take i tracks) (drop (suc i) tracks) (All-take IsOf i tracks are.recent_of) (All-drop IsOf (suc i) tracks are.recent_of);
     few = omega (arith, are.few, length-remove tracks i lt);
   }
 
   -- some are dropped
-  pub tracks_dropped : (n : ℕ) → AreTracks day every (take n tracks)
+  pub tracks_dropped : (n : ℕ) → AreTracks day every busy (take n tracks)
   tracks_dropped n = record {
     some = are.some;
-    same = All-take IsOf n tracks are.same;
+    busy_of = are.busy_of;
+    recent_of = All-take IsOf n tracks are.recent_of;
     few = omega (arith, are.few, length-take n tracks);
   }
 
   -- one is put first
-  pub tracks_kept : (t : Tracked) → t.day ≡ day → length tracks ≤ 63 → AreTracks day every (t ∷ tracks)
-  tracks_kept t of room = record { some = are.some; same = All-cons IsOf t tracks of are.same; few = omega arith }
+  pub tracks_kept : (t : Tracked) → t.day ≡ day → length tracks ≤ 63 → AreTracks day every busy (t ∷ tracks)
+  tracks_kept t of room = record {
+    some = are.some;
+    busy_of = are.busy_of;
+    recent_of = All-cons IsOf t tracks of are.recent_of;
+    few = omega arith;
+  }

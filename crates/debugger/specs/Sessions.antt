@@ -55,11 +55,16 @@ pub record Marked : Type 0 where
   pub day : List (List ℕ)
   pub breaks : List Break
 
--- every track is of the day, and they are few
-pub record AreTracks (day : List (List ℕ)) (every : ℕ) (tracks : List Tracked) : Type 0 where
+-- every track is of the day
+abbrev pub AreOf : List (List ℕ) → List Tracked → Type 0
+AreOf day tracks = All (λ t. t.day ≡ day) tracks
+
+-- every track is of the day, and those of the stocks that were asked for last are few
+pub record AreTracks (day : List (List ℕ)) (every : ℕ) (busy recent : List Tracked) : Type 0 where
   pub some : 0 < every
-  pub same : All (λ t. t.day ≡ day) tracks
-  pub few : length tracks ≤ 64
+  pub busy_of : AreOf day busy
+  pub recent_of : AreOf day recent
+  pub few : length recent ≤ 64
 
 -- what a debugger keeps beside its breakpoints, each of the same day
 pub record IsSession (day : List (List ℕ)) (position : ℕ) (outcome : Option Outcome) (systems : List ℕ)

@@ -1,6 +1,7 @@
-//! The stocks that were asked for last, along the day.
-ghost use Rattle.std.specs.Prelude.{◌≡◌, ◌<◌, ◌≤◌, IfOk, IfSome, length, slice_index_or};
+//! The stocks that were asked for last, along the day, and those with the most messages.
+ghost use Rattle.std.specs.Prelude.{◌≡◌, ◌<◌, ◌≤◌, IfOk, IfSome, OnOk, length, slice_index_or};
 ghost use Rattle.checkpoints.specs.Copies.{Tracked};
+ghost use Rattle.debugger.specs.Sessions.{AreOf};
 ghost use Rattle.day_core.specs.Owners.{machine_of};
 
 use binaryfile::Day;
@@ -9,14 +10,21 @@ use std::alloc::{AllocError, Allocator};
 use std::marker::Model;
 use stock_machine::Stock;
 
-// The most tracks that are kept.
+// The most tracks that are kept of the stocks that were asked for last.
 const MOST_TRACKS: usize = 64;
 
-/// Tracks of the stocks that were asked for last, at most 64 of them, seen as the day that they are of.
+// A stock is busy that has more messages than this, and more than one in so many of the day's.
+const BUSY_MESSAGES: u32 = 75_000;
+const BUSY_SHARE: u32 = 200;
+
+/// Tracks of the busy stocks, and of the stocks that were asked for last, at most 64 of them, seen as the day that they
+/// are of.
 #[derive(Drop)]
 pub struct Tracks<'d, A: Allocator> {
     index: StockIndex<'d, A>,
     every: u32,
+    // Made at the start, since that takes a while, and kept.
+    busy: Vec<Track<'d, A>, A>,
     // The one that was asked for last is the first.
     recent: Vec<Track<'d, A>, A>,
 }
@@ -29,28 +37,69 @@ impl<'d, A: Allocator> Model for Tracks<'d, A> {
 
     ghost view = { λ t. t.index };
 
-    ghost invariant = { λ t. AreTracks t.index t.every t.recent.items };
+    ghost invariant = { λ t. AreTracks t.index t.every t.busy.items t.recent.items };
 }
 
 // The place of a stock's track.
-fn place_of<A: Allocator>(recent: &[Track<'_, A>], locate: u16) -> Option<usize>
-    ensures within { IfSome result (λ place. place < length recent.now) }
+fn place_of<A: Allocator>(tracks: &[Track<'_, A>], locate: u16) -> Option<usize>
+    ensures within { IfSome result (λ place. place < length tracks.now) }
     ensures found { IfSome result (λ place. (track : Tracked) →
-        (slice_index_or recent.now place track).locate ≡ locate) }
+        (slice_index_or tracks.now place track).locate ≡ locate) }
 {
-    recent.iter().position(|track| track.locate() == locate)
+    tracks.iter().position(|track| track.locate() == locate)
+}
+
+// Adds the track of a stock that has more than so many messages.
+fn add_busy<'d, A: Allocator + Copy>(
+    alloc: A,
+    index: &StockIndex<'d, A>,
+    locate: u16,
+    every: u32,
+    messages: u32,
+    busy: &mut Vec<Track<'d, A>, A>,
+) -> Result<(), AllocError>
+    requires some { 0 < every }
+    requires tracks { AreOf index.now busy.old.items }
+    ensures { OnOk result (AreOf index.now busy.new.items) }
+{
+    if index.numbers(locate).len() <= messages as usize {
+        return Ok(());
+    }
+    busy.push(Track::from_index(alloc, index, locate, every)?)?;
+    Ok(())
+}
+
+// The tracks of the stocks that have more than so many messages.
+fn busy_tracks<'d, A: Allocator + Copy>(
+    alloc: A,
+    index: &StockIndex<'d, A>,
+    every: u32,
+    messages: u32,
+) -> Result<Vec<Track<'d, A>, A>, AllocError>
+    requires { 0 < every }
+    ensures { IfOk result (λ tracks. AreOf index.now tracks.items) }
+{
+    let mut busy = Vec::new(alloc);
+    for locate in 0..=u16::MAX {
+        add_busy(alloc, index, locate, every, messages, &mut busy)?;
+    }
+    Ok(busy)
 }
 
 impl<'d, A: Allocator + Copy> Tracks<'d, A> {
-    /// No track yet. Each will keep copies of its stock's machine `every` of the stock's messages apart, or further
-    /// apart where they would be many. An error says that memory was refused.
+    /// The tracks of the busy stocks. Each track keeps copies of its stock's machine `every` of the stock's messages
+    /// apart, or further apart where they would be many. An error says that memory was refused.
     pub fn new(alloc: A, day: &'d Day<A>, every: u32) -> Result<Tracks<'d, A>, AllocError>
         requires { 0 < every }
         ensures { IfOk result (λ tracks. tracks ≡ day.now.payloads) }
     {
+        let index = StockIndex::new(alloc, day)?;
+        let messages = (day.len() / BUSY_SHARE).max(BUSY_MESSAGES);
+        let busy = busy_tracks(alloc, &index, every, messages)?;
         Ok(Tracks {
-            index: StockIndex::new(alloc, day)?,
+            index,
             every,
+            busy,
             recent: Vec::new(alloc),
         })
     }
@@ -84,6 +133,9 @@ impl<'d, A: Allocator + Copy> Tracks<'d, A> {
         ensures stock { IfOk result (λ stock. stock ≡ machine_of self.old locate n) }
         ensures day { self.new ≡ self.old }
     {
+        if let Some(place) = place_of(&self.busy, locate) {
+            return self.busy[place].at(alloc, n);
+        }
         let track = self.take(alloc, locate)?;
         let stock = track.at(alloc, n)?;
         self.keep(track)?;
