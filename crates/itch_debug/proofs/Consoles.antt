@@ -1,5 +1,5 @@
 -- How a session goes on by a byte, and where it halts.
-use Rattle.std.proofs.Common.{◌≡◌, ◌<◌, ◌≤◌, ◌+◌, ℕ, suc, get_or, List, [], ◌∷◌, ◌++◌, Option, Some, None, false, refl, sym, ap, subst, ◌∙◌, arith, length, take, drop, append_assoc, append-nil, length-append, inl, inr}
+use Rattle.std.proofs.Common.{◌≡◌, ◌<◌, ◌≤◌, ◌+◌, ℕ, suc, get_or, Bool, List, [], ◌∷◌, ◌++◌, Option, Some, None, false, refl, sym, ap, subst, ◌∙◌, arith, length, take, drop, append_assoc, append-nil, length-append, inl, inr}
 use Rattle.std.specs.Prelude.{Result, Ok, Err, OnOk, IfErr}
 use Rattle.std.specs.Io.KnownBytes.{Appends}
 use Rattle.std.specs.List.{All, slice_split}
@@ -15,7 +15,7 @@ use Rattle.itch_engine.specs.declared.fault.ProgFault.TheVariants.{Memory, Read,
 use Rattle.itch_debug.specs.Answering.{Reply, reply_or}
 use Rattle.itch_debug.specs.Commands.{command_of}
 use Rattle.itch_debug.specs.Sessions.{answers, is_line_feed, replies, reply_of, session_after}
-use Rattle.itch_debug.specs.Runs.{AnswersPart, AnswersWhole, EndsEarly, Halts, IsPrefix, Leads, Stands, Unfinished, start}
+use Rattle.itch_debug.specs.Runs.{AnswersGiven, AnswersPart, AnswersWhole, EndsEarly, Halts, IsPrefix, Leads, Stands, Unfinished, start}
 
 -- ---- lines, one after another
 
@@ -109,7 +109,6 @@ part_more day before after commands extra h = record {
 -- a halt at some commands is one at more of them
 pub halts_more : (day : List (List ℕ)) (before after : Option (List ℕ)) (commands extra : List ℕ) (fault : ProgFault) → Halts day before after commands fault → Halts day before after (commands ++ extra) fault
 halts_more day before after commands extra Memory h = whole_more day before after commands extra h
-halts_more day before after commands extra Read h = whole_more day before after commands extra h
 halts_more day before after commands extra Write h = part_more day before after commands extra h
 halts_more day before after commands extra fault h = absurd h
 
@@ -164,6 +163,10 @@ whole_of day before after commands kept session h = record {
   wrote = h.wrote;
   prefix = leads_prefix day h.lines h.begun commands h.leads;
 }
+
+pub given_of : (day : List (List ℕ)) (before after : Option (List ℕ)) (commands kept : List ℕ) (session : Option Session) (failed : Bool) → Stands day before after commands session kept → AnswersGiven day before after commands failed
+unfolding whole_of
+given_of day before after commands kept session failed h = (whole_of day before after commands kept session h, λ has_failed. h.begun_is)
 
 prefix_taken : (day : List (List ℕ)) (commands whole text answer : List ℕ) (count : ℕ) → whole ≡ text ++ answer → IsPrefix day commands whole → IsPrefix day commands (text ++ take count answer)
 prefix_taken day commands whole text answer count is prefix = λ more.

@@ -9,9 +9,9 @@ use Rattle.std.proofs.lemmas.List.Elements.{All-nil}
 use Rattle.debugger.specs.Sessions.{Session, new_session}
 use Rattle.itch_engine.specs.declared.fault.ProgFault.{ProgFault}
 use Rattle.itch_engine.specs.declared.fault.ProgFault.TheVariants.{Memory, Read, Write}
-use Rattle.itch_debug.specs.Runs.{Answers, AnswersWhole, Cause, ChangesNothing, EndsEarly, Fails, Faults, Halts, Serves, ServesAll, Stands, most_command_bytes, start}
+use Rattle.itch_debug.specs.Runs.{Answers, AnswersWhole, Cause, ChangesNothing, EndsEarly, Fails, Faults, Halts, Interrupts, Serves, ServesAll, Stands, most_command_bytes, start}
 use Rattle.itch_debug.specs.Sessions.{answers, is_line_feed, replies}
-use Rattle.itch_debug.proofs.Consoles.{more_whole, replies_more, whole_of}
+use Rattle.itch_debug.proofs.Consoles.{given_of, more_whole, replies_more, whole_of}
 
 kept_consumes : (a b : Option (List ℕ)) → Keeps a b → Consumes a b []
 kept_consumes None b h = tt
@@ -30,17 +30,21 @@ pub read_fails : (day : List (List ℕ)) (unread r s before w : Option (List ℕ
 read_fails day unread r s before w session kept left failed h keeps fails = record {
   commands = h.commands;
   gave = subst (Consumes unread s) (append-nil h.commands) (Consumes-trans unread r s h.commands [] h.gave (kept_consumes r s keeps));
-  halts = whole_of day before w h.commands kept session h.stands;
+  halts = given_of day before w h.commands kept session failed h.stands;
   cause = inl fails;
 }
 
-pub exceeds : (day : List (List ℕ)) (unread r s before w : Option (List ℕ)) (session : Option Session) (kept piece : List ℕ) (left count : ℕ) (failed : Bool) → Serves day unread r before w session kept left → Consumes r s piece → length piece ≡ count → left < count → Faults day unread s before w failed Read
-exceeds day unread r s before w session kept piece left count failed h gave is more = record {
+pub exceeds : (day : List (List ℕ)) (unread r s before w : Option (List ℕ)) (session : Option Session) (kept piece : List ℕ) (left count : ℕ) (failed : Bool) → Serves day unread r before w session kept left → Consumes r s piece → length piece ≡ count → left < count → failed ≡ false → Faults day unread s before w failed Read
+exceeds day unread r s before w session kept piece left count failed h gave is more working = record {
   commands = h.commands ++ piece;
   gave = Consumes-trans unread r s h.commands piece h.gave gave;
-  halts = more_whole day before w h.commands kept piece session h.stands;
+  halts = (more_whole day before w h.commands kept piece session h.stands, λ has_failed. absurd (false≢true (sym working ∙ has_failed)));
   cause = inr (omega (arith, length-append h.commands piece, is, more, h.counted));
 }
+
+interrupts_other : (day : List (List ℕ)) (before after : Option (List ℕ)) (commands : List ℕ) (failed : Bool) (fault : ProgFault) → Halts day before after commands fault → Interrupts day before after commands failed fault
+interrupts_other day before after commands failed Read h = absurd h
+interrupts_other day before after commands failed fault h = h
 
 cause_other : (fault : ProgFault) (failed : Bool) (count : ℕ) → fault ≢ Read → failed ≡ false → count ≤ most_command_bytes → Cause fault failed count
 cause_other Read failed count other working within = absurd (other refl)
@@ -51,7 +55,7 @@ piece_fails (Ok x) day unread r s before w v session kept piece left count faile
 piece_fails {A = A} (Err fault) day unread r s before w v session kept piece left count failed h gave is within working other halts = record {
   commands = h.commands ++ piece;
   gave = Consumes-trans unread r s h.commands piece h.gave gave;
-  halts = halts;
+  halts = interrupts_other day before v (h.commands ++ piece) failed fault halts;
   cause = cause_other fault failed (length (h.commands ++ piece)) (λ e. other (ap (λ (f : ProgFault). let x : Result A ProgFault = Err f in x) e)) working (omega (arith, length-append h.commands piece, is, within, h.counted));
 }
 
@@ -87,7 +91,7 @@ pub read_first : (day : List (List ℕ)) (unread before : Option (List ℕ)) (fa
 read_first day unread before failed fails = record {
   commands = [];
   gave = consumes_none unread;
-  halts = inl (whole_first day before);
+  halts = inl (given_of day before before [] [] (Some (new_session day)) failed (stands_first day before (Some (new_session day)) [] refl refl));
   cause = inl fails;
 }
 

@@ -56,13 +56,24 @@ pub record AnswersPart (day : List (List ℕ)) (before after : Option (List ℕ)
   pub wrote : Appends before after text
   pub prefix : IsPrefix day commands text
 
--- What was written where a fault came: a prefix of the answers where the writer failed, and of no answer a
--- part where memory was refused or the reader failed.
+-- What was written where answering a line failed: a prefix of the answers where the writer failed, and of no
+-- answer a part where memory was refused.
 abbrev pub Halts : List (List ℕ) → Option (List ℕ) → Option (List ℕ) → List ℕ → ProgFault → Type 0
 Halts day before after commands Memory = AnswersWhole day before after commands
-Halts day before after commands Read = AnswersWhole day before after commands
 Halts day before after commands Write = AnswersPart day before after commands
 Halts day before after commands fault = ⊥
+
+-- Whole answers were written, and nothing else: those of each line that came in whole, where the feed has failed.
+abbrev pub AnswersGiven : List (List ℕ) → Option (List ℕ) → Option (List ℕ) → List ℕ → Bool → Type 0
+AnswersGiven day before after commands failed =
+    (whole : AnswersWhole day before after commands)
+    × (IsTrue failed → All (λ byte. is_line_feed byte ≡ false) whole.rest)
+
+-- What was written where a fault came among the lines, or between them where the feed has failed or gave more
+-- bytes than a session takes.
+abbrev pub Interrupts : List (List ℕ) → Option (List ℕ) → Option (List ℕ) → List ℕ → Bool → ProgFault → Type 0
+Interrupts day before after commands failed Read = AnswersGiven day before after commands failed
+Interrupts day before after commands failed fault = Halts day before after commands fault
 
 -- What was written of the answer to one line where a fault came: nothing where memory was refused, a prefix
 -- where the writer failed.
@@ -97,7 +108,7 @@ pub record Faults (day : List (List ℕ)) (unread unread_after before after : Op
     (fault : ProgFault) : Type 0 where
   pub commands : List ℕ
   pub gave : Consumes unread unread_after commands
-  pub halts : Halts day before after commands fault
+  pub halts : Interrupts day before after commands failed fault
   pub cause : Cause fault failed (length commands)
 
 -- Where these commands have come in, what is left of the input changes no answer.
@@ -134,5 +145,6 @@ pub record Fails (day : List (List ℕ)) (unread unread_after before after : Opt
     (fault : ProgFault) : Type 0 where
   pub commands : List ℕ
   pub gave : Consumes unread unread_after commands
-  pub halts : Halts day before after commands fault ⊎ HaltsAtEnd day unread_after before after commands fault
+  pub halts : Interrupts day before after commands failed fault
+      ⊎ HaltsAtEnd day unread_after before after commands fault
   pub cause : Cause fault failed (length commands)

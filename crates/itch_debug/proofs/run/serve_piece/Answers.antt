@@ -28,7 +28,8 @@ returns-then-count-left-clause-err g c = λ day unread before h.
     let gave : Consumes r s piece = search rules in
     let is : length piece ≡ count = search rules in
     let more : c.args.left < count = search rules in
-    exceeds day unread r s before w (session_of start.next start.debugger) start.begun.items piece c.args.left count c.read.new.self.failed h gave is more
+    let working : c.read.new.self.failed ≡ false = search rules in
+    exceeds day unread r s before w (session_of start.next start.debugger) start.begun.items piece c.args.left count c.read.new.self.failed h gave is more working
 
 pub returns-in_err-take_piece-clause-err : goal.returns-in_err-take_piece-clause-err
 returns-in_err-take_piece-clause-err g c = λ day unread before h.
