@@ -7,7 +7,7 @@ use std::alloc::{AllocError, Allocator};
 use std::sync::Wait;
 use std::test::Fail;
 use std::thread::Threads;
-use support::{crossed_book, day_of, same, same_list, two_stocks};
+use support::{AAPL, crossed_book, day_of, day_with, same, same_list, two_stocks};
 use top_cell::{Board, Reading};
 
 // The best bid and ask of the crossed book: 100 shares are bid at 101, above the ask of 50 shares at 100.
@@ -69,6 +69,33 @@ fn screens_stand_at_what_they_have_seen(rt: HostRuntime) -> Result<(), Fail> {
         &(3, 3, 3),
     )?;
     same("whose it is", &(writer.locate(), first.locate()), &(1, 1))
+}
+
+// The price of the bid stands in the high half of the second word, and that of the ask in the low one.
+#[test]
+fn a_cell_holds_the_greatest_numbers(rt: HostRuntime) -> Result<(), Fail> {
+    let alloc = rt.alloc();
+    let bid = AAPL.add(0, b'B', 4_294_967_295, 0);
+    let ask = AAPL.add(18_446_744_073_709_551_615, b'S', 1, 4_294_967_295);
+    let day = day_with(alloc, &[AAPL.directory(), bid, ask])?;
+    let (board, mut writer, mut machine) = only_cell(&rt, &alloc, &day)?;
+    let mut screen = writer.screen(&rt, &board);
+    show_next(&rt, &day, &mut machine, &board, &mut writer)?;
+    show_next(&rt, &day, &mut machine, &board, &mut writer)?;
+    show_next(&rt, &day, &mut machine, &board, &mut writer)?;
+    let shown = Reading {
+        message: 3,
+        bid_price: 0,
+        bid_shares: 4_294_967_295,
+        ask_price: 4_294_967_295,
+        ask_shares: 1,
+    };
+    same("what a screen reads", &screen.read(&rt, &board), &shown)?;
+    same(
+        "the words of the cell",
+        &machine.top(1).to_words(3),
+        &[3, 0x0000_0000_ffff_ffff, 4_294_967_295, 1],
+    )
 }
 
 #[test]

@@ -6,6 +6,7 @@
 
 mod comparing;
 mod day;
+mod meaning;
 mod places;
 mod random;
 mod random_days;

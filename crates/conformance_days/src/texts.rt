@@ -1,4 +1,5 @@
 //! The text of a day, and that text with one byte changed.
+use crate::meaning::{mean_same, raw_bytes};
 use binaryfile::Day;
 use itch_print::disassemble;
 use itch_text::{AsmFault, assemble};
@@ -6,7 +7,7 @@ use rand::RngExt;
 use rand::rngs::SmallRng;
 use std::alloc::Allocator;
 use std::test::Fail;
-use support::{day_of, same_bytes};
+use support::{day_of, same, same_bytes};
 
 // Where the line begins that has the byte at a place.
 fn line_start(text: &[u8], place: usize) -> usize {
@@ -24,15 +25,36 @@ fn next_line(text: &[u8], place: usize) -> usize {
     }
 }
 
-// The number of the line that begins at a place, counted from 1.
-fn line_number(text: &[u8], start: usize) -> u64 {
-    let mut number = 1u64;
-    for byte in text.iter().take(start) {
-        if *byte == b'\n' {
-            number = number.saturating_add(1);
-        }
+// A text with one byte changed: the lines before that byte's, its line, and the lines after it.
+#[derive(Clone, Copy)]
+struct Changed<'a> {
+    before: &'a [u8],
+    line: &'a [u8],
+    after: &'a [u8],
+}
+
+impl<'a> Changed<'a> {
+    // A text whose byte at a place was changed.
+    fn at(text: &'a [u8], place: usize) -> Option<Changed<'a>> {
+        let start = line_start(text, place);
+        let end = next_line(text, place.saturating_add(1));
+        Some(Changed {
+            before: text.get(..start)?,
+            line: text.get(start..end)?,
+            after: text.get(end..)?,
+        })
     }
-    number
+
+    // How many lines are before the changed one.
+    fn lines_before(&self) -> usize {
+        let mut lines = 0usize;
+        for byte in self.before {
+            if *byte == b'\n' {
+                lines = lines.saturating_add(1);
+            }
+        }
+        lines
+    }
 }
 
 // The line that a fault names, 0 where memory was refused.
@@ -43,34 +65,72 @@ fn line_of(fault: AsmFault) -> u64 {
     }
 }
 
-// A file that was made of a text with a changed byte: its own text has the lines before that byte's and those after it.
-fn compare_kept<A: Allocator + Copy>(
+// What a changed line denotes: the payload with its number where it is a line of `raw`, which may be that of a message,
+// and else what the line means that is written for it.
+fn compare_meaning<A: Allocator + Copy>(
     alloc: A,
-    file: Vec<u8, A>,
-    before: &[u8],
-    after: &[u8],
+    day: &Day<A>,
+    changed: Changed<'_>,
+    written: &[u8],
 ) -> Result<(), Fail> {
-    let text = disassemble(alloc, &day_of(alloc, file)?)?;
-    if text.starts_with(before) && text.ends_with(after) {
-        Ok(())
-    } else {
-        Err(Fail::new("a changed byte changes lines that it isn't in"))
+    match raw_bytes(alloc, changed.line)? {
+        Some(bytes) => {
+            let payload = day.payloads().nth(changed.lines_before());
+            same_bytes("a changed payload", payload.unwrap_or(b""), &bytes)
+        }
+        None => same(
+            "whether a changed line means what is written for it",
+            &mean_same(alloc, changed.line, written)?,
+            &true,
+        ),
     }
 }
 
-// Assembles a text whose byte at a place was changed, and answers whether it denotes a file.
-fn take_changed<A: Allocator + Copy>(alloc: A, text: &[u8], place: usize) -> Result<bool, Fail> {
-    let start = line_start(text, place);
-    match assemble(alloc, text) {
+// A file that was made of a text with a changed byte. Its own text has the other lines as they were, and for that byte's
+// line one that means the same; and it is the file that it was exactly where the line means what it did.
+fn compare_changed<A: Allocator + Copy>(
+    alloc: A,
+    file: Vec<u8, A>,
+    changed: Changed<'_>,
+    was: (&[u8], &[u8]),
+) -> Result<(), Fail> {
+    let (file_was, line_was) = was;
+    let is_as_it_was = file.as_slice() == file_was;
+    let day = day_of(alloc, file)?;
+    let text = disassemble(alloc, &day)?;
+    let Some(written) = between(&text, changed.before, changed.after) else {
+        return Err(Fail::new("a changed byte changes lines that it isn't in"));
+    };
+    compare_meaning(alloc, &day, changed, written)?;
+    same(
+        "whether a changed line means what it did",
+        &mean_same(alloc, changed.line, line_was)?,
+        &is_as_it_was,
+    )
+}
+
+// What stands between the first bytes of a text and the last ones.
+fn between<'a>(text: &'a [u8], before: &[u8], after: &[u8]) -> Option<&'a [u8]> {
+    text.strip_prefix(before)?.strip_suffix(after)
+}
+
+// Assembles the text of a day whose byte at a place was changed, and answers whether it denotes a file.
+fn take_changed<A: Allocator + Copy>(
+    alloc: A,
+    day: &Day<A>,
+    text: &[u8],
+    other: &[u8],
+    place: usize,
+) -> Result<bool, Fail> {
+    let (Some(was), Some(changed)) = (Changed::at(text, place), Changed::at(other, place)) else {
+        return Err(Fail::new("no line"));
+    };
+    match assemble(alloc, other) {
         Ok(file) => {
-            let end = next_line(text, place.saturating_add(1));
-            let (Some(before), Some(after)) = (text.get(..start), text.get(end..)) else {
-                return Err(Fail::new("no line"));
-            };
-            compare_kept(alloc, file, before, after)?;
+            compare_changed(alloc, file, changed, (day.bytes(), was.line))?;
             Ok(true)
         }
-        Err(fault) if line_of(fault) >= line_number(text, start) => Ok(false),
+        Err(fault) if line_of(fault) > changed.lines_before() as u64 => Ok(false),
         Err(_) => Err(Fail::new(
             "a changed byte makes an earlier line faulty, or memory was refused",
         )),
@@ -78,7 +138,7 @@ fn take_changed<A: Allocator + Copy>(alloc: A, text: &[u8], place: usize) -> Res
 }
 
 /// Assembles the text of a day, which gives its bytes, and then that text with one byte changed, so often: it denotes a
-/// file that differs in that byte's line alone, or that line or a later one is faulty. Answers how many denote a file.
+/// file that differs by what that byte's line means, or that line or a later one is faulty. Answers how many denote a file.
 pub fn compare_texts<A: Allocator + Copy>(
     alloc: A,
     day: &Day<A>,
@@ -98,7 +158,7 @@ pub fn compare_texts<A: Allocator + Copy>(
             continue;
         };
         *byte = random.random_range(b' '..=b'z');
-        if take_changed(alloc, &other, place)? {
+        if take_changed(alloc, day, &text, &other, place)? {
             assembled = assembled.saturating_add(1);
         }
     }

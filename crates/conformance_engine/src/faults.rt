@@ -8,10 +8,11 @@ use std::thread::Threads;
 use support::{same, same_bytes};
 
 // An engine's input that it can't take, and the fault.
-const INPUTS: [(Engine, &[u8], ProgFault); 8] = [
+const INPUTS: [(Engine, &[u8], ProgFault); 9] = [
     (Engine::Digits, b"0", ProgFault::BadHex),
     (Engine::Digits, b"000", ProgFault::BadHex),
     (Engine::Digits, b"0g", ProgFault::BadHex),
+    (Engine::Digits, b"\t", ProgFault::BadHex),
     (Engine::Digits, b"00\t00", ProgFault::BadHex),
     (Engine::Digits, b"00\r", ProgFault::BadHex),
     (
@@ -58,10 +59,11 @@ fn engines_send_nothing_for_a_faulty_input(rt: HostRuntime) -> Result<(), Fail> 
 fn engines_take_an_empty_input(rt: HostRuntime) -> Result<(), Fail> {
     let report =
         b"messages 0 applied 0 passed 0 refused 0 marked no tail 0 event none\n".as_slice();
-    let cases: [(Engine, &[u8], &[u8]); 5] = [
+    let cases: [(Engine, &[u8], &[u8]); 6] = [
         (Engine::Replay, b"", report),
         (Engine::Digits, b"", report),
         (Engine::Digits, b" \n", report),
+        (Engine::Digits, b"\n\n   \n", report),
         (Engine::Disassembler, b"", b""),
         (Engine::Assembler, b"", b""),
     ];

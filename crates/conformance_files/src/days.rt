@@ -3,7 +3,7 @@ use crate::THREE;
 use binaryfile::{Day, Feed, Sink};
 use std::alloc::Allocator;
 use std::test::Fail;
-use support::{AMPLE, Pieces, same, same_bytes};
+use support::{AMPLE, Pieces, STORED_RUN, same, same_bytes};
 
 // A file, and its payloads, whether it is marked, and its tail.
 type File<'a> = (&'a [u8], &'a [&'a [u8]], bool, &'a [u8]);
@@ -55,6 +55,23 @@ fn files_are_split_however_they_are_given(rt: HostRuntime) -> Result<(), Fail> {
         for most in 1..=13 {
             try_pieces(rt.alloc(), file, most)?;
         }
+    }
+    Ok(())
+}
+
+#[test]
+fn the_stored_run_is_split_alike_in_pieces_of_every_size(rt: HostRuntime) -> Result<(), Fail> {
+    let (Some(directory), Some(bid), Some(execution)) = (
+        STORED_RUN.get(2..41),
+        STORED_RUN.get(43..79),
+        STORED_RUN.get(81..112),
+    ) else {
+        return Err(Fail::new("the stored run is too short"));
+    };
+    let payloads = [directory, bid, execution];
+    let file: File = (STORED_RUN, &payloads, true, b"");
+    for most in 1..=STORED_RUN.len() {
+        try_pieces(rt.alloc(), file, most)?;
     }
     Ok(())
 }

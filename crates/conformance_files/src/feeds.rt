@@ -4,7 +4,7 @@ use binaryfile::{Day, Feed, LoadFault};
 use std::alloc::Allocator;
 use std::io::{self, ErrorKind};
 use std::test::Fail;
-use support::{AMPLE, Pieces, same};
+use support::{AMPLE, Pieces, STORED_RUN, same};
 
 // How many bytes a read gave, or the kind of its error.
 fn kind_or_count(answer: io::Result<usize>) -> Result<usize, ErrorKind> {
@@ -74,8 +74,8 @@ fn a_feed_fails_for_good_at_any_error(_rt: HostRuntime) -> Result<(), Fail> {
 }
 
 // Two loads of a feed whose reader gives one byte a call and fails at one call.
-fn try_load<A: Allocator + Copy>(alloc: A, failing: u64) -> Result<(), Fail> {
-    let reader = Pieces::failing(THREE, 1, failing, ErrorKind::Interrupted);
+fn try_load<A: Allocator + Copy>(alloc: A, file: &[u8], failing: u64) -> Result<(), Fail> {
+    let reader = Pieces::failing(file, 1, failing, ErrorKind::Interrupted);
     let mut feed = Feed::new(reader);
     let first = Day::load(alloc, &mut feed, AMPLE).err();
     let second = Day::load(alloc, &mut feed, AMPLE).err();
@@ -88,17 +88,24 @@ fn try_load<A: Allocator + Copy>(alloc: A, failing: u64) -> Result<(), Fail> {
     )
 }
 
-// One byte a call takes 13 calls, and the fourteenth gives the end.
-#[test]
-fn a_load_fails_with_any_of_its_reads(rt: HostRuntime) -> Result<(), Fail> {
-    for failing in 1..=14 {
-        try_load(rt.alloc(), failing)?;
+// Loads of a file whose reader fails at each of its calls, and at the one after the last.
+fn try_loads<A: Allocator + Copy>(alloc: A, file: &[u8], calls: u64) -> Result<(), Fail> {
+    for failing in 1..=calls {
+        try_load(alloc, file, failing)?;
     }
-    let mut feed = Feed::new(Pieces::failing(THREE, 1, 15, ErrorKind::Interrupted));
-    let loaded = Day::load(rt.alloc(), &mut feed, AMPLE).err();
+    let past = calls.saturating_add(1);
+    let mut feed = Feed::new(Pieces::failing(file, 1, past, ErrorKind::Interrupted));
+    let loaded = Day::load(alloc, &mut feed, AMPLE).err();
     same(
         "a reader that is not asked past its end",
         &(loaded, feed.failed()),
         &(None, false),
     )
+}
+
+// There is a call for each byte, of 13 and of 114, and one more gives the end.
+#[test]
+fn a_load_fails_with_any_of_its_reads(rt: HostRuntime) -> Result<(), Fail> {
+    try_loads(rt.alloc(), THREE, 14)?;
+    try_loads(rt.alloc(), STORED_RUN, 115)
 }

@@ -4,7 +4,7 @@ use binaryfile::{Day, Feed, Limits, LoadFault, read_to_end};
 use refusing::{Refusal, Refusing};
 use std::alloc::Allocator;
 use std::test::Fail;
-use support::{AMPLE, same};
+use support::{AMPLE, STORED_RUN, same};
 
 // The limits of bytes and messages under which the three entries are loaded, and the fault.
 const LIMITS: [(u64, u32, Option<LoadFault>); 5] = [
@@ -15,24 +15,72 @@ const LIMITS: [(u64, u32, Option<LoadFault>); 5] = [
     (0, 0, Some(LoadFault::TooManyBytes)),
 ];
 
+// A load under limits, which takes at most one byte more than the limit.
+fn try_limits<A: Allocator + Copy>(
+    alloc: A,
+    file: &[u8],
+    limits: Limits,
+    wanted: Option<LoadFault>,
+) -> Result<(), Fail> {
+    let Limits { bytes, messages } = limits;
+    if bytes > AMPLE.bytes {
+        return Err(Fail::new("a load has a limit of 2^40 bytes at most"));
+    }
+    let mut reader = file;
+    let mut feed = Feed::new(&mut reader);
+    let loaded = Day::load(alloc, &mut feed, limits).err();
+    let found = (bytes, messages, loaded, feed.failed());
+    same("a fault", &found, &(bytes, messages, wanted, false))?;
+    let taken = file.len().saturating_sub(reader.len()) as u64;
+    let few = taken <= bytes.saturating_add(1);
+    same(
+        "few bytes are taken",
+        &(bytes, taken, few),
+        &(bytes, taken, true),
+    )
+}
+
 #[test]
 fn files_above_a_limit_are_refused(rt: HostRuntime) -> Result<(), Fail> {
     for (bytes, messages, wanted) in LIMITS {
-        let mut feed = Feed::new(THREE);
-        let loaded = Day::load(rt.alloc(), &mut feed, Limits { bytes, messages });
-        same(
-            "a fault",
-            &(bytes, messages, loaded.err()),
-            &(bytes, messages, wanted),
-        )?;
-        same("a feed that is read no further", &feed.failed(), &false)?;
+        try_limits(rt.alloc(), THREE, Limits { bytes, messages }, wanted)?;
     }
     let nothing = Limits {
         bytes: 0,
         messages: 0,
     };
-    let loaded = Day::load(rt.alloc(), &mut Feed::new(b"".as_slice()), nothing);
-    same("an empty file", &loaded.err(), &None)
+    try_limits(rt.alloc(), b"", nothing, None)
+}
+
+// The stored run has 114 bytes and 3 messages.
+#[test]
+fn each_limit_below_a_file_is_kept(rt: HostRuntime) -> Result<(), Fail> {
+    for bytes in 0..=114 {
+        let wanted = if bytes < 114 {
+            Some(LoadFault::TooManyBytes)
+        } else {
+            None
+        };
+        try_limits(
+            rt.alloc(),
+            STORED_RUN,
+            Limits { bytes, messages: 3 },
+            wanted,
+        )?;
+    }
+    for messages in 0..=3 {
+        let wanted = if messages < 3 {
+            Some(LoadFault::TooManyMessages)
+        } else {
+            None
+        };
+        let limits = Limits {
+            bytes: 114,
+            messages,
+        };
+        try_limits(rt.alloc(), STORED_RUN, limits, wanted)?;
+    }
+    Ok(())
 }
 
 // A load is out of memory where a growth is refused, and its feed has not failed.

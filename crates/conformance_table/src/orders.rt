@@ -89,6 +89,28 @@ fn stocks_have_references_of_their_own(rt: HostRuntime) -> Result<(), Fail> {
 }
 
 #[test]
+fn numbers_may_be_the_greatest(rt: HostRuntime) -> Result<(), Fail> {
+    let top = Top {
+        bid_price: 0,
+        bid_shares: 4_294_967_295,
+        ask_price: 4_294_967_295,
+        ask_shares: 1,
+    };
+    follow(
+        rt.alloc(),
+        "takes the least and the greatest reference and price, and levels of more shares than an order has",
+        &[
+            Line::Applied(AAPL.directory()),
+            Line::Applied(AAPL.add(0, b'B', 4_294_967_295, 0)),
+            Line::Applied(AAPL.add(18_446_744_073_709_551_615, b'S', 1, 4_294_967_295)),
+            Line::Top(1, top),
+            Line::Applied(AAPL.add(1, b'B', 4_294_967_295, 0)),
+            Line::Level(1, Side::Buy, Some((0, 8_589_934_590))),
+        ],
+    )
+}
+
+#[test]
 fn books_may_cross(rt: HostRuntime) -> Result<(), Fail> {
     let crossed = Top {
         bid_price: 1_010_000,

@@ -1,9 +1,10 @@
 //! Texts and the files that they denote.
-use binaryfile::Day;
+use binaryfile::{Day, Feed};
 use itch_print::{disassemble, quote, reassembled};
 use itch_text::{AsmFault, assemble};
+use std::alloc::Allocator;
 use std::test::Fail;
-use support::{FILE, TEXT, same, same_bytes};
+use support::{AMPLE, FILE, STORED_RUN, TEXT, same, same_bytes};
 
 // The file of one system event.
 const EVENT: &[u8] = b"\x00\x0cS\x00\x00\x00\x00\x00\x00\x00\x00\x00\x00O";
@@ -88,6 +89,40 @@ fn files_have_texts_that_denote_them(rt: HostRuntime) -> Result<(), Fail> {
         same_bytes("the text of a file", &disassemble(rt.alloc(), &day)?, text)?;
         same_bytes("the file of its text", &assemble(rt.alloc(), text)?, file)?;
         same_bytes("both ways", &reassembled(rt.alloc(), &day)?, file)?;
+    }
+    Ok(())
+}
+
+// How many entries of the stored run are whole in its first bytes, and where the last of these ends.
+fn entries_within(bytes: usize) -> (u32, usize) {
+    match bytes {
+        0..=40 => (0, 0),
+        41..=78 => (1, 41),
+        79..=111 => (2, 79),
+        _ => (3, 112),
+    }
+}
+
+// The first bytes of the stored run as a file, and the text of this file, which gives them back.
+fn try_cut<A: Allocator + Copy>(alloc: A, file: &[u8]) -> Result<(), Fail> {
+    let day = Day::load(alloc, &mut Feed::new(file), AMPLE)?;
+    let (payloads, end) = entries_within(file.len());
+    let found = (file.len(), day.len(), day.marked());
+    same("a cut file", &found, &(file.len(), payloads, false))?;
+    let tail = file.get(end..).unwrap_or(b"no tail");
+    same_bytes("the tail of a cut file", day.tail(), tail)?;
+    let text = disassemble(alloc, &day)?;
+    same_bytes("the file of its text", &assemble(alloc, &text)?, file)?;
+    same_bytes("both ways", &reassembled(alloc, &day)?, file)
+}
+
+#[test]
+fn cut_files_have_texts_that_denote_them(rt: HostRuntime) -> Result<(), Fail> {
+    for bytes in 0..=113 {
+        let Some(file) = STORED_RUN.get(..bytes) else {
+            return Err(Fail::new("the stored run is too short"));
+        };
+        try_cut(rt.alloc(), file)?;
     }
     Ok(())
 }

@@ -1,5 +1,5 @@
 //! What the tests of several crates share: messages by their fields, days of them, scripts that a machine is led through,
-//! devices that give and take little at a time and fail, and a worked file in all its forms.
+//! devices that give and take little at a time and fail, and worked files.
 //!
 //! No helper ends the process, which only a test may do: each answers a `Fail` that names the case.
 #![tactic(auto)]
@@ -20,4 +20,4 @@ pub use growing::{GROWING, Growing};
 pub use machine::{Known, known_of, take};
 pub use messages::{AAPL, MSFT, Ticker, head, payload_of, system};
 pub use script::{Line, follow};
-pub use worked::{AMPLE, DIGITS, FILE, REPORT, TEXT};
+pub use worked::{AMPLE, DIGITS, FILE, REPORT, STORED_RUN, TEXT};
