@@ -1,7 +1,7 @@
-//! Leads each day file that is named, and days at random, through the plain machine, through a machine for each of
-//! their stocks, through the parts of several numbers of workers, one after another and in threads, and through a
-//! debugger, and compares what they say. It prints a line for each file and one for the days at random, and ends with
-//! status 1 where two differ.
+//! Leads each day file that is named, and for the word `random` days at random, through the plain machine, through a
+//! machine for each of their stocks, through the parts of several numbers of workers, one after another and in threads,
+//! and through a debugger, and compares what they say. It prints a line for each file and one for the days at random,
+//! and ends with status 1 where two differ.
 #![tactic(auto)]
 
 mod comparing;
@@ -59,14 +59,8 @@ fn compare_file<R: Runtime + AllocGlobal + Threads + Wait + Sync>(
     }
 }
 
-// Compares the machines over each file and over days at random, up to the first where they differ.
-fn run<R: Runtime + AllocGlobal + Threads + Wait + Sync>(rt: &R) -> Result<(), Fail> {
-    let Ok(arguments) = env::args(rt) else {
-        return Err(Fail::new("the arguments can't be read"));
-    };
-    for path in arguments.skip(1) {
-        compare_file(rt, &path)?;
-    }
+// Compares the machines over days at random, and prints how many there are.
+fn compare_random<R: Runtime + AllocGlobal + Threads + Wait + Sync>(rt: &R) -> Result<(), Fail> {
     random_days::compare_random_days(rt, rt.alloc())?;
     match println!(rt;
         "at random: {} days, {} messages each",
@@ -76,6 +70,21 @@ fn run<R: Runtime + AllocGlobal + Threads + Wait + Sync>(rt: &R) -> Result<(), F
         Ok(()) => Ok(()),
         Err(_) => Err(Fail::new("a line can't be printed")),
     }
+}
+
+// Does what each argument asks for, up to the first difference.
+fn run<R: Runtime + AllocGlobal + Threads + Wait + Sync>(rt: &R) -> Result<(), Fail> {
+    let Ok(arguments) = env::args(rt) else {
+        return Err(Fail::new("the arguments can't be read"));
+    };
+    for argument in arguments.skip(1) {
+        if argument.as_str() == "random" {
+            compare_random(rt)?;
+        } else {
+            compare_file(rt, &argument)?;
+        }
+    }
+    Ok(())
 }
 
 fn main(rt: HostRuntime) -> Result<(), Fail> {
