@@ -2,49 +2,10 @@
 use crate::calls::{Call, ask, bid, make, make_all, same_books};
 use itch_table::Side;
 use order_book::Book;
-use refusing::{Refusal, Refusing};
-use std::alloc::{AllocError, Allocator};
+use refusing::{Refusal, Refusing, Tried, refuse_any, refuse_each};
+use std::alloc::{AllocError, Allocator, Global};
 use std::test::Fail;
 use support::same;
-
-// Makes a call whose growths are refused from this number on. Answers whether it was refused memory.
-fn is_refused<'h, A: Allocator + Copy>(
-    heap: &'h Refusing<A>,
-    book: &mut Book<&'h Refusing<A>>,
-    call: Call,
-    growth: u64,
-) -> Result<bool, Fail> {
-    heap.restart(Refusal::From(growth));
-    let answer = make(book, call)?;
-    let asked = heap.asked();
-    heap.restart(Refusal::Never);
-    // A refused try may have made room, which a later one finds.
-    same(
-        "whether a growth was refused",
-        &(asked >= growth),
-        &answer.is_err(),
-    )?;
-    Ok(answer.is_err())
-}
-
-// Makes a call on two books that show the same: on the first with each of its growths refused in turn, which changes
-// nothing, and at last with memory, and on the second with memory. Answers how many growths there are.
-fn make_both<'h, A: Allocator + Copy>(
-    heap: &'h Refusing<A>,
-    book: &mut Book<&'h Refusing<A>>,
-    twin: &mut Book<&'h Refusing<A>>,
-    call: Call,
-) -> Result<u64, Fail> {
-    for growths in 0..=4u64 {
-        if !is_refused(heap, book, call, growths + 1)? {
-            make_all(twin, &[call])?;
-            same_books(heap, book, twin)?;
-            return Ok(growths);
-        }
-        same_books(heap, book, twin)?;
-    }
-    Err(Fail::new("a call takes four growths at most"))
-}
 
 // These of the numbers from 1 to 100 are each other, and neither rise nor fall.
 fn scattered(number: u32) -> u32 {
@@ -61,16 +22,43 @@ fn numbered(number: u32) -> Call {
     }
 }
 
+// A book after the calls with a lower number.
+fn book_before<A: Allocator + Copy>(alloc: A, number: u32) -> Result<Book<A>, Fail> {
+    let mut book = Book::new(alloc);
+    for earlier in 1..number {
+        make_all(&mut book, &[numbered(earlier)])?;
+    }
+    Ok(book)
+}
+
+// Makes a call under a refusal. Where it is refused, the book is as it was, and the call is made with memory. In the end
+// the book shows what one shows that was never refused.
+fn try_call(heap: &Refusing<Global>, number: u32, refusal: Refusal) -> Result<Tried, Fail> {
+    let call = numbered(number);
+    let mut book = book_before(heap, number)?;
+    let mut twin = book_before(heap, number)?;
+    heap.restart(refusal);
+    let answer = make(&mut book, call)?;
+    let tried = heap.tried(answer.is_err());
+    if tried.refused {
+        same_books(heap, &book, &twin)?;
+        make_all(&mut book, &[call])?;
+    }
+    make_all(&mut twin, &[call])?;
+    same_books(heap, &book, &twin)?;
+    Ok(tried)
+}
+
 // Of the rows of 99 orders some need memory, and some find room.
 #[test]
 fn a_call_without_memory_changes_nothing(rt: HostRuntime) -> Result<(), Fail> {
     let heap = Refusing::new(rt.alloc(), Refusal::Never);
-    let mut book = Book::new(&heap);
-    let mut twin = Book::new(&heap);
     for kind in [1..100u32, 100..199] {
         let mut growths = 0u64;
         for number in kind {
-            let more = make_both(&heap, &mut book, &mut twin, numbered(number))?;
+            let more = refuse_any(|refusal: Refusal| -> Result<Tried, Fail> {
+                try_call(&heap, number, refusal)
+            })?;
             growths = growths.saturating_add(more);
         }
         same(
@@ -92,12 +80,18 @@ fn both_sides() -> [Call; 4] {
     ]
 }
 
-// A call that takes memory and leaves the book as it is.
+// A book with orders of both sides.
+fn both_sided<A: Allocator + Copy>(alloc: A) -> Result<Book<A>, Fail> {
+    let mut book = Book::new(alloc);
+    make_all(&mut book, &both_sides())?;
+    Ok(book)
+}
+
+// A list that a book makes.
 #[derive(Debug, Clone, Copy, PartialEq, Eq)]
 enum Listing {
     Orders,
     Levels(Side),
-    Copy,
 }
 
 // How many orders or levels are listed.
@@ -109,58 +103,54 @@ fn listed<A: Allocator + Copy>(
     match listing {
         Listing::Orders => Ok(book.orders(alloc)?.len()),
         Listing::Levels(side) => Ok(book.levels(alloc, side)?.len()),
-        Listing::Copy => Ok(book.copy(alloc)?.orders(alloc)?.len()),
     }
 }
 
-// Makes a list with memory, which has this length, and then with each of its growths refused in turn.
-fn refuse_listing<'h, A: Allocator + Copy>(
-    heap: &'h Refusing<A>,
-    book: &Book<&'h Refusing<A>>,
+// Makes a list of this length under a refusal, which leaves the book as it is.
+fn try_listing(
+    heap: &Refusing<Global>,
     listing: Listing,
     length: usize,
-) -> Result<(), Fail> {
-    heap.restart(Refusal::Never);
-    let found = listed(heap, book, listing);
-    let growths = heap.asked();
-    same(
-        "with memory",
-        &(listing, found, growths > 0),
-        &(listing, Ok(length), true),
-    )?;
-    for growth in 1..=growths {
-        heap.restart(Refusal::From(growth));
-        let found = listed(heap, book, listing);
-        same(
-            "without memory",
-            &(listing, growth, found),
-            &(listing, growth, Err(AllocError)),
-        )?;
+    refusal: Refusal,
+) -> Result<Tried, Fail> {
+    let book = both_sided(heap)?;
+    heap.restart(refusal);
+    let found = listed(heap, &book, listing);
+    let tried = heap.tried(found.is_err());
+    if !tried.refused {
+        same("a list", &(listing, found), &(listing, Ok(length)))?;
     }
-    Ok(())
+    same_books(heap, &book, &both_sided(heap)?)?;
+    Ok(tried)
 }
 
-// A book with orders of both sides.
-fn both_sided<A: Allocator + Copy>(alloc: A) -> Result<Book<A>, Fail> {
-    let mut book = Book::new(alloc);
-    make_all(&mut book, &both_sides())?;
-    Ok(book)
+// Makes a copy under a refusal, which leaves the book as it is.
+fn try_copy(heap: &Refusing<Global>, refusal: Refusal) -> Result<Tried, Fail> {
+    let book = both_sided(heap)?;
+    heap.restart(refusal);
+    let copy = book.copy(heap);
+    let tried = heap.tried(copy.is_err());
+    if let Ok(copy) = copy {
+        same_books(heap, &copy, &book)?;
+    }
+    same_books(heap, &book, &both_sided(heap)?)?;
+    Ok(tried)
 }
 
 #[test]
-fn a_list_without_memory_is_none(rt: HostRuntime) -> Result<(), Fail> {
+fn a_list_or_a_copy_without_memory_is_none(rt: HostRuntime) -> Result<(), Fail> {
     let heap = Refusing::new(rt.alloc(), Refusal::Never);
-    let book = both_sided(&heap)?;
     for (listing, length) in [
         (Listing::Orders, 4),
         (Listing::Levels(Side::Buy), 2),
         (Listing::Levels(Side::Sell), 1),
-        (Listing::Copy, 4),
     ] {
-        refuse_listing(&heap, &book, listing, length)?;
+        refuse_each(|refusal: Refusal| -> Result<Tried, Fail> {
+            try_listing(&heap, listing, length, refusal)
+        })?;
     }
-    heap.restart(Refusal::Never);
-    same_books(&heap, &book, &both_sided(&heap)?)
+    refuse_each(|refusal: Refusal| -> Result<Tried, Fail> { try_copy(&heap, refusal) })?;
+    Ok(())
 }
 
 #[test]

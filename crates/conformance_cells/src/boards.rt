@@ -2,12 +2,12 @@
 use crate::cells::only_cell;
 use crate::showing::show_next;
 use binaryfile::Day;
-use refusing::{Refusal, Refusing};
-use std::alloc::{AllocError, Allocator};
+use refusing::{Refusal, Refusing, Tried, refuse_each};
+use std::alloc::{AllocError, Allocator, Global};
 use std::sync::Wait;
 use std::test::Fail;
 use std::thread::Threads;
-use support::{AAPL, crossed_book, day_of, day_with, same, same_list, two_stocks};
+use support::{AAPL, crossed_book, day_of, day_with, same, same_bytes, same_list, two_stocks};
 use top_cell::{Board, Reading};
 
 // The best bid and ask of the crossed book: 100 shares are bid at 101, above the ask of 50 shares at 100.
@@ -98,19 +98,70 @@ fn a_cell_holds_the_greatest_numbers(rt: HostRuntime) -> Result<(), Fail> {
     )
 }
 
+// How many writers the new board of a day has.
+fn count_writers<R: Threads + Wait + Sync, A: Allocator + Copy + Send + Sync>(
+    rt: &R,
+    alloc: &A,
+    day: &Day<A>,
+) -> Result<usize, AllocError> {
+    let (_board, writers) = Board::new(rt, alloc, day)?;
+    Ok(writers.len())
+}
+
+// Makes the board of the two stocks under a refusal. Where it is refused, the day is as it was, and the board is made with
+// memory.
+fn try_board<R: Threads + Wait + Sync>(
+    rt: &R,
+    heap: &Refusing<Global>,
+    refusal: Refusal,
+) -> Result<Tried, Fail> {
+    let day = two_stocks(heap)?;
+    heap.restart(refusal);
+    let mut count = count_writers(rt, &heap, &day);
+    let tried = heap.tried(count.is_err());
+    if tried.refused {
+        same_bytes("the day", day.bytes(), two_stocks(heap)?.bytes())?;
+        count = count_writers(rt, &heap, &day);
+    }
+    same("how many writers", &count, &Ok(3))?;
+    Ok(tried)
+}
+
 #[test]
 fn a_board_without_memory_is_none(rt: HostRuntime) -> Result<(), Fail> {
     let heap = Refusing::new(rt.alloc(), Refusal::Never);
-    let alloc = &heap;
-    let day = two_stocks(alloc)?;
-    heap.restart(Refusal::Never);
-    same("with memory", &writers_of(&rt, &alloc, &day)?.len(), &3)?;
-    let growths = heap.asked();
-    for growth in 1..=growths {
-        heap.restart(Refusal::From(growth));
-        let found = writers_of(&rt, &alloc, &day).map(|writers| writers.len());
-        same("without memory", &(growth, found.ok()), &(growth, None))?;
-        same("the day", &day.len(), &7)?;
-    }
+    let growths = refuse_each(|refusal: Refusal| -> Result<Tried, Fail> {
+        try_board(&rt, &heap, refusal)
+    })?;
     same("some growths", &(growths > 10 && growths <= 40), &true)
+}
+
+// Publishes a message that takes no memory, and lets screens be made, read and joined, all without memory.
+#[test]
+fn cells_that_are_made_take_no_memory(rt: HostRuntime) -> Result<(), Fail> {
+    let heap = Refusing::new(rt.alloc(), Refusal::Never);
+    let alloc = &heap;
+    let day = day_with(
+        alloc,
+        &[AAPL.directory(), AAPL.add(1, b'B', 10, 100), AAPL.delete(1)],
+    )?;
+    let (board, mut writer, mut machine) = only_cell(&rt, &alloc, &day)?;
+    show_next(&rt, &day, &mut machine, &board, &mut writer)?;
+    show_next(&rt, &day, &mut machine, &board, &mut writer)?;
+    heap.restart(Refusal::From(1));
+    let mut first = writer.screen(&rt, &board);
+    let bid = first.read(&rt, &board);
+    show_next(&rt, &day, &mut machine, &board, &mut writer)?;
+    let second = first.split(&rt, &board);
+    first.join(&rt, &board, second);
+    let gone = first.read(&rt, &board);
+    same(
+        "what is read, and the growths",
+        &(
+            (bid.message, bid.bid_shares),
+            (gone.message, gone.bid_shares),
+            heap.asked(),
+        ),
+        &((2, 10), (3, 0), 0),
+    )
 }

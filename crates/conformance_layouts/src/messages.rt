@@ -3,8 +3,8 @@ use crate::table::SIZES;
 use itch_layouts::{
     Head, Imbalance, Msg, Nanos, Replace, Shape, read_msg, size_of_kind, write_msg,
 };
-use refusing::{Refusal, Refusing};
-use std::alloc::{AllocError, Allocator};
+use refusing::{Refusal, Refusing, Tried, refuse_each};
+use std::alloc::{Allocator, Global};
 use std::test::Fail;
 use support::{same, same_bytes};
 
@@ -141,25 +141,29 @@ fn every_type_is_read_at_its_size_alone(rt: HostRuntime) -> Result<(), Fail> {
     Ok(())
 }
 
-// A message is written with one growth, and not at all where that is refused.
-fn try_growth<A: Allocator>(heap: &Refusing<A>, msg: &Msg, payload: &[u8]) -> Result<(), Fail> {
-    heap.restart(Refusal::Never);
+// Writes a message after other bytes under a refusal. Where it is refused, these are as they were, and it is written with
+// memory.
+fn try_write(
+    heap: &Refusing<Global>,
+    msg: &Msg,
+    payload: &[u8],
+    refusal: Refusal,
+) -> Result<Tried, Fail> {
     let mut out = b"before".to_vec(heap)?;
-    heap.restart(Refusal::From(1));
-    same(
-        "a refused growth",
-        &write_msg(msg, &mut out),
-        &Err(AllocError),
-    )?;
-    same_bytes("what was there", &out, b"before")?;
-    heap.restart(Refusal::From(2));
-    let written = (write_msg(msg, &mut out), heap.asked());
-    same("with one growth", &written, &(Ok(()), 1))?;
+    heap.restart(refusal);
+    let mut written = write_msg(msg, &mut out);
+    let tried = heap.tried(written.is_err());
+    if tried.refused {
+        same_bytes("what was there", &out, b"before")?;
+        written = write_msg(msg, &mut out);
+    }
+    same("a message is written", &written, &Ok(()))?;
     same_bytes(
-        "after it",
+        "after what was there",
         out.strip_prefix(b"before").unwrap_or(b""),
         payload,
-    )
+    )?;
+    Ok(tried)
 }
 
 #[test]
@@ -168,10 +172,13 @@ fn messages_are_written_whole_or_not_at_all(rt: HostRuntime) -> Result<(), Fail>
     for (kind, size) in SIZES {
         let bytes = filled(kind, 17, 11);
         let payload = &bytes[..usize::from(size.min(60))];
-        match read_msg(payload) {
-            Shape::Known(msg) => try_growth(&heap, &msg, payload)?,
-            _ => return Err(Fail::new(format_args!("type {kind} isn't read at its size"))),
-        }
+        let Shape::Known(msg) = read_msg(payload) else {
+            return Err(Fail::new(format_args!("type {kind} isn't read at its size")));
+        };
+        let growths = refuse_each(|refusal: Refusal| -> Result<Tried, Fail> {
+            try_write(&heap, &msg, payload, refusal)
+        })?;
+        same("one growth", &(kind, growths), &(kind, 1))?;
     }
     Ok(())
 }

@@ -1,200 +1,223 @@
 //! Growths that are refused in turn: a step or a list that is refused memory changes nothing.
 use itch_layouts::Msg;
-use itch_table::{Level, Order, Outcome, Plain, Side};
-use refusing::{Refusal, Refusing};
-use std::alloc::{AllocError, Allocator};
+use itch_table::{Outcome, Plain, Side};
+use refusing::{Refusal, Refusing, Tried, refuse_any, refuse_each};
+use std::alloc::{AllocError, Allocator, Global};
 use std::test::Fail;
 use support::{AAPL, GROWING, Growing, Known, Ticker, known_of, payload_of, same, same_list, take};
 
-// All that a machine knows of the stock of locate code 1, and all lists that it makes.
-#[derive(Drop)]
-struct Everything<A: Allocator> {
-    known: Known,
-    orders: Vec<Order, A>,
-    bids: Vec<Level, A>,
-    asks: Vec<Level, A>,
-    locates: Vec<u16, A>,
-}
-
-// All of that, of a machine.
-fn everything_of<A: Allocator + Copy>(
+// Compares what two machines know of the stock of locate code 1, and all lists that they make.
+fn same_machines<A: Allocator + Copy>(
     alloc: A,
-    machine: &Plain<A>,
-) -> Result<Everything<A>, AllocError> {
-    Ok(Everything {
-        known: known_of(machine, 1),
-        orders: machine.orders(alloc, 1)?,
-        bids: machine.levels(alloc, 1, Side::Buy)?,
-        asks: machine.levels(alloc, 1, Side::Sell)?,
-        locates: machine.locates(alloc)?,
-    })
-}
-
-// Compares all of that.
-fn same_everything<A: Allocator>(
-    case: &str,
-    found: &Everything<A>,
-    wanted: &Everything<A>,
+    found: &Plain<A>,
+    wanted: &Plain<A>,
 ) -> Result<(), Fail> {
-    same(case, &found.known, &wanted.known)?;
-    same_list(case, &found.orders, &wanted.orders)?;
-    same_list(case, &found.bids, &wanted.bids)?;
-    same_list(case, &found.asks, &wanted.asks)?;
-    same_list(case, &found.locates, &wanted.locates)
-}
-
-// Steps a machine through one message that is applied: with each of its growths refused in turn, and then with memory.
-// Answers how many growths there are.
-fn growths_of<'h, A: Allocator + Copy>(
-    heap: &'h Refusing<A>,
-    machine: &mut Plain<&'h Refusing<A>>,
-    payload: &[u8],
-) -> Result<u64, Fail> {
-    heap.restart(Refusal::Never);
-    let before = everything_of(heap, machine)?;
-    for growth in 1..=5u64 {
-        if machine.steps() == u32::MAX {
-            return Err(Fail::new("a machine takes no more messages"));
-        }
-        heap.restart(Refusal::From(growth));
-        let answer = machine.step(payload);
-        let asked = heap.asked();
-        heap.restart(Refusal::Never);
-        if let Ok(outcome) = answer {
-            same(
-                "a step with memory",
-                &(outcome, asked),
-                &(Outcome::Applied, growth - 1),
-            )?;
-            return Ok(growth - 1);
-        }
-        same_everything(
-            "a step without memory",
-            &everything_of(heap, machine)?,
-            &before,
-        )?;
+    same("what is known", &known_of(found, 1), &known_of(wanted, 1))?;
+    let orders = found.orders(alloc, 1)?;
+    same_list("the orders", &orders, &wanted.orders(alloc, 1)?)?;
+    for side in [Side::Buy, Side::Sell] {
+        let levels = found.levels(alloc, 1, side)?;
+        same_list("the levels", &levels, &wanted.levels(alloc, 1, side)?)?;
     }
-    Err(Fail::new("a step takes four growths at most"))
+    let locates = found.locates(alloc)?;
+    same_list("the locate codes", &locates, &wanted.locates(alloc)?)
 }
 
 // Hands a machine a message with memory, which is applied.
-fn apply<'h, A: Allocator + Copy>(
-    heap: &'h Refusing<A>,
-    machine: &mut Plain<&'h Refusing<A>>,
-    msg: &Msg,
-) -> Result<(), Fail> {
-    heap.restart(Refusal::Never);
-    let payload = payload_of(heap, msg)?;
+fn apply<A: Allocator + Copy>(alloc: A, machine: &mut Plain<A>, msg: &Msg) -> Result<(), Fail> {
+    let payload = payload_of(alloc, msg)?;
     take("a message with memory", machine, &payload, Outcome::Applied)
 }
 
-// Hands a machine message `number` of a kind, and answers how many growths there are.
-fn grow<'h, A: Allocator + Copy>(
-    heap: &'h Refusing<A>,
-    machine: &mut Plain<&'h Refusing<A>>,
-    kind: Growing,
+// Messages by numbers from 2 on.
+#[derive(Debug, Clone, Copy, PartialEq, Eq)]
+enum Series {
+    // Those of a kind, on the stock of locate code 1.
+    Kind(Growing),
+    // The directory messages of the locate codes.
+    Directories,
+}
+
+impl Series {
+    // The message of a number.
+    fn message(self, number: u8) -> Msg {
+        match self {
+            Series::Kind(kind) => kind.message(number),
+            Series::Directories => {
+                let locate = u16::from(number);
+                Ticker { locate, ..AAPL }.directory()
+            }
+        }
+    }
+}
+
+// A machine with order 1 before a message of a series, after the earlier ones: each replacement comes after its original.
+fn machine_before<A: Allocator + Copy>(
+    alloc: A,
+    series: Series,
     number: u8,
-) -> Result<u64, Fail> {
-    if kind == Growing::Replace {
-        apply(heap, machine, &AAPL.add(u64::from(number), b'B', 10, 100))?;
+) -> Result<Plain<A>, Fail> {
+    let mut machine = Plain::new(alloc);
+    apply(alloc, &mut machine, &AAPL.directory())?;
+    apply(alloc, &mut machine, &AAPL.add(1, b'B', 10, 100))?;
+    for earlier in 2..=number {
+        if series == Series::Kind(Growing::Replace) {
+            let original = AAPL.add(u64::from(earlier), b'B', 10, 100);
+            apply(alloc, &mut machine, &original)?;
+        }
+        if earlier < number {
+            apply(alloc, &mut machine, &series.message(earlier))?;
+        }
     }
-    let payload = payload_of(heap, &kind.message(number))?;
-    growths_of(heap, machine, &payload)
+    Ok(machine)
 }
 
-// Hands 99 messages of a kind to a machine with order 1, and answers how many growths there are.
-fn grow_by<A: Allocator + Copy>(heap: &Refusing<A>, kind: Growing) -> Result<u64, Fail> {
-    let mut machine = Plain::new(heap);
-    apply(heap, &mut machine, &AAPL.directory())?;
-    apply(heap, &mut machine, &AAPL.add(1, b'B', 10, 100))?;
+// Steps a machine under a refusal through a payload that is applied with memory.
+fn step_under<'h>(
+    heap: &'h Refusing<Global>,
+    machine: &mut Plain<&'h Refusing<Global>>,
+    payload: &[u8],
+    refusal: Refusal,
+) -> Result<Tried, Fail> {
+    if machine.steps() == u32::MAX {
+        return Err(Fail::new("a machine takes no more messages"));
+    }
+    heap.restart(refusal);
+    let answer = machine.step(payload);
+    let tried = heap.tried(answer.is_err());
+    if !tried.refused {
+        same("a step", &answer, &Ok(Outcome::Applied))?;
+    }
+    Ok(tried)
+}
+
+// Hands a machine a message of a series under a refusal. Where it is refused, the machine says what it said before, and
+// takes the message with memory. In the end it says what one says that was never refused.
+fn try_step(
+    heap: &Refusing<Global>,
+    series: Series,
+    number: u8,
+    refusal: Refusal,
+) -> Result<Tried, Fail> {
+    let msg = series.message(number);
+    let payload = payload_of(heap, &msg)?;
+    let mut machine = machine_before(heap, series, number)?;
+    let mut twin = machine_before(heap, series, number)?;
+    let tried = step_under(heap, &mut machine, &payload, refusal)?;
+    if tried.refused {
+        same_machines(heap, &machine, &twin)?;
+        apply(heap, &mut machine, &msg)?;
+    }
+    apply(heap, &mut twin, &msg)?;
+    same_machines(heap, &machine, &twin)?;
+    Ok(tried)
+}
+
+// Tries 99 messages of a series, some of which need memory, and some find room.
+fn try_series(heap: &Refusing<Global>, series: Series) -> Result<(), Fail> {
     let mut growths = 0u64;
-    for number in 2..=100 {
-        growths = growths.saturating_add(grow(heap, &mut machine, kind, number)?);
+    for number in 2..=100u8 {
+        let more = refuse_any(|refusal: Refusal| -> Result<Tried, Fail> {
+            try_step(heap, series, number, refusal)
+        })?;
+        growths = growths.saturating_add(more);
     }
-    Ok(growths)
+    same(
+        "how many messages needed memory",
+        &(series, growths > 0 && growths < 99),
+        &(series, true),
+    )
 }
 
-// Hands the directory messages of 100 stocks to a machine, and answers how many growths there are.
-fn grow_by_stocks<A: Allocator + Copy>(heap: &Refusing<A>) -> Result<u64, Fail> {
-    let mut machine = Plain::new(heap);
-    let mut growths = 0u64;
-    for locate in 1..=100 {
-        let payload = payload_of(heap, &Ticker { locate, ..AAPL }.directory())?;
-        growths = growths.saturating_add(growths_of(heap, &mut machine, &payload)?);
-    }
-    Ok(growths)
-}
-
-// Some of 99 messages need memory, and some find room.
 #[test]
 fn a_step_without_memory_changes_nothing(rt: HostRuntime) -> Result<(), Fail> {
     let heap = Refusing::new(rt.alloc(), Refusal::Never);
     for kind in GROWING {
-        let growths = grow_by(&heap, kind)?;
-        same(
-            "how many messages needed memory",
-            &(kind, growths > 0 && growths < 99),
-            &(kind, true),
-        )?;
+        try_series(&heap, Series::Kind(kind))?;
     }
-    let growths = grow_by_stocks(&heap)?;
-    same(
-        "how many stocks needed memory",
-        &(growths > 0 && growths < 100),
-        &true,
-    )
+    try_series(&heap, Series::Directories)
 }
 
-// How long each list of the stock of locate code 1 is: its bids, its orders and all locate codes.
-fn lengths_of<A: Allocator + Copy>(alloc: A, machine: &Plain<A>) -> [Result<usize, AllocError>; 3] {
-    let bids = machine.levels(alloc, 1, Side::Buy);
-    let orders = machine.orders(alloc, 1);
-    let locates = machine.locates(alloc);
-    [
-        bids.map(|list| list.len()),
-        orders.map(|list| list.len()),
-        locates.map(|list| list.len()),
-    ]
-}
-
-// Asks for the bids with each growth refused in turn.
-fn refuse_bids<'h, A: Allocator + Copy>(
-    heap: &'h Refusing<A>,
-    machine: &Plain<&'h Refusing<A>>,
-) -> Result<(), Fail> {
-    heap.restart(Refusal::Never);
-    let found = machine.levels(heap, 1, Side::Buy).map(|list| list.len());
-    let growths = heap.asked();
-    same("bids with memory", &(found, growths > 1), &(Ok(2), true))?;
-    for growth in 1..=growths {
-        heap.restart(Refusal::From(growth));
-        let found = machine.levels(heap, 1, Side::Buy).map(|list| list.len());
-        same(
-            "bids without memory",
-            &(growth, found),
-            &(growth, Err(AllocError)),
-        )?;
+// How a call may end under each kind of refusal.
+#[test]
+fn a_call_ends_as_its_refusal_allows(_rt: HostRuntime) -> Result<(), Fail> {
+    for (refusal, growths, refused, allowed) in [
+        (Refusal::Never, 3, false, true),
+        (Refusal::Never, 3, true, false),
+        (Refusal::Only(2), 2, true, true),
+        (Refusal::Only(2), 3, false, true),
+        (Refusal::Only(2), 1, false, false),
+        (Refusal::From(2), 2, true, true),
+        (Refusal::From(2), 2, false, false),
+        (Refusal::From(2), 1, true, false),
+    ] {
+        let tried = Tried { growths, refused };
+        let found = (refusal, tried, tried.is_allowed(refusal));
+        same("how a call ends", &found, &(refusal, tried, allowed))?;
     }
     Ok(())
+}
+
+// A list that a machine makes.
+#[derive(Debug, Clone, Copy, PartialEq, Eq)]
+enum Listing {
+    Bids,
+    Orders,
+    Locates,
+}
+
+// How long a list is.
+fn length_of<A: Allocator + Copy>(
+    alloc: A,
+    machine: &Plain<A>,
+    listing: Listing,
+) -> Result<usize, AllocError> {
+    match listing {
+        Listing::Bids => Ok(machine.levels(alloc, 1, Side::Buy)?.len()),
+        Listing::Orders => Ok(machine.orders(alloc, 1)?.len()),
+        Listing::Locates => Ok(machine.locates(alloc)?.len()),
+    }
+}
+
+// A machine with two bids.
+fn two_bids<A: Allocator + Copy>(alloc: A) -> Result<Plain<A>, Fail> {
+    let mut machine = machine_before(alloc, Series::Directories, 2)?;
+    apply(alloc, &mut machine, &AAPL.add(2, b'B', 10, 200))?;
+    Ok(machine)
+}
+
+// Makes a list of this length under a refusal, which leaves the machine as it is.
+fn try_listing(
+    heap: &Refusing<Global>,
+    listing: Listing,
+    length: usize,
+    refusal: Refusal,
+) -> Result<Tried, Fail> {
+    let machine = two_bids(heap)?;
+    heap.restart(refusal);
+    let found = length_of(heap, &machine, listing);
+    let tried = heap.tried(found.is_err());
+    if !tried.refused {
+        same("a list", &(listing, found), &(listing, Ok(length)))?;
+    }
+    same_machines(heap, &machine, &two_bids(heap)?)?;
+    Ok(tried)
 }
 
 #[test]
 fn a_list_without_memory_is_none(rt: HostRuntime) -> Result<(), Fail> {
     let heap = Refusing::new(rt.alloc(), Refusal::Never);
-    let mut machine = Plain::new(&heap);
-    apply(&heap, &mut machine, &AAPL.directory())?;
-    apply(&heap, &mut machine, &AAPL.add(1, b'B', 10, 100))?;
-    apply(&heap, &mut machine, &AAPL.add(2, b'B', 10, 200))?;
-    refuse_bids(&heap, &machine)?;
-    heap.restart(Refusal::From(1));
-    let refused = lengths_of(&heap, &machine);
-    heap.restart(Refusal::Never);
-    let found = lengths_of(&heap, &machine);
-    same(
-        "lists without memory, and with it",
-        &(refused, found),
-        &([Err(AllocError); 3], [Ok(2), Ok(2), Ok(1)]),
-    )
+    for (listing, length, least) in [
+        (Listing::Bids, 2, 2),
+        (Listing::Orders, 2, 1),
+        (Listing::Locates, 1, 1),
+    ] {
+        let growths = refuse_each(|refusal: Refusal| -> Result<Tried, Fail> {
+            try_listing(&heap, listing, length, refusal)
+        })?;
+        same("growths", &(listing, growths >= least), &(listing, true))?;
+    }
+    Ok(())
 }
 
 // A short day that needs a new row at each message but the last two.
@@ -211,52 +234,49 @@ fn short_day() -> [Msg; 8] {
     ]
 }
 
-// Steps a machine through the short day, and once more through each message that is refused memory. Answers what is
-// known in the end, and how many steps were refused.
-fn play<A: Allocator + Copy, B: Allocator + Copy>(
-    alloc: B,
-    machine: &mut Plain<A>,
-) -> Result<(Known, u32), Fail> {
-    let mut refused = 0u32;
+// Steps a machine through the short day under a refusal. A step that is refused leaves what is known, and is taken again
+// with memory. Answers what is known in the end, and what became of the steps.
+fn play(alloc: Global, heap: &Refusing<Global>, refusal: Refusal) -> Result<(Known, Tried), Fail> {
+    let mut machine = Plain::new(heap);
+    let mut refused = None;
+    heap.restart(refusal);
     for msg in short_day() {
         let payload = payload_of(alloc, &msg)?;
-        let before = known_of(machine, 1);
+        let before = known_of(&machine, 1);
         if machine.steps() == u32::MAX {
             return Err(Fail::new("a machine takes no more messages"));
         }
         match machine.step(&payload) {
             Ok(outcome) => same("a step", &outcome, &Outcome::Applied)?,
             Err(AllocError) => {
-                refused = refused.wrapping_add(1);
-                same("a refused step", &known_of(machine, 1), &before)?;
-                take("the step again", machine, &payload, Outcome::Applied)?;
+                refused = Some(heap.tried(true));
+                same("a refused step", &known_of(&machine, 1), &before)?;
+                take("the step again", &mut machine, &payload, Outcome::Applied)?;
             }
         }
     }
-    Ok((known_of(machine, 1), refused))
+    let tried = match refused {
+        Some(tried) => tried,
+        None => heap.tried(false),
+    };
+    Ok((known_of(&machine, 1), tried))
 }
 
 #[test]
 fn a_day_ends_the_same_whichever_growth_was_refused(rt: HostRuntime) -> Result<(), Fail> {
-    let heap = Refusing::new(rt.alloc(), Refusal::Never);
-    let mut machine = Plain::new(&heap);
-    let (wanted, refused) = play(rt.alloc(), &mut machine)?;
-    same("steps refused with memory", &refused, &0)?;
+    let alloc = rt.alloc();
+    let heap = Refusing::new(alloc, Refusal::Never);
+    let (wanted, _) = play(alloc, &heap, Refusal::Never)?;
     same("the best bid", &wanted.top.bid_price, &150)?;
     same(
         "trades",
         &(wanted.totals.trades, wanted.totals.unprinted),
         &(3, 1),
     )?;
-    let growths = heap.asked();
-    same("that there are growths", &(growths > 2), &true)?;
-    let mut all = 0u32;
-    for growth in 1..=growths {
-        let heap = Refusing::new(rt.alloc(), Refusal::Only(growth));
-        let mut machine = Plain::new(&heap);
-        let (found, refused) = play(rt.alloc(), &mut machine)?;
-        same("the end of the day", &(growth, found), &(growth, wanted))?;
-        all = all.wrapping_add(refused);
-    }
-    same("that some steps were refused", &(all > 0), &true)
+    let growths = refuse_each(|refusal: Refusal| -> Result<Tried, Fail> {
+        let (known, tried) = play(alloc, &heap, refusal)?;
+        same("the end of the day", &known, &wanted)?;
+        Ok(tried)
+    })?;
+    same("that there are growths", &(growths > 2), &true)
 }

@@ -6,12 +6,13 @@ use std::alloc::Allocator;
 use std::test::Fail;
 use support::{AAPL, MSFT, Ticker, head, known_of, payload_of, same, system, take};
 
-// Messages after which the machine has a stock with the bids 1 and 2, and a trade with match number 1.
-fn first_messages() -> [Msg; 4] {
+// Messages after which the machine has a stock with the bids 1 and 2, the ask 3, and a trade with match number 1.
+fn first_messages() -> [Msg; 5] {
     [
         AAPL.directory(),
         AAPL.add(1, b'B', 10, 100),
         AAPL.add(2, b'B', 10, 100),
+        AAPL.add(3, b'S', 10, 200),
         AAPL.execute(1, 1, 1),
     ]
 }
@@ -50,12 +51,18 @@ fn rowless_messages() -> [Msg; 16] {
 }
 
 // Messages that are refused after all these, and their faults.
-fn refused_messages() -> [(Msg, Fault); 7] {
+fn refused_messages() -> [(Msg, Fault); 13] {
     let unlisted = Ticker { locate: 3, ..AAPL };
     let other = Ticker { locate: 1, ..MSFT };
     [
         (AAPL.broken(1), Fault::NoTrade),
         (AAPL.execute(1, 1, 2), Fault::ReferenceUnknown),
+        (AAPL.execute(3, 11, 2), Fault::TooManyShares),
+        (AAPL.execute_price(3, 1, 2, b'Z', 5), Fault::BadPrintable),
+        (AAPL.cancel(3, 11), Fault::TooManyShares),
+        (AAPL.delete(1), Fault::ReferenceUnknown),
+        (AAPL.replace(3, 3, 1, 1), Fault::ReferenceInUse),
+        (AAPL.add_mpid(3, b'B', 1, 1), Fault::ReferenceInUse),
         (AAPL.trade(b'Z', 1, 1, 1), Fault::BadSide),
         (AAPL.add(1, b'B', 0, 1), Fault::ZeroShares),
         (unlisted.add(1, b'B', 1, 1), Fault::NoDirectory),

@@ -1,105 +1,90 @@
-//! Growths that are refused in turn, and steps that take no memory.
+//! Growths that are refused in turn, and steps and calls that take no memory.
 use crate::comparing::{after, same_machines, take, take_message};
 use itch_layouts::Msg;
 use itch_table::{Fault, Outcome, Part, Side, part};
-use refusing::{Refusal, Refusing};
-use std::alloc::{AllocError, Allocator};
+use refusing::{Refusal, Refusing, Tried, refuse_any, refuse_each};
+use std::alloc::{AllocError, Allocator, Global};
 use std::test::Fail;
 use stock_machine::Stock;
 use support::{AAPL, GROWING, Growing, payload_of, same};
 
-// Steps a machine through a message that is applied with memory, whose growths are refused from this number on. Answers
-// whether it was refused memory.
-fn is_refused<'h, A: Allocator + Copy>(
-    heap: &'h Refusing<A>,
-    stock: &mut Stock<&'h Refusing<A>>,
+// The directory message, and one that adds a bid.
+fn one_bid() -> [Msg; 2] {
+    [AAPL.directory(), AAPL.add(1, b'B', 10, 100)]
+}
+
+// A machine with order 1 before message `number` of a kind, after the earlier ones from 2 on: each replacement comes after
+// its original.
+fn machine_before<A: Allocator + Copy>(
+    alloc: A,
+    kind: Growing,
+    number: u8,
+) -> Result<Stock<A>, Fail> {
+    let mut stock = after(alloc, &one_bid())?;
+    for earlier in 2..=number {
+        if kind == Growing::Replace {
+            let original = AAPL.add(u64::from(earlier), b'B', 10, 100);
+            take_message(alloc, &mut stock, &original, Outcome::Applied)?;
+        }
+        if earlier < number {
+            take_message(alloc, &mut stock, &kind.message(earlier), Outcome::Applied)?;
+        }
+    }
+    Ok(stock)
+}
+
+// Steps a machine under a refusal through a payload that is applied with memory.
+fn step_under<'h>(
+    heap: &'h Refusing<Global>,
+    stock: &mut Stock<&'h Refusing<Global>>,
     payload: &[u8],
-    growth: u64,
-) -> Result<bool, Fail> {
+    refusal: Refusal,
+) -> Result<Tried, Fail> {
     if part(payload) != Part::Locate(stock.locate()) || stock.steps() == u32::MAX {
         return Err(Fail::new("the payload isn't the stock's next one"));
     }
-    heap.restart(Refusal::From(growth));
+    heap.restart(refusal);
     let answer = stock.step(payload);
-    let asked = heap.asked();
-    heap.restart(Refusal::Never);
-    // A refused try may have made room, which a later one finds.
-    let wanted = if asked >= growth {
-        Err(AllocError)
-    } else {
-        Ok(Outcome::Applied)
-    };
-    same("a step", &answer, &wanted)?;
-    Ok(answer.is_err())
-}
-
-// Hands a payload to two machines that say the same: to the first with each of its growths refused in turn, which changes
-// nothing, and at last with memory, and to the second with memory. Answers how many growths there are.
-fn take_both<'h, A: Allocator + Copy>(
-    heap: &'h Refusing<A>,
-    stock: &mut Stock<&'h Refusing<A>>,
-    twin: &mut Stock<&'h Refusing<A>>,
-    payload: &[u8],
-) -> Result<u64, Fail> {
-    for growths in 0..=4u64 {
-        if !is_refused(heap, stock, payload, growths + 1)? {
-            take(twin, payload, Outcome::Applied)?;
-            same_machines(heap, stock, twin)?;
-            return Ok(growths);
-        }
-        same_machines(heap, stock, twin)?;
+    let tried = heap.tried(answer.is_err());
+    if !tried.refused {
+        same("a step", &answer, &Ok(Outcome::Applied))?;
     }
-    Err(Fail::new("a step takes four growths at most"))
+    Ok(tried)
 }
 
-// As `take_both`, of a message.
-fn apply_both<'h, A: Allocator + Copy>(
-    heap: &'h Refusing<A>,
-    stock: &mut Stock<&'h Refusing<A>>,
-    twin: &mut Stock<&'h Refusing<A>>,
-    msg: &Msg,
-) -> Result<u64, Fail> {
-    let payload = payload_of(heap, msg)?;
-    take_both(heap, stock, twin, &payload)
-}
-
-// Hands two machines message `number` of a kind, and a replacement's original before it. Answers how many growths the
-// message has.
-fn grow_both<'h, A: Allocator + Copy>(
-    heap: &'h Refusing<A>,
-    stock: &mut Stock<&'h Refusing<A>>,
-    twin: &mut Stock<&'h Refusing<A>>,
+// Hands a machine message `number` of a kind under a refusal. Where it is refused, the machine says what it said before,
+// and takes the message with memory. In the end it says what one says that was never refused.
+fn try_step(
+    heap: &Refusing<Global>,
     kind: Growing,
     number: u8,
-) -> Result<u64, Fail> {
-    if kind == Growing::Replace {
-        apply_both(
-            heap,
-            stock,
-            twin,
-            &AAPL.add(u64::from(number), b'B', 10, 100),
-        )?;
+    refusal: Refusal,
+) -> Result<Tried, Fail> {
+    let payload = payload_of(heap, &kind.message(number))?;
+    let mut stock = machine_before(heap, kind, number)?;
+    let mut twin = machine_before(heap, kind, number)?;
+    let tried = step_under(heap, &mut stock, &payload, refusal)?;
+    if tried.refused {
+        same_machines(heap, &stock, &twin)?;
+        take(&mut stock, &payload, Outcome::Applied)?;
     }
-    apply_both(heap, stock, twin, &kind.message(number))
+    take(&mut twin, &payload, Outcome::Applied)?;
+    same_machines(heap, &stock, &twin)?;
+    Ok(tried)
 }
 
-// Hands two machines 99 messages of a kind. Answers how many growths there are.
-fn grow_by<A: Allocator + Copy>(heap: &Refusing<A>, kind: Growing) -> Result<u64, Fail> {
-    let mut stock = after(heap, &one_bid())?;
-    let mut twin = after(heap, &one_bid())?;
-    let mut growths = 0u64;
-    for number in 2..=100 {
-        let more = grow_both(heap, &mut stock, &mut twin, kind, number)?;
-        growths = growths.saturating_add(more);
-    }
-    Ok(growths)
-}
-
+// Some of 99 messages of a kind need memory, and some find room.
 #[test]
 fn a_step_without_memory_changes_nothing(rt: HostRuntime) -> Result<(), Fail> {
     let heap = Refusing::new(rt.alloc(), Refusal::Never);
     for kind in GROWING {
-        let growths = grow_by(&heap, kind)?;
+        let mut growths = 0u64;
+        for number in 2..=100u8 {
+            let more = refuse_any(|refusal: Refusal| -> Result<Tried, Fail> {
+                try_step(&heap, kind, number, refusal)
+            })?;
+            growths = growths.saturating_add(more);
+        }
         same(
             "how many messages needed memory",
             &(kind, growths > 0 && growths < 99),
@@ -107,59 +92,6 @@ fn a_step_without_memory_changes_nothing(rt: HostRuntime) -> Result<(), Fail> {
         )?;
     }
     Ok(())
-}
-
-// A call that makes a list or a copy.
-#[derive(Debug, Clone, Copy, PartialEq, Eq)]
-enum Call {
-    Levels,
-    Orders,
-    Copy,
-}
-
-// How long the list is that a call makes, or how many messages the copy has taken.
-fn length_of<A: Allocator + Copy>(
-    alloc: A,
-    stock: &Stock<A>,
-    call: Call,
-) -> Result<usize, AllocError> {
-    match call {
-        Call::Levels => stock.levels(alloc, Side::Buy).map(|list| list.len()),
-        Call::Orders => stock.orders(alloc).map(|list| list.len()),
-        Call::Copy => stock.copy(alloc).map(|copy| copy.steps() as usize),
-    }
-}
-
-// Makes a call with memory, and with each of its growths refused in turn.
-fn refuse_call<'h, A: Allocator + Copy>(
-    heap: &'h Refusing<A>,
-    stock: &Stock<&'h Refusing<A>>,
-    call: Call,
-    length: usize,
-) -> Result<(), Fail> {
-    heap.restart(Refusal::Never);
-    let found = length_of(heap, stock, call);
-    let growths = heap.asked();
-    same(
-        "a call with memory",
-        &(call, found, growths > 0),
-        &(call, Ok(length), true),
-    )?;
-    for growth in 1..=growths {
-        heap.restart(Refusal::From(growth));
-        let refused = length_of(heap, stock, call);
-        same(
-            "a call without memory",
-            &(call, growth, refused),
-            &(call, growth, Err(AllocError)),
-        )?;
-    }
-    Ok(())
-}
-
-// The directory message, and one that adds a bid.
-fn one_bid() -> [Msg; 2] {
-    [AAPL.directory(), AAPL.add(1, b'B', 10, 100)]
 }
 
 // The directory message, and others that add two bids and a trade.
@@ -172,19 +104,65 @@ fn two_bids() -> [Msg; 4] {
     ]
 }
 
+// A list that a machine makes.
+#[derive(Debug, Clone, Copy, PartialEq, Eq)]
+enum Listing {
+    Levels,
+    Orders,
+}
+
+// How long a list is.
+fn length_of<A: Allocator + Copy>(
+    alloc: A,
+    stock: &Stock<A>,
+    listing: Listing,
+) -> Result<usize, AllocError> {
+    match listing {
+        Listing::Levels => Ok(stock.levels(alloc, Side::Buy)?.len()),
+        Listing::Orders => Ok(stock.orders(alloc)?.len()),
+    }
+}
+
+// Makes a list of the two bids under a refusal, which leaves the machine as it is.
+fn try_listing(heap: &Refusing<Global>, listing: Listing, refusal: Refusal) -> Result<Tried, Fail> {
+    let stock = after(heap, &two_bids())?;
+    heap.restart(refusal);
+    let found = length_of(heap, &stock, listing);
+    let tried = heap.tried(found.is_err());
+    if !tried.refused {
+        same("a list", &(listing, found), &(listing, Ok(2)))?;
+    }
+    same_machines(heap, &stock, &after(heap, &two_bids())?)?;
+    Ok(tried)
+}
+
+// Makes a copy under a refusal, which leaves the machine as it is.
+fn try_copy(heap: &Refusing<Global>, refusal: Refusal) -> Result<Tried, Fail> {
+    let stock = after(heap, &two_bids())?;
+    heap.restart(refusal);
+    let copy = stock.copy(heap);
+    let tried = heap.tried(copy.is_err());
+    if let Ok(copy) = copy {
+        same_machines(heap, &copy, &stock)?;
+    }
+    same_machines(heap, &stock, &after(heap, &two_bids())?)?;
+    Ok(tried)
+}
+
 #[test]
 fn a_list_or_a_copy_without_memory_is_none(rt: HostRuntime) -> Result<(), Fail> {
     let heap = Refusing::new(rt.alloc(), Refusal::Never);
-    let stock = after(&heap, &two_bids())?;
-    for (call, length) in [(Call::Levels, 2), (Call::Orders, 2), (Call::Copy, 4)] {
-        refuse_call(&heap, &stock, call, length)?;
+    for listing in [Listing::Levels, Listing::Orders] {
+        refuse_each(|refusal: Refusal| -> Result<Tried, Fail> {
+            try_listing(&heap, listing, refusal)
+        })?;
     }
-    heap.restart(Refusal::Never);
-    same_machines(&heap, &stock, &after(&heap, &two_bids())?)
+    refuse_each(|refusal: Refusal| -> Result<Tried, Fail> { try_copy(&heap, refusal) })?;
+    Ok(())
 }
 
 // Messages that need no new row, after two bids and a trade, with their outcomes.
-fn without_a_new_row() -> [(Msg, Outcome); 17] {
+fn without_a_new_row() -> [(Msg, Outcome); 21] {
     [
         (AAPL.directory(), Outcome::Applied),
         (AAPL.participant(), Outcome::Applied),
@@ -211,6 +189,13 @@ fn without_a_new_row() -> [(Msg, Outcome); 17] {
             AAPL.execute(1, 11, 9),
             Outcome::Refused(Fault::TooManyShares),
         ),
+        (
+            AAPL.execute_price(1, 1, 9, b'Z', 5),
+            Outcome::Refused(Fault::BadPrintable),
+        ),
+        (AAPL.cancel(1, 11), Outcome::Refused(Fault::TooManyShares)),
+        (AAPL.delete(9), Outcome::Refused(Fault::ReferenceUnknown)),
+        (AAPL.broken(9), Outcome::Refused(Fault::NoTrade)),
         (AAPL.cancel(1, 4), Outcome::Applied),
         (AAPL.cancel(1, 6), Outcome::Applied),
         (AAPL.delete(2), Outcome::Applied),
@@ -227,8 +212,14 @@ fn steps_without_a_new_row_take_no_memory(rt: HostRuntime) -> Result<(), Fail> {
         take_message(rt.alloc(), &mut stock, msg, *outcome)?;
     }
     same(
-        "growths, orders and trades",
-        &(heap.asked(), stock.top().bid_shares, stock.totals().trades),
-        &(0, 0, 0),
+        "the trades, the state and the steps",
+        &(stock.totals().trades, stock.status().regsho, stock.steps()),
+        &(0, Some(b'1'), 25),
+    )?;
+    let level = stock.level(Side::Buy, 200);
+    same(
+        "the orders, and the growths",
+        &(stock.top().bid_shares, level, stock.order(2), heap.asked()),
+        &(0, 0, None, 0),
     )
 }

@@ -134,10 +134,10 @@ fn put_word<A: Allocator>(line: &mut Vec<u8, A>, word: &[u8]) -> Result<(), Allo
 
 // Adds a field with a value above its greatest. That of a number ends with 5, and that of a text with a quote.
 fn put_too_great<A: Allocator>(line: &mut Vec<u8, A>, field: &[u8]) -> Result<(), AllocError> {
-    let Some((last, front)) = field.split_last() else {
+    let Some((last, prefix)) = field.split_last() else {
         return Ok(());
     };
-    put_word(line, front)?;
+    put_word(line, prefix)?;
     line.extend_from_slice(if *last == b'"' { b"Z\"" } else { b"6" })
 }
 

@@ -1,7 +1,7 @@
 //! Runs that are refused memory.
 use crate::screens::first_screen;
 use binaryfile::Day;
-use refusing::{Refusal, Refusing};
+use refusing::{Refusal, Refusing, Tried, refuse_each};
 use std::alloc::Global;
 use std::sync::Wait;
 use std::test::Fail;
@@ -32,20 +32,20 @@ fn readings() -> [Reading; 5] {
     ]
 }
 
-// A run by two workers under this refusal, on a new board: its fault, and what a screen of the first stock, made
-// before the run, reads after it.
+// A run by two workers under a refusal, on a new board: its fault, what became of it, and what a screen of the first stock,
+// made before the run, reads after it.
 fn run_under<'h, R: Threads + Wait + Sync>(
     rt: &R,
     heap: &'h Refusing<Global>,
     day: &Day<&'h Refusing<Global>>,
     refusal: Refusal,
-) -> Result<(Option<RunFault>, Reading), Fail> {
-    heap.restart(Refusal::Never);
+) -> Result<(Option<RunFault>, Reading, Tried), Fail> {
     let (board, mut writers) = Board::new(rt, &heap, day)?;
     let mut screen = first_screen(rt, &board, &mut writers)?;
     heap.restart(refusal);
     let fault = run(rt, heap, day, &board, writers, 2, &FreeGate).err();
-    Ok((fault, screen.read(rt, &board)))
+    let reading = screen.read(rt, &board);
+    Ok((fault, reading, heap.tried(fault.is_some())))
 }
 
 // Whether a run that ends so is as it must be: either it answers, and a screen reads the last message of its stock, or
@@ -58,48 +58,32 @@ fn is_true(fault: Option<RunFault>, reading: Reading) -> bool {
     }
 }
 
-// A run under this refusal, which ends as it must. The answer says whether memory was refused.
-fn is_refused<'h, R: Threads + Wait + Sync>(
+// A run under a refusal, which ends as it must. Where it is refused, a run on another board does the day with memory.
+fn try_run<R: Threads + Wait + Sync>(
     rt: &R,
-    heap: &'h Refusing<Global>,
-    day: &Day<&'h Refusing<Global>>,
+    heap: &Refusing<Global>,
     refusal: Refusal,
-) -> Result<bool, Fail> {
-    let (fault, reading) = run_under(rt, heap, day, refusal)?;
+) -> Result<Tried, Fail> {
+    let day = two_stocks(heap)?;
+    let (fault, reading, tried) = run_under(rt, heap, &day, refusal)?;
     let ended = (refusal, fault, reading);
     same(
         "how it ends",
         &(ended, is_true(fault, reading)),
         &(ended, true),
     )?;
-    Ok(fault.is_some())
+    if tried.refused {
+        let (fault, reading, _) = run_under(rt, heap, &day, Refusal::Never)?;
+        same("with memory", &(fault, reading), &(None, bid(7, 0, 0)))?;
+    }
+    Ok(tried)
 }
 
-// How many growths a run asks for may differ between runs with threads. Where one growth alone is refused the run may
-// do without it; where all are from there on, it is refused if it comes to them.
 #[test]
 fn a_run_without_memory_ends(rt: HostRuntime) -> Result<(), Fail> {
     let heap = Refusing::new(rt.alloc(), Refusal::Never);
-    let day = two_stocks(&heap)?;
-    same(
-        "with memory",
-        &is_refused(&rt, &heap, &day, Refusal::Never)?,
-        &false,
-    )?;
-    let growths = heap.asked();
-    same("some growths", &(growths > 0 && growths <= 1_000), &true)?;
-    for growth in 1..=growths {
-        is_refused(&rt, &heap, &day, Refusal::Only(growth))?;
-        let refused = is_refused(&rt, &heap, &day, Refusal::From(growth))?;
-        same(
-            "from one on",
-            &(growth, refused),
-            &(growth, heap.asked() >= growth),
-        )?;
-    }
-    same(
-        "with memory again",
-        &is_refused(&rt, &heap, &day, Refusal::Never)?,
-        &false,
-    )
+    let growths = refuse_each(|refusal: Refusal| -> Result<Tried, Fail> {
+        try_run(&rt, &heap, refusal)
+    })?;
+    same("some growths", &(growths <= 1_000), &true)
 }

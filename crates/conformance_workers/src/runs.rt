@@ -2,6 +2,7 @@
 use crate::screens::first_screen;
 use binaryfile::Day;
 use itch_table::{Fault, Outcome};
+use refusing::{Refusal, Refusing};
 use std::alloc::{Allocator, Global};
 use std::sync::Wait;
 use std::test::Fail;
@@ -130,14 +131,22 @@ fn an_event_is_answered(rt: HostRuntime) -> Result<(), Fail> {
     same("how many stocks", &replayed.stocks.len(), &0)
 }
 
+// The number is looked at before any growth.
 #[test]
 fn a_number_of_workers_is_from_1_to_64(rt: HostRuntime) -> Result<(), Fail> {
-    let alloc = rt.alloc();
+    let heap = Refusing::new(rt.alloc(), Refusal::Never);
+    let alloc = &heap;
     let day = two_stocks(alloc)?;
     for workers in [0, 65] {
+        heap.restart(Refusal::Never);
         let (board, writers) = Board::new(&rt, &alloc, &day)?;
+        heap.restart(Refusal::From(1));
         let fault = run(&rt, alloc, &day, &board, writers, workers, &FreeGate).err();
-        same("the fault", &fault, &Some(RunFault::Workers))?;
+        same(
+            "the fault, and the growths",
+            &(fault, heap.asked()),
+            &(Some(RunFault::Workers), 0),
+        )?;
     }
     Ok(())
 }

@@ -7,13 +7,13 @@ use crate::screens::first_screen;
 use binaryfile::Day;
 use day_core::{Parts, Piece, Turns, split};
 use itch_table::{Fault, Outcome, Top};
-use refusing::{Refusal, Refusing};
+use refusing::{Refusal, Refusing, Tried, refuse_any, refuse_each};
 use std::alloc::{AllocError, Allocator, Global};
 use std::sync::Wait;
 use std::test::Fail;
 use std::thread::Threads;
 use stock_workers::{FreeGate, Worker};
-use support::{crossed_book, same, two_stocks};
+use support::{crossed_book, same, same_list, two_stocks};
 use top_cell::{Board, Reading, Screen, TopWriter};
 
 // What the only worker of a day is made of, and a screen of the day's first stock.
@@ -163,42 +163,41 @@ fn a_screen_reads_what_each_turn_leaves(rt: HostRuntime) -> Result<(), Fail> {
     )
 }
 
-// A worker that is made under this refusal: whether there is one, and how many growths it asked for.
-fn make_under<'h, R: Threads + Wait + Sync>(
+// Makes the only worker of the two stocks under a refusal. Where it is refused, the parts are as they were, and a worker is
+// made with memory.
+fn try_worker<R: Threads + Wait + Sync>(
     rt: &R,
-    heap: &'h Refusing<Global>,
-    day: &Day<&'h Refusing<Global>>,
+    heap: &Refusing<Global>,
     refusal: Refusal,
-) -> Result<(bool, u64), Fail> {
-    heap.restart(Refusal::Never);
+) -> Result<Tried, Fail> {
+    let day = two_stocks(heap)?;
     let Waiting {
         parts,
         board: _board,
         writers,
         screen: _screen,
-    } = prepare(rt, &heap, day)?;
+    } = prepare(rt, &heap, &day)?;
     heap.restart(refusal);
     let made = Worker::new(heap, &parts, 0, writers).is_ok();
-    Ok((made, heap.asked()))
+    let tried = heap.tried(!made);
+    if tried.refused {
+        same_list(
+            "the worker's messages",
+            parts.own(0),
+            &[1, 2, 3, 4, 5, 6, 7],
+        )?;
+        only_worker(rt, &heap, &day)?;
+    }
+    Ok(tried)
 }
 
-// A list that is refused more room than it needs may ask again for less: where one growth alone is refused, there is a
-// worker exactly where another growth was asked for after it.
 #[test]
 fn a_worker_without_memory_is_none(rt: HostRuntime) -> Result<(), Fail> {
     let heap = Refusing::new(rt.alloc(), Refusal::Never);
-    let day = two_stocks(&heap)?;
-    let (made, growths) = make_under(&rt, &heap, &day, Refusal::Never)?;
-    let some = growths > 2 && growths <= 100;
-    same("with memory", &(made, some), &(true, true))?;
-    for growth in 1..=growths {
-        let (made, _) = make_under(&rt, &heap, &day, Refusal::From(growth))?;
-        same("from one on", &(growth, made), &(growth, false))?;
-        let (made, asked) = make_under(&rt, &heap, &day, Refusal::Only(growth))?;
-        same("one alone", &(growth, made), &(growth, asked > growth))?;
-    }
-    let (made, _) = make_under(&rt, &heap, &day, Refusal::Never)?;
-    same("with memory again", &made, &true)
+    let growths = refuse_each(|refusal: Refusal| -> Result<Tried, Fail> {
+        try_worker(&rt, &heap, refusal)
+    })?;
+    same("some growths", &(growths > 2 && growths <= 100), &true)
 }
 
 // What a worker has of a stock: the steps and the top of its machine, and the message of its writer.
@@ -236,111 +235,114 @@ fn see<R: Wait, A: Allocator + Copy>(
     )
 }
 
-// Takes a worker's next turn with the first of its growths refused, then the second, and so on until it is taken: each
-// alone, or with all after it. After each refusal all is as before. The answer is what the turn did, and how many were
-// refused.
-fn turn_at_last<R: Threads + Wait + Sync, A: Allocator + Copy>(
-    rt: &R,
-    heap: &Refusing<Global>,
-    day: &Day<A>,
-    board: &Board<'_, A>,
-    worker: &mut Worker<A>,
-    screen: &mut Screen,
-    alone: bool,
-) -> Result<(Option<Piece>, u64), Fail>
-    requires day { day.now.payloads ≡ worker.old.state.day }
-    requires board { All (IsOn board.now) worker.old.places }
-    requires screen { IsOn board.now screen.old.place }
-    ensures day { IfOk result (λ _. worker.new.state.day ≡ worker.old.state.day) }
-    ensures places { IfOk result (λ _. worker.new.places ≡ worker.old.places) }
-    ensures screen { IfOk result (λ _. screen.new.place ≡ screen.old.place) }
-{
-    let before = see(rt, board, worker, screen);
-    for growth in 1..=10u64 {
-        heap.restart(if alone {
-            Refusal::Only(growth)
-        } else {
-            Refusal::From(growth)
-        });
-        if let Ok(piece) = turn(rt, day, board, worker) {
-            return Ok((piece, growth - 1));
-        }
-        same("a refused turn", &see(rt, board, worker, screen), &before)?;
+// A stock after so many of its messages, of which this is the last, with these shares at its only bid.
+fn stock_after(steps: u32, message: u32, bid_price: u32, bid_shares: u64) -> State {
+    State {
+        steps,
+        top: Top {
+            bid_price,
+            bid_shares,
+            ..NO_TOP
+        },
+        message,
     }
-    Err(Fail::new("a turn has ten growths at most"))
 }
 
-// What becomes of the messages of the two stocks, and nothing after them.
-fn pieces() -> [Option<Piece>; 8] {
+// What a turn of the only worker of the two stocks answers, and the stocks that have orders after it. The screen reads the
+// first of them.
+type After = (Option<Piece>, State, State);
+
+// All of its turns.
+fn turns_of_two_stocks() -> [After; 8] {
+    let unlisted = Outcome::Refused(Fault::NoDirectory);
+    let unknown = Outcome::Refused(Fault::ReferenceUnknown);
+    let one = stock_after(2, 3, 100, 10);
+    let two = stock_after(2, 4, 200, 20);
     [
-        piece(1, Outcome::Applied),
-        piece(2, Outcome::Applied),
-        piece(3, Outcome::Applied),
-        piece(4, Outcome::Applied),
-        piece(5, Outcome::Applied),
-        piece(6, Outcome::Refused(Fault::NoDirectory)),
-        piece(7, Outcome::Refused(Fault::ReferenceUnknown)),
-        None,
+        (
+            piece(1, Outcome::Applied),
+            stock_after(1, 1, 0, 0),
+            stock_after(0, 0, 0, 0),
+        ),
+        (
+            piece(2, Outcome::Applied),
+            stock_after(1, 1, 0, 0),
+            stock_after(1, 2, 0, 0),
+        ),
+        (piece(3, Outcome::Applied), one, stock_after(1, 2, 0, 0)),
+        (piece(4, Outcome::Applied), one, two),
+        (piece(5, Outcome::Applied), stock_after(3, 5, 0, 0), two),
+        (piece(6, unlisted), stock_after(3, 5, 0, 0), two),
+        (piece(7, unknown), stock_after(4, 7, 0, 0), two),
+        (None, stock_after(4, 7, 0, 0), two),
     ]
 }
 
-// The stocks that have orders, after the day.
-const FIRST: State = State {
-    steps: 4,
-    top: NO_TOP,
-    message: 7,
-};
-
-const SECOND: State = State {
-    steps: 2,
-    top: Top {
-        bid_price: 200,
-        bid_shares: 20,
-        ..NO_TOP
-    },
-    message: 4,
-};
-
-// Takes all turns of the only worker of the two stocks, with each growth refused before it is had. The answer is how
-// many were refused.
+// Takes turns of a worker with memory.
 fn lead<R: Threads + Wait + Sync, A: Allocator + Copy>(
     rt: &R,
-    heap: &Refusing<Global>,
     day: &Day<A>,
     board: &Board<'_, A>,
     worker: &mut Worker<A>,
-    screen: &mut Screen,
-    alone: bool,
-) -> Result<u64, Fail>
+    turns: &[After],
+) -> Result<(), Fail>
     requires day { day.now.payloads ≡ worker.old.state.day }
     requires board { All (IsOn board.now) worker.old.places }
-    requires screen { IsOn board.now screen.old.place }
+    ensures day { IfOk result (λ _. worker.new.state.day ≡ worker.old.state.day) }
+    ensures places { IfOk result (λ _. worker.new.places ≡ worker.old.places) }
 {
-    let mut refused = 0u64;
-    for wanted in pieces() {
-        let (found, growths) = turn_at_last(rt, heap, day, board, worker, screen, alone)?;
-        same("a turn with memory", &found, &wanted)?;
-        refused = refused.saturating_add(growths);
+    for wanted in turns {
+        let piece = turn(rt, day, board, worker)?;
+        same("an earlier turn", &piece, &wanted.0)?;
     }
-    let (first, second, reading) = see(rt, board, worker, screen);
+    Ok(())
+}
+
+// Takes the last of these turns under a refusal, after the earlier ones. Where it is refused, all is as it was, and it is
+// taken with memory.
+fn try_turn<R: Threads + Wait + Sync>(
+    rt: &R,
+    heap: &Refusing<Global>,
+    turns: &[After],
+    refusal: Refusal,
+) -> Result<Tried, Fail> {
+    let Some((wanted, earlier)) = turns.split_last() else {
+        return Err(Fail::new("no turn"));
+    };
+    let day = two_stocks(heap)?;
+    let (mut worker, board, mut screen) = only_worker(rt, &heap, &day)?;
+    lead(rt, &day, &board, &mut worker, earlier)?;
+    let before = see(rt, &board, &worker, &mut screen);
+    heap.restart(refusal);
+    let mut answer = turn(rt, &day, &board, &mut worker);
+    let tried = heap.tried(answer.is_err());
+    if tried.refused {
+        let after = see(rt, &board, &worker, &mut screen);
+        same("a refused turn", &after, &before)?;
+        answer = turn(rt, &day, &board, &mut worker);
+    }
+    let (first, second, reading) = see(rt, &board, &worker, &mut screen);
+    let (piece, one, two) = *wanted;
+    same("a turn", &answer, &Ok(piece))?;
     same(
-        "after the day",
+        "the stocks and the screen",
         &(first, second, words_of(reading)),
-        &(Some(FIRST), Some(SECOND), [7, 0, 0, 0]),
+        &(Some(one), Some(two), one.top.to_words(one.message)),
     )?;
-    Ok(refused)
+    Ok(tried)
 }
 
 #[test]
 fn a_turn_without_memory_is_tried_again(rt: HostRuntime) -> Result<(), Fail> {
     let heap = Refusing::new(rt.alloc(), Refusal::Never);
-    let alloc = &heap;
-    let day = two_stocks(alloc)?;
-    for alone in [true, false] {
-        heap.restart(Refusal::Never);
-        let (mut worker, board, mut screen) = only_worker(&rt, &alloc, &day)?;
-        let refused = lead(&rt, &heap, &day, &board, &mut worker, &mut screen, alone)?;
-        same("some growths", &(alone, refused > 1), &(alone, true))?;
+    let turns = turns_of_two_stocks();
+    let mut growths = 0u64;
+    for last in 1..=turns.len() {
+        let some = turns.get(..last).unwrap_or(&[]);
+        let more = refuse_any(|refusal: Refusal| -> Result<Tried, Fail> {
+            try_turn(&rt, &heap, some, refusal)
+        })?;
+        growths = growths.saturating_add(more);
     }
-    Ok(())
+    same("some growths", &(growths > 1), &true)
 }

@@ -1,13 +1,16 @@
-//! An allocator for tests, which refuses chosen growths.
+//! An allocator for tests, which refuses chosen growths, and a driver that refuses each growth of a call.
 //!
-//! A test that runs its code over a [`Refusing`] runs out of memory at each growth in turn.
+//! A test that runs its code over a [`Refusing`] by [`refuse_each`] runs out of memory at each growth in turn.
 #![tactic(auto)]
 
 ghost use Rattle.std.specs.Prelude.{◌≡◌};
 ghost use Rattle.refusing.specs.Refused.{RefusesBetween, inner_of};
 
+mod trying;
+
 use std::alloc::{AllocError, Allocator};
 use std::sync::atomic::{AtomicU64, Ordering};
+pub use trying::{Tried, refuse_any, refuse_each};
 
 /// Which growths are refused. Growths are counted from 1.
 #[derive(Debug, Clone, Copy, PartialEq, Eq)]
@@ -85,6 +88,14 @@ impl<B: Allocator> Refusing<B> {
         self.growths.first.store(first, Ordering::SeqCst);
         self.growths.last.store(last, Ordering::SeqCst);
         self.growths.asked.store(0, Ordering::SeqCst);
+    }
+
+    /// What became of a call, made since `new` or the last `restart`, that was refused memory or wasn't. From now on none
+    /// is refused, and growths are counted from 0 again.
+    pub fn tried(&self, refused: bool) -> Tried {
+        let growths = self.asked();
+        self.restart(Refusal::Never);
+        Tried { growths, refused }
     }
 }
 

@@ -1,10 +1,8 @@
-use Rattle.std.proofs.Common.{◌≡◌, All}
-use Rattle.top_cell.specs.Boards.{IsOn}
+use Rattle.std.proofs.Common.{◌≡◌}
 use Rattle.conformance_workers.proofs.turns.lead.Given as goal
 
 abbrev pub invariant-loop-wanted : goal.invariant-loop-wanted
 invariant-loop-wanted g l = record {
-  day : l.day.payloads ≡ l.worker.state.day;
-  worker : All (IsOn l.board) l.worker.places;
-  screen : IsOn l.board l.screen.place;
+  day : l.worker.state.day ≡ l.initial.worker.state.day;
+  places : l.worker.places ≡ l.initial.worker.places;
 }
