@@ -1,13 +1,13 @@
 //! A debugger whose memory is refused.
-use crate::calls::{Answer, Call};
+use crate::calls::{Answer, Call, follow};
 use crate::days::{BIDS, time_break, tour};
 use binaryfile::Day;
 use debugger::{Break, DebugFault, Debugger};
 use itch_table::Outcome;
-use refusing::{Refusal, Refusing};
-use std::alloc::Allocator;
+use refusing::{Refusal, Refusing, Tried, refuse_each};
+use std::alloc::{Allocator, Global};
 use std::test::Fail;
-use support::same;
+use support::{same, same_bytes};
 
 // What a debugger says of itself: its position, the outcome and the event there, and its breakpoints.
 #[derive(Debug, Clone, Copy, PartialEq, Eq)]
@@ -55,53 +55,26 @@ fn debugger_at_3<A: Allocator + Copy>(alloc: A, day: &Day<A>) -> Result<Debugger
     Ok(debugger)
 }
 
-// Makes a call with these growths refused, and answers whether it was. It then leaves the debugger as it was, and
-// does with memory what it would have done; a call that does without those growths does so at once.
-fn refuse<'h, A: Allocator + Copy>(
-    heap: &'h Refusing<A>,
-    day: &Day<&'h Refusing<A>>,
-    call: &Call,
-    refusal: Refusal,
-    wanted: &Done,
-) -> Result<bool, Fail> {
-    heap.restart(Refusal::Never);
-    let mut debugger = debugger_at_3(heap, day)?;
-    let before = seen_of(&debugger);
+// Makes a call under a refusal. Where it is refused, it leaves the debugger as it was, and is made with memory. In the end
+// the answer and the debugger are those of a call that was never refused.
+fn try_call(heap: &Refusing<Global>, call: Call, refusal: Refusal) -> Result<Tried, Fail> {
+    let day = tour(heap)?;
+    let mut debugger = debugger_at_3(heap, &day)?;
+    let mut twin = debugger_at_3(heap, &day)?;
     heap.restart(refusal);
-    let mut done = done_by(heap, &mut debugger, call);
-    let refused = done.answer == Err(DebugFault::Memory);
-    if refused {
-        same("after a refusal", &done.seen, &before)?;
-        heap.restart(Refusal::Never);
-        done = done_by(heap, &mut debugger, call);
+    let mut done = done_by(heap, &mut debugger, &call);
+    let tried = heap.tried(done.answer == Err(DebugFault::Memory));
+    if tried.refused {
+        same("after a refusal", &done.seen, &seen_of(&twin))?;
+        done = done_by(heap, &mut debugger, &call);
     }
-    same("a call", &done, wanted)?;
-    Ok(refused)
-}
-
-// Makes a call with each of its growths refused, alone and with all after it.
-fn refuse_each<'h, A: Allocator + Copy>(
-    heap: &'h Refusing<A>,
-    day: &Day<&'h Refusing<A>>,
-    call: &Call,
-) -> Result<(), Fail> {
-    let mut debugger = debugger_at_3(heap, day)?;
-    heap.restart(Refusal::Never);
-    let wanted = done_by(heap, &mut debugger, call);
-    let growths = heap.asked();
-    same("some growths", &(growths > 0 && growths <= 60), &true)?;
-    for growth in 1..=growths {
-        refuse(heap, day, call, Refusal::Only(growth), &wanted)?;
-        let refused = refuse(heap, day, call, Refusal::From(growth), &wanted)?;
-        same("refused", &(growth, refused), &(growth, true))?;
-    }
-    Ok(())
+    same("a call", &done, &done_by(heap, &mut twin, &call))?;
+    Ok(tried)
 }
 
 #[test]
 fn a_refused_call_leaves_the_debugger(rt: HostRuntime) -> Result<(), Fail> {
     let heap = Refusing::new(rt.alloc(), Refusal::Never);
-    let day = tour(&heap)?;
     let late = time_break(3)?;
     for call in [
         Call::Goto(6),
@@ -112,23 +85,54 @@ fn a_refused_call_leaves_the_debugger(rt: HostRuntime) -> Result<(), Fail> {
         Call::AddBreak(late),
         Call::Stock(1),
     ] {
-        refuse_each(&heap, &day, &call)?;
+        let growths = refuse_each(|refusal: Refusal| -> Result<Tried, Fail> {
+            try_call(&heap, call, refusal)
+        })?;
+        same("some growths", &(call, growths <= 60), &(call, true))?;
     }
     Ok(())
+}
+
+// Makes a debugger of the tour under a refusal. Where it is refused, the day is as it was, and one is made with memory.
+fn try_new(heap: &Refusing<Global>, refusal: Refusal) -> Result<Tried, Fail> {
+    let day = tour(heap)?;
+    heap.restart(refusal);
+    let mut position = Debugger::new(heap, &day, 2).map(|debugger| debugger.position());
+    let tried = heap.tried(position.is_err());
+    if tried.refused {
+        same_bytes("the day", day.bytes(), tour(heap)?.bytes())?;
+        position = Debugger::new(heap, &day, 2).map(|debugger| debugger.position());
+    }
+    same("the position", &position.ok(), &Some(0))?;
+    Ok(tried)
 }
 
 #[test]
 fn a_debugger_without_memory_is_none(rt: HostRuntime) -> Result<(), Fail> {
     let heap = Refusing::new(rt.alloc(), Refusal::Never);
-    let day = tour(&heap)?;
-    heap.restart(Refusal::Never);
-    let position = Debugger::new(&heap, &day, 2).map(|debugger| debugger.position());
-    same("with memory", &position.ok(), &Some(0))?;
-    let growths = heap.asked();
-    for growth in 1..=growths {
-        heap.restart(Refusal::From(growth));
-        let refused = Debugger::new(&heap, &day, 2).is_err();
-        same("without memory", &(growth, refused), &(growth, true))?;
-    }
+    refuse_each(|refusal: Refusal| -> Result<Tried, Fail> { try_new(&heap, refusal) })?;
     Ok(())
+}
+
+// A move past an end is refused before any growth, and breakpoints are looked at and removed without any.
+#[test]
+fn some_calls_take_no_memory(rt: HostRuntime) -> Result<(), Fail> {
+    let heap = Refusing::new(rt.alloc(), Refusal::Never);
+    let day = tour(&heap)?;
+    let mut debugger = debugger_at_3(&heap, &day)?;
+    let before = seen_of(&debugger);
+    heap.restart(Refusal::From(1));
+    same("with no memory", &seen_of(&debugger), &before)?;
+    let script = [
+        (Call::Goto(8), Err(DebugFault::PastEnd)),
+        (Call::RemoveBreak(1), Ok(Answer::Removed(None))),
+        (Call::RemoveBreak(0), Ok(Answer::Removed(Some(BIDS)))),
+    ];
+    follow(&heap, &mut debugger, &script)?;
+    let after = (debugger.position(), debugger.break_len(), heap.asked());
+    same(
+        "the position, the breakpoints and the growths",
+        &after,
+        &(3, 0, 0),
+    )
 }

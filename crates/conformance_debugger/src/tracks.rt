@@ -1,11 +1,11 @@
 //! Tracks by themselves: every place, and memory that is refused.
-ghost use Rattle.std.specs.Prelude.{◌≡◌, ◌<◌};
+ghost use Rattle.std.specs.Prelude.{◌≡◌, ◌<◌, IfOk};
 
 use crate::days::tour;
 use binaryfile::Day;
 use checkpoints::{StockIndex, Track};
-use refusing::{Refusal, Refusing};
-use std::alloc::{AllocError, Allocator};
+use refusing::{Refusal, Refusing, Tried, refuse_any, refuse_each};
+use std::alloc::{AllocError, Allocator, Global};
 use std::test::Fail;
 use support::{same, same_list};
 
@@ -27,52 +27,105 @@ fn shares_along<A: Allocator + Copy>(
     Ok(shares)
 }
 
-// The same by a track that is made by the day, and by one that is made by an index.
-fn both_along<A: Allocator + Copy>(
+// A way to make a track.
+#[derive(Debug, Clone, Copy, PartialEq, Eq)]
+enum Way {
+    // By the day.
+    Day,
+    // By an index of the day.
+    Index,
+}
+
+// The track of the only stock of a day.
+fn track_by<A: Allocator + Copy>(
     alloc: A,
     day: &Day<A>,
+    way: Way,
     every: u32,
-) -> Result<(Vec<u64, A>, Vec<u64, A>), AllocError>
+) -> Result<Track<'_, A>, AllocError>
     requires { 0 < every }
+    ensures { IfOk result (λ track. track.day ≡ day.now.payloads) }
 {
-    let made = Track::make(alloc, day, 1, every)?;
-    let index = StockIndex::new(alloc, day)?;
-    let found = Track::from_index(alloc, &index, 1, every)?;
-    Ok((
-        shares_along(alloc, day, &made)?,
-        shares_along(alloc, day, &found)?,
-    ))
+    match way {
+        Way::Day => Track::make(alloc, day, 1, every),
+        Way::Index => {
+            let index = StockIndex::new(alloc, day)?;
+            Track::from_index(alloc, &index, 1, every)
+        }
+    }
+}
+
+// A track of the tour shows every place.
+fn same_places<A: Allocator + Copy>(
+    alloc: A,
+    day: &Day<A>,
+    track: &Track<'_, A>,
+) -> Result<(), Fail>
+    requires { track.now.day ≡ day.now.payloads }
+{
+    let shares = shares_along(alloc, day, track)?;
+    same_list("the places of a track", &shares, &BID_SHARES)
 }
 
 #[test]
 fn a_track_shows_every_place(rt: HostRuntime) -> Result<(), Fail> {
     let alloc = rt.alloc();
     let day = tour(alloc)?;
-    for every in [1, 2, 1_000] {
-        let (made, found) = both_along(alloc, &day, every)?;
-        same_list("by the day", &made, &BID_SHARES)?;
-        same_list("by an index", &found, &BID_SHARES)?;
+    for way in [Way::Day, Way::Index] {
+        for every in [1, 2, 1_000] {
+            let track = track_by(alloc, &day, way, every)?;
+            same_places(alloc, &day, &track)?;
+        }
     }
     Ok(())
+}
+
+// Makes a track of the tour under a refusal, and with memory where it is refused.
+fn try_track(heap: &Refusing<Global>, way: Way, refusal: Refusal) -> Result<Tried, Fail> {
+    let day = tour(heap)?;
+    heap.restart(refusal);
+    let made = track_by(heap, &day, way, 2);
+    let tried = heap.tried(made.is_err());
+    match made {
+        Ok(track) => same_places(heap, &day, &track)?,
+        Err(AllocError) => same_places(heap, &day, &track_by(heap, &day, way, 2)?)?,
+    }
+    Ok(tried)
+}
+
+// Asks a track for a place under a refusal, which leaves the track as it is.
+fn try_place(heap: &Refusing<Global>, n: u32, refusal: Refusal) -> Result<Tried, Fail> {
+    let day = tour(heap)?;
+    let track = track_by(heap, &day, Way::Day, 2)?;
+    if n > day.len() {
+        return Err(Fail::new("no such place"));
+    }
+    heap.restart(refusal);
+    let found = match track.at(heap, n) {
+        Ok(stock) => Some(stock.top().bid_shares),
+        Err(AllocError) => None,
+    };
+    let tried = heap.tried(found.is_none());
+    if !tried.refused {
+        let wanted = BID_SHARES.get(n as usize).copied();
+        same("a place", &(n, found), &(n, wanted))?;
+    }
+    same_places(heap, &day, &track)?;
+    Ok(tried)
 }
 
 #[test]
 fn a_track_without_memory_is_none(rt: HostRuntime) -> Result<(), Fail> {
     let heap = Refusing::new(rt.alloc(), Refusal::Never);
-    let day = tour(&heap)?;
-    heap.restart(Refusal::Never);
-    let (made, _) = both_along(&heap, &day, 2)?;
-    same_list("with memory", &made, &BID_SHARES)?;
-    let growths = heap.asked();
-    for growth in 1..=growths {
-        heap.restart(Refusal::From(growth));
-        let refused = both_along(&heap, &day, 2).is_err();
-        same("without memory", &(growth, refused), &(growth, true))?;
-        heap.restart(Refusal::Only(growth));
-        if let Ok((made, found)) = both_along(&heap, &day, 2) {
-            same_list("a growth alone", &made, &BID_SHARES)?;
-            same_list("a growth alone", &found, &BID_SHARES)?;
-        }
+    for way in [Way::Day, Way::Index] {
+        refuse_each(|refusal: Refusal| -> Result<Tried, Fail> { try_track(&heap, way, refusal) })?;
     }
-    Ok(())
+    let mut growths = 0u64;
+    for n in 0..=7 {
+        let more = refuse_any(|refusal: Refusal| -> Result<Tried, Fail> {
+            try_place(&heap, n, refusal)
+        })?;
+        growths = growths.saturating_add(more);
+    }
+    same("growths of places", &(growths > 0), &true)
 }
