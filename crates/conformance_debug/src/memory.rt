@@ -2,36 +2,35 @@
 use crate::worked::{TRADED, day_in};
 use debugger::Debugger;
 use itch_debug::answer_line;
-use refusing::{Refusal, Refusing};
-use std::alloc::Allocator;
+use refusing::{Refusal, Refusing, Tried, refuse_each};
+use std::alloc::Global;
 use std::test::Fail;
-use support::{same, same_bytes};
+use support::same_bytes;
 
-// Hands a session at position 5, which has a breakpoint, a line while one growth is refused, and answers whether it
-// was. An answer is then the one that is wanted, and after a refusal the session goes on to show the day.
-fn try_growth<A: Allocator>(
-    heap: &Refusing<A>,
+// Hands a session at position 5, which has a breakpoint, a line under a refusal. An answer is then the one that is wanted,
+// and after a refusal the session goes on to show the day.
+fn try_line(
+    heap: &Refusing<Global>,
     line: &str,
     wanted: &str,
-    growth: u64,
-) -> Result<bool, Fail> {
-    heap.restart(Refusal::Never);
+    refusal: Refusal,
+) -> Result<Tried, Fail> {
     let day = day_in(heap, TRADED)?;
     let mut debugger = Debugger::new(heap, &day, 1)?;
     let mut setting = Vec::new(heap);
     answer_line(heap, &mut setting, &mut debugger, b"break time 3")?;
     answer_line(heap, &mut setting, &mut debugger, b"goto 5")?;
-    heap.restart(Refusal::Only(growth));
+    heap.restart(refusal);
     let mut text = Vec::new(heap);
     let refused = answer_line(heap, &mut text, &mut debugger, line.as_bytes()).is_err();
-    heap.restart(Refusal::Never);
-    if !refused {
+    let tried = heap.tried(refused);
+    if !tried.refused {
         same_bytes(line, &text, wanted.as_bytes())?;
     }
     let mut later = Vec::new(heap);
     answer_line(heap, &mut later, &mut debugger, b"goto 5")?;
     same_bytes("a later move", &later, b"at 5 applied\n")?;
-    Ok(refused)
+    Ok(tried)
 }
 
 #[test]
@@ -51,11 +50,9 @@ fn a_line_without_memory_is_an_error_and_the_next_one_is_answered(
         ("event", "event none\n"),
         ("show 2", "no stock 2\n"),
     ] {
-        let mut refused = false;
-        for growth in 1..=40 {
-            refused |= try_growth(&heap, line, wanted, growth)?;
-        }
-        same(line, &refused, &true)?;
+        refuse_each(|refusal: Refusal| -> Result<Tried, Fail> {
+            try_line(&heap, line, wanted, refusal)
+        })?;
     }
     Ok(())
 }

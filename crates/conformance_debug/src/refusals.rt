@@ -3,8 +3,8 @@ use crate::worked::{TRADED, day_in};
 use binaryfile::{Day, Feed, Sink};
 use itch_debug::debug_run;
 use itch_engine::ProgFault;
-use refusing::{Refusal, Refusing};
-use std::alloc::Allocator;
+use refusing::{Refusal, Refusing, Tried, refuse_each};
+use std::alloc::{Allocator, Global};
 use std::test::Fail;
 use support::{Failure, Narrow, Pieces, same, same_bytes};
 
@@ -57,24 +57,40 @@ fn run<'h, A: Allocator + Copy>(
     Ok((ended, answered(writer.taken())?))
 }
 
-// Each growth is refused with all after it, which ends the session, and alone, which ends it at the same answer or is
-// done without. No growth ends it at an earlier answer than the growth before it does.
+// A session under a refusal. A growth that is refused with all after it ends the session, no earlier than the growth before
+// it does; one that is refused alone ends it at the same answer, or is done without.
+fn try_session<'h>(
+    alloc: Global,
+    heap: &'h Refusing<Global>,
+    day: &Day<&'h Refusing<Global>>,
+    refusal: Refusal,
+) -> Result<Tried, Fail> {
+    let whole = (Ok(()), ANSWERS.len());
+    let ended = run(alloc, heap, day, refusal)?;
+    let tried = heap.tried(ended.0.is_err());
+    match refusal {
+        Refusal::Never => same("with memory", &ended, &whole)?,
+        Refusal::Only(growth) => {
+            let all = run(alloc, heap, day, Refusal::From(growth))?;
+            same("a growth alone", &(ended == all || ended == whole), &true)?;
+        }
+        Refusal::From(growth) => {
+            same("without memory", &ended.0, &Err(ProgFault::Memory))?;
+            let before = run(alloc, heap, day, Refusal::From(growth.saturating_sub(1)))?;
+            same("no earlier answer", &(before.1 <= ended.1), &true)?;
+        }
+    }
+    Ok(tried)
+}
+
 #[test]
 fn a_session_without_memory_has_sent_the_answers_before(rt: HostRuntime) -> Result<(), Fail> {
     let alloc = rt.alloc();
     let heap = Refusing::new(alloc, Refusal::Never);
     let day = day_in(&heap, TRADED)?;
-    let whole = run(alloc, &heap, &day, Refusal::Never)?;
-    same("with memory", &whole, &(Ok(()), ANSWERS.len()))?;
-    let growths = heap.asked();
-    let mut before = 0;
-    for growth in 1..=growths {
-        let ended = run(alloc, &heap, &day, Refusal::From(growth))?;
-        same("without memory", &ended.0, &Err(ProgFault::Memory))?;
-        same("no earlier answer", &(before <= ended.1), &true)?;
-        let alone = run(alloc, &heap, &day, Refusal::Only(growth))?;
-        same("a growth alone", &(alone == ended || alone == whole), &true)?;
-        before = ended.1;
-    }
-    same("the last answer", &before, &(ANSWERS.len() - 1))
+    let growths = refuse_each(|refusal: Refusal| -> Result<Tried, Fail> {
+        try_session(alloc, &heap, &day, refusal)
+    })?;
+    let last = run(alloc, &heap, &day, Refusal::From(growths))?;
+    same("the last answer", &last.1, &(ANSWERS.len() - 1))
 }

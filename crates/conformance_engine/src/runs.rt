@@ -2,7 +2,7 @@
 use crate::engines::{ENGINES, Engine};
 use binaryfile::{Feed, Sink};
 use itch_engine::{ProgFault, replay_run};
-use refusing::{Refusal, Refusing};
+use refusing::{Refusal, Refusing, Tried, refuse_each};
 use std::io::ErrorKind;
 use std::sync::Wait;
 use std::sync::atomic::{AtomicU64, Ordering};
@@ -149,55 +149,38 @@ fn engines_have_sent_a_prefix_after_a_failed_write(rt: HostRuntime) -> Result<()
     Ok(())
 }
 
-// How many growths a run on the worked file has.
-fn growths_of<T: AllocGlobal + Threads + Wait + Sync>(rt: &T, engine: Engine) -> Result<u64, Fail> {
-    let heap = Refusing::new(rt.alloc(), Refusal::Never);
-    let mut output = Vec::new(rt.alloc());
-    let answer = engine.run(rt, &heap, engine.input(), &mut output);
-    same("with memory", &(engine, answer), &(engine, engine.answer()))?;
-    Ok(heap.asked())
-}
-
-// A run some of whose growths are refused. Where it isn't out of memory, a list that asked for more than it needs has
-// made do with less, and then the output is whole.
+// A run under a refusal. Where it isn't out of memory, a list that asked for more than it needs has made do with less, and
+// then the output is whole.
 fn try_refusal<T: AllocGlobal + Threads + Wait + Sync>(
     rt: &T,
     engine: Engine,
     refusal: Refusal,
-    may_end_well: bool,
-) -> Result<(), Fail> {
+) -> Result<Tried, Fail> {
     let heap = Refusing::new(rt.alloc(), refusal);
     let mut output = Vec::new(rt.alloc());
     let answer = engine.run(rt, &heap, engine.input(), &mut output);
-    if may_end_well && answer.is_ok() {
-        same(
-            "one growth refused",
-            &(engine, answer),
-            &(engine, engine.answer()),
-        )?;
-        return same_bytes("with less room", &output, engine.output());
-    }
-    let found = (engine, refusal, answer, output.len());
-    same(
-        "no memory",
-        &found,
-        &(engine, refusal, Err(ProgFault::Memory), 0),
-    )
+    let tried = heap.tried(answer.is_err());
+    let (wanted, written) = if tried.refused {
+        (Err(ProgFault::Memory), b"".as_slice())
+    } else {
+        (engine.answer(), engine.output())
+    };
+    same("an answer", &(engine, refusal, answer), &(engine, refusal, wanted))?;
+    same_bytes("an output", &output, written)?;
+    Ok(tried)
 }
 
 #[test]
 fn engines_send_nothing_without_memory(rt: HostRuntime) -> Result<(), Fail> {
     for engine in ENGINES {
-        let growths = growths_of(&rt, engine)?;
+        let growths = refuse_each(|refusal: Refusal| -> Result<Tried, Fail> {
+            try_refusal(&rt, engine, refusal)
+        })?;
         same(
             "that there are growths",
             &(engine, growths > 3),
             &(engine, true),
         )?;
-        for growth in 1..=growths {
-            try_refusal(&rt, engine, Refusal::Only(growth), true)?;
-            try_refusal(&rt, engine, Refusal::From(growth), false)?;
-        }
     }
     Ok(())
 }

@@ -1,10 +1,10 @@
 //! Limits, and memory that is refused.
 use crate::THREE;
 use binaryfile::{Day, Feed, Limits, LoadFault, read_to_end};
-use refusing::{Refusal, Refusing};
-use std::alloc::Allocator;
+use refusing::{Refusal, Refusing, Tried, refuse_each};
+use std::alloc::{Allocator, Global};
 use std::test::Fail;
-use support::{AMPLE, STORED_RUN, same};
+use support::{AMPLE, STORED_RUN, same, same_bytes};
 
 // The limits of bytes and messages under which the three entries are loaded, and the fault.
 const LIMITS: [(u64, u32, Option<LoadFault>); 5] = [
@@ -83,31 +83,33 @@ fn each_limit_below_a_file_is_kept(rt: HostRuntime) -> Result<(), Fail> {
     Ok(())
 }
 
-// A load is out of memory where a growth is refused, and its feed has not failed.
-fn try_refusal<A: Allocator>(heap: &Refusing<A>, refusal: Refusal) -> Result<(), Fail> {
-    heap.restart(refusal);
+// Loads the file under a refusal. Where a growth is refused, the load is, and its feed has not failed and stays past the
+// bytes that were taken. A load of another feed has memory then.
+fn try_load(heap: &Refusing<Global>, refusal: Refusal) -> Result<Tried, Fail> {
     let mut feed = Feed::new(THREE);
-    let loaded = Day::load(heap, &mut feed, AMPLE);
-    let found = (refusal, loaded.err(), feed.failed());
-    same(
-        "a refused growth",
-        &found,
-        &(refusal, Some(LoadFault::Memory), false),
-    )
+    heap.restart(refusal);
+    let fault = Day::load(heap, &mut feed, AMPLE).err();
+    let tried = heap.tried(fault.is_some());
+    let wanted = match refusal {
+        Refusal::Never => None,
+        Refusal::Only(_) | Refusal::From(_) => Some(LoadFault::Memory),
+    };
+    let found = (refusal, fault, feed.failed());
+    same("a load", &found, &(refusal, wanted, false))?;
+    let rest = read_to_end(heap, &mut feed, 100)?;
+    same("what is left", &THREE.ends_with(&rest), &true)?;
+    let loaded = Day::load(heap, &mut Feed::new(THREE), AMPLE)?;
+    same_bytes("with memory", loaded.bytes(), THREE)?;
+    Ok(tried)
 }
 
 #[test]
 fn each_growth_of_a_load_may_be_refused(rt: HostRuntime) -> Result<(), Fail> {
     let heap = Refusing::new(rt.alloc(), Refusal::Never);
-    let loaded = Day::load(&heap, &mut Feed::new(THREE), AMPLE);
-    same("with memory", &loaded.err(), &None)?;
-    let growths = heap.asked();
-    same("that there are growths", &(growths > 1), &true)?;
-    for growth in 1..=growths {
-        try_refusal(&heap, Refusal::Only(growth))?;
-        try_refusal(&heap, Refusal::From(growth))?;
-    }
-    Ok(())
+    let growths = refuse_each(|refusal: Refusal| -> Result<Tried, Fail> {
+        try_load(&heap, refusal)
+    })?;
+    same("that there are growths", &(growths > 1), &true)
 }
 
 // The fault of a load that may grow so often, and that of a day of bytes that may not grow at all.

@@ -1,8 +1,8 @@
 //! Pieces that make a day, and pieces that don't.
 use day_core::{MergeFault, Piece, merge};
 use itch_table::{Fault, Outcome};
-use refusing::{Refusal, Refusing};
-use std::alloc::{AllocError, Allocator};
+use refusing::{Refusal, Refusing, Tried, refuse_each};
+use std::alloc::{AllocError, Allocator, Global};
 use std::test::Fail;
 use support::same;
 
@@ -116,22 +116,28 @@ fn the_first_faulty_piece_is_the_fault(rt: HostRuntime) -> Result<(), Fail> {
     Ok(())
 }
 
+// Merges two lists under a refusal. Where a growth is refused, the merge is, and one with memory makes the day.
+fn try_merge(heap: &Refusing<Global>, refusal: Refusal) -> Result<Tried, Fail> {
+    let lists = lists_of(heap, &[applied(1)], &[applied(2)])?;
+    heap.restart(refusal);
+    let answer = merge(heap, 2, lists).map(|outcomes| outcomes.len());
+    let tried = heap.tried(answer.is_err());
+    let wanted = match refusal {
+        Refusal::Never => Ok(2),
+        Refusal::Only(_) | Refusal::From(_) => Err(MergeFault::Memory),
+    };
+    same("a merge", &(refusal, answer), &(refusal, wanted))?;
+    let outcome = Some(Outcome::Applied);
+    let again = merged(heap, 2, &[applied(1)], &[applied(2)])?;
+    same("with memory", &again, &Ok((2, outcome, outcome)))?;
+    Ok(tried)
+}
+
 #[test]
 fn pieces_without_memory_make_no_day(rt: HostRuntime) -> Result<(), Fail> {
     let heap = Refusing::new(rt.alloc(), Refusal::Never);
-    let mut growths = 0u64;
-    for growth in 1..=4u64 {
-        heap.restart(Refusal::Never);
-        let lists = lists_of(&heap, &[applied(1)], &[applied(2)])?;
-        heap.restart(Refusal::Only(growth));
-        let answer = merge(&heap, 2, lists).map(|outcomes| outcomes.len());
-        growths = heap.asked();
-        let wanted = if growth <= 2 {
-            Err(MergeFault::Memory)
-        } else {
-            Ok(2)
-        };
-        same("a refused growth", &(growth, answer), &(growth, wanted))?;
-    }
+    let growths = refuse_each(|refusal: Refusal| -> Result<Tried, Fail> {
+        try_merge(&heap, refusal)
+    })?;
     same("all growths", &growths, &2)
 }

@@ -3,11 +3,11 @@ use crate::days::{crossed_book, two_stocks};
 use binaryfile::Day;
 use day_core::{Event, Piece, Seen, SplitFault, Turns, play};
 use itch_table::Outcome;
-use refusing::{Refusal, Refusing};
-use std::alloc::Allocator;
+use refusing::{Refusal, Refusing, Tried, refuse_any, refuse_each};
+use std::alloc::{Allocator, Global};
 use std::test::Fail;
 use std::thread::Threads;
-use support::{same, same_list};
+use support::{same, same_bytes, same_list};
 
 // A look of a screen at a stock.
 fn look(screen: u32, locate: u16) -> Event {
@@ -98,48 +98,73 @@ fn workers_come_in_any_order(rt: HostRuntime) -> Result<(), Fail> {
     )
 }
 
-// What becomes of a schedule, without its list.
-fn fault_of<R: Threads + Sync, A: Allocator + Copy + Send + Sync>(
-    rt: &R,
-    alloc: A,
-    day: &Day<A>,
-    workers: u32,
-) -> Option<SplitFault> {
-    let events = [Event::Turn(0), look(0, 1), Event::Turn(0), look(0, 1)];
-    play(rt, alloc, day, workers, &events).err()
+// The crossed book, looked at after each message of worker 1, who has them all.
+fn schedule() -> [Event; 6] {
+    [
+        Event::Turn(1),
+        look(0, 1),
+        Event::Turn(1),
+        look(0, 1),
+        Event::Turn(1),
+        look(0, 1),
+    ]
 }
 
+// The words of stock 1 after each message.
+const WORDS: [[u64; 4]; 3] = [
+    [1, 0, 0, 0],
+    [2, 0x000f_6950_0000_0000, 100, 0],
+    [3, 0x000f_6950_000f_4240, 100, 50],
+];
+
+// The number is looked at before any growth.
 #[test]
 fn a_schedule_has_1_to_64_workers(rt: HostRuntime) -> Result<(), Fail> {
-    let day = crossed_book(rt.alloc())?;
-    for (workers, wanted) in [
-        (0, Some(SplitFault::Workers)),
-        (1, None),
-        (64, None),
-        (65, Some(SplitFault::Workers)),
+    let heap = Refusing::new(rt.alloc(), Refusal::Never);
+    let day = crossed_book(&heap)?;
+    for (workers, refusal, wanted) in [
+        (0, Refusal::From(1), Some(SplitFault::Workers)),
+        (1, Refusal::Never, None),
+        (64, Refusal::Never, None),
+        (65, Refusal::From(1), Some(SplitFault::Workers)),
     ] {
-        let fault = fault_of(&rt, rt.alloc(), &day, workers);
+        heap.restart(refusal);
+        let fault = play(&rt, &heap, &day, workers, &schedule()).err();
         same("a fault", &(workers, fault), &(workers, wanted))?;
     }
     Ok(())
 }
 
+// Runs the schedule under a refusal, which leaves the day as it is, and with memory where it is refused.
+fn try_play<R: Threads + Sync>(
+    rt: &R,
+    heap: &Refusing<Global>,
+    refusal: Refusal,
+) -> Result<Tried, Fail> {
+    let day = crossed_book(heap)?;
+    heap.restart(refusal);
+    let played = play(rt, heap, &day, 2, &schedule());
+    let tried = heap.tried(played.is_err());
+    same_bytes("the day", day.bytes(), crossed_book(heap)?.bytes())?;
+    let list = match played {
+        Ok(list) => list,
+        Err(fault) => {
+            same("a refused growth", &(refusal, fault), &(refusal, SplitFault::Memory))?;
+            play(rt, heap, &day, 2, &schedule())?
+        }
+    };
+    let [one, two, three] = WORDS;
+    let wanted = [seen(0, 1, one), seen(0, 1, two), seen(0, 1, three)];
+    same_list("what is seen", &list, &wanted)?;
+    Ok(tried)
+}
+
 #[test]
 fn a_schedule_without_memory_shows_nothing(rt: HostRuntime) -> Result<(), Fail> {
     let heap = Refusing::new(rt.alloc(), Refusal::Never);
-    let day = crossed_book(&heap)?;
-    heap.restart(Refusal::Never);
-    same("with memory", &fault_of(&rt, &heap, &day, 2), &None)?;
-    let growths = heap.asked();
-    for growth in 1..=growths {
-        heap.restart(Refusal::From(growth));
-        let fault = fault_of(&rt, &heap, &day, 2);
-        same(
-            "without memory",
-            &(growth, fault),
-            &(growth, Some(SplitFault::Memory)),
-        )?;
-    }
+    let growths = refuse_each(|refusal: Refusal| -> Result<Tried, Fail> {
+        try_play(&rt, &heap, refusal)
+    })?;
     same("some growths", &(growths > 10 && growths <= 100), &true)
 }
 
@@ -148,24 +173,71 @@ fn shown<'d, A: Allocator + Copy>(turns: &Turns<'d, A>) -> ([u64; 4], Option<u32
     (turns.look(1), turns.stock(1).map(|stock| stock.steps()))
 }
 
-// The directory message needs no memory, and the first order does.
+// Makes the workers of the crossed book under a refusal, which leaves the day as it is, and with memory where it is refused.
+fn try_new<R: Threads + Sync>(
+    rt: &R,
+    heap: &Refusing<Global>,
+    refusal: Refusal,
+) -> Result<Tried, Fail> {
+    let day = crossed_book(heap)?;
+    heap.restart(refusal);
+    let made = Turns::new(rt, heap, &day, 2);
+    let tried = heap.tried(made.is_err());
+    same_bytes("the day", day.bytes(), crossed_book(heap)?.bytes())?;
+    let before = match made {
+        Ok(turns) => shown(&turns),
+        Err(fault) => {
+            same("a refused growth", &(refusal, fault), &(refusal, SplitFault::Memory))?;
+            shown(&Turns::new(rt, heap, &day, 2)?)
+        }
+    };
+    same("before the first turn", &before, &([0; 4], Some(0)))?;
+    Ok(tried)
+}
+
+// Takes the turn after so many under a refusal. Where it is refused, looks show what they showed, and it is taken with
+// memory.
+fn try_turn<R: Threads + Sync>(
+    rt: &R,
+    heap: &Refusing<Global>,
+    earlier: u32,
+    words: [u64; 4],
+    refusal: Refusal,
+) -> Result<Tried, Fail> {
+    let day = crossed_book(heap)?;
+    let mut turns = Turns::new(rt, heap, &day, 1)?;
+    for _ in 0..earlier {
+        turns.turn(0)?;
+    }
+    let before = shown(&turns);
+    heap.restart(refusal);
+    let mut answer = turns.turn(0);
+    let tried = heap.tried(answer.is_err());
+    if tried.refused {
+        same("after a refused turn", &shown(&turns), &before)?;
+        answer = turns.turn(0);
+    }
+    let message = earlier.saturating_add(1);
+    let outcome = Outcome::Applied;
+    same("a turn", &answer, &Ok(Some(Piece { message, outcome })))?;
+    same("after the turn", &shown(&turns), &(words, Some(message)))?;
+    Ok(tried)
+}
+
+// The directory message needs no memory, and the orders do.
 #[test]
 fn a_refused_turn_leaves_what_looks_show(rt: HostRuntime) -> Result<(), Fail> {
     let heap = Refusing::new(rt.alloc(), Refusal::Never);
-    let day = crossed_book(&heap)?;
-    let mut turns = Turns::new(&rt, &heap, &day, 1)?;
-    let piece = |message| {
-        Some(Piece {
-            message,
-            outcome: Outcome::Applied,
-        })
-    };
-    heap.restart(Refusal::From(1));
-    same("a directory message", &turns.turn(0), &Ok(piece(1)))?;
-    same("an order without memory", &turns.turn(0).is_err(), &true)?;
-    same("after it", &shown(&turns), &([1, 0, 0, 0], Some(1)))?;
-    heap.restart(Refusal::Never);
-    same("an order with memory", &turns.turn(0), &Ok(piece(2)))?;
-    let words = [2, 0x000f_6950_0000_0000, 100, 0];
-    same("after the order", &shown(&turns), &(words, Some(2)))
+    refuse_each(|refusal: Refusal| -> Result<Tried, Fail> { try_new(&rt, &heap, refusal) })?;
+    for (earlier, words, needs) in [
+        (0, WORDS[0], false),
+        (1, WORDS[1], true),
+        (2, WORDS[2], true),
+    ] {
+        let growths = refuse_any(|refusal: Refusal| -> Result<Tried, Fail> {
+            try_turn(&rt, &heap, earlier, words, refusal)
+        })?;
+        same("growths", &(earlier, growths > 0), &(earlier, needs))?;
+    }
+    Ok(())
 }

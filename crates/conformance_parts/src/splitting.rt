@@ -3,11 +3,11 @@ use crate::days::{add_entry, day_of, parts_of, two_stocks};
 use binaryfile::Day;
 use day_core::{Piece, SplitFault, split};
 use itch_table::Outcome;
-use refusing::{Refusal, Refusing};
-use std::alloc::Allocator;
+use refusing::{Refusal, Refusing, Tried, refuse_each};
+use std::alloc::{Allocator, Global};
 use std::test::Fail;
 use std::thread::Threads;
-use support::{AAPL, MSFT, same, same_list, system};
+use support::{AAPL, MSFT, same, same_bytes, same_list, system};
 
 // An entry of an unknown type, of one byte.
 const UNKNOWN: &[u8] = b"\x00\x01O";
@@ -54,17 +54,20 @@ fn a_system_event_is_of_no_stock(rt: HostRuntime) -> Result<(), Fail> {
     same("the event", &parts.event(), &Some(b'O'))
 }
 
+// The number is looked at before any growth.
 #[test]
 fn a_day_is_split_for_1_to_64_workers(rt: HostRuntime) -> Result<(), Fail> {
-    let day = two_stocks(rt.alloc())?;
-    for (workers, wanted) in [
-        (0, Err(SplitFault::Workers)),
-        (1, Ok(1)),
-        (64, Ok(64)),
-        (65, Err(SplitFault::Workers)),
-        (u32::MAX, Err(SplitFault::Workers)),
+    let heap = Refusing::new(rt.alloc(), Refusal::Never);
+    let day = two_stocks(&heap)?;
+    for (workers, refusal, wanted) in [
+        (0, Refusal::From(1), Err(SplitFault::Workers)),
+        (1, Refusal::Never, Ok(1)),
+        (64, Refusal::Never, Ok(64)),
+        (65, Refusal::From(1), Err(SplitFault::Workers)),
+        (u32::MAX, Refusal::From(1), Err(SplitFault::Workers)),
     ] {
-        let found = split(&rt, rt.alloc(), &day, workers).map(|parts| parts.workers());
+        heap.restart(refusal);
+        let found = split(&rt, &heap, &day, workers).map(|parts| parts.workers());
         same("a number of workers", &(workers, found), &(workers, wanted))?;
     }
     Ok(())
@@ -99,41 +102,50 @@ fn a_long_day_is_split_whole(rt: HostRuntime) -> Result<(), Fail> {
     )
 }
 
+// Splits a day under a refusal, which leaves the day as it is. Where it is refused, it is split with memory. It has these
+// stocks.
+fn try_split<R: Threads + Sync>(
+    rt: &R,
+    heap: &Refusing<Global>,
+    file: &[u8],
+    workers: u32,
+    locates: &[u16],
+    refusal: Refusal,
+) -> Result<Tried, Fail> {
+    let day = day_of(heap, file.to_vec(heap)?)?;
+    heap.restart(refusal);
+    let made = split(rt, heap, &day, workers);
+    let tried = heap.tried(made.is_err());
+    same_bytes("the day", day.bytes(), file)?;
+    let parts = match made {
+        Ok(parts) => parts,
+        Err(fault) => {
+            same("a refused growth", &(refusal, fault), &(refusal, SplitFault::Memory))?;
+            parts_of(rt, heap, &day, workers)?
+        }
+    };
+    same_list("the stocks", parts.locates(), locates)?;
+    Ok(tried)
+}
+
 // The counts, the locate codes, the list of lists and two lists take a growth each, and no list grows again.
 #[test]
 fn a_day_without_memory_stays_whole(rt: HostRuntime) -> Result<(), Fail> {
     let heap = Refusing::new(rt.alloc(), Refusal::Never);
-    let day = two_stocks(&heap)?;
-    for growth in 1..=6u64 {
-        heap.restart(Refusal::From(growth));
-        let found = split(&rt, &heap, &day, 2).map(|parts| parts.locates().len());
-        let wanted = if growth <= 5 {
-            Err(SplitFault::Memory)
-        } else {
-            Ok(3)
-        };
-        same("a refused growth", &(growth, found), &(growth, wanted))?;
-        same("the day", &day.len(), &7)?;
-    }
-    same("all growths", &heap.asked(), &5)
+    let day = two_stocks(rt.alloc())?;
+    let growths = refuse_each(|refusal: Refusal| -> Result<Tried, Fail> {
+        try_split(&rt, &heap, day.bytes(), 2, &[1, 2, 3], refusal)
+    })?;
+    same("all growths", &growths, &5)
 }
 
 // Each of the 16 chunks takes a growth at least.
 #[test]
 fn a_long_day_without_memory_has_no_parts(rt: HostRuntime) -> Result<(), Fail> {
     let heap = Refusing::new(rt.alloc(), Refusal::Never);
-    let day = long_day(&heap)?;
-    for growth in [1, 2, 9, 17u64] {
-        heap.restart(Refusal::From(growth));
-        let found = split(&rt, &heap, &day, 64).err();
-        same(
-            "a refused growth",
-            &(growth, found),
-            &(growth, Some(SplitFault::Memory)),
-        )?;
-        same("the day", &day.len(), &200_201)?;
-    }
-    heap.restart(Refusal::Never);
-    let parts = parts_of(&rt, &heap, &day, 64)?;
-    same_list("the stocks", parts.locates(), &[1, 2])
+    let day = long_day(rt.alloc())?;
+    let growths = refuse_each(|refusal: Refusal| -> Result<Tried, Fail> {
+        try_split(&rt, &heap, day.bytes(), 2, &[1, 2], refusal)
+    })?;
+    same("growths", &(growths >= 17), &true)
 }

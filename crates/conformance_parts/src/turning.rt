@@ -5,9 +5,10 @@ use crate::days::{parts_of, two_stocks};
 use binaryfile::Day;
 use day_core::{Parts, Piece, ReplayedDay, Runner, Turned, Turns, replay_parts};
 use itch_table::{Fault, Outcome, Top};
-use refusing::{Refusal, Refusing};
-use std::alloc::Allocator;
+use refusing::{Refusal, Refusing, Tried, refuse_each};
+use std::alloc::{AllocError, Allocator, Global};
 use std::test::Fail;
+use std::thread::Threads;
 use support::{same, same_list};
 
 // What becomes of the messages of the two stocks.
@@ -153,25 +154,30 @@ fn any_number_of_workers_makes_the_same_day(rt: HostRuntime) -> Result<(), Fail>
     Ok(())
 }
 
+// Replays the two stocks under a refusal, and with memory where that is refused.
+fn try_replay<R: Threads + Sync>(
+    rt: &R,
+    heap: &Refusing<Global>,
+    refusal: Refusal,
+) -> Result<Tried, Fail> {
+    let day = two_stocks(heap)?;
+    let parts = parts_of(rt, heap, &day, 2)?;
+    heap.restart(refusal);
+    let made = replay_parts(heap, &parts, &day);
+    let tried = heap.tried(made.is_err());
+    match made {
+        Ok(replayed) => same_day(&replayed)?,
+        Err(AllocError) => same_day(&replay_parts(heap, &parts, &day)?)?,
+    }
+    Ok(tried)
+}
+
 #[test]
 fn a_replay_without_memory_is_tried_again(rt: HostRuntime) -> Result<(), Fail> {
     let heap = Refusing::new(rt.alloc(), Refusal::Never);
-    let day = two_stocks(&heap)?;
-    let parts = parts_of(&rt, &heap, &day, 2)?;
-    heap.restart(Refusal::Never);
-    same_day(&replay_parts(&heap, &parts, &day)?)?;
-    let growths = heap.asked();
-    for growth in 1..=growths.min(100) {
-        heap.restart(Refusal::From(growth));
-        let answer = replay_parts(&heap, &parts, &day);
-        same(
-            "a refused growth",
-            &(growth, answer.is_err()),
-            &(growth, true),
-        )?;
-        heap.restart(Refusal::Never);
-        same_day(&replay_parts(&heap, &parts, &day)?)?;
-    }
+    let growths = refuse_each(|refusal: Refusal| -> Result<Tried, Fail> {
+        try_replay(&rt, &heap, refusal)
+    })?;
     same("some growths", &(growths > 10 && growths <= 100), &true)
 }
 
