@@ -31,8 +31,8 @@ fn book_before<A: Allocator + Copy>(alloc: A, number: u32) -> Result<Book<A>, Fa
     Ok(book)
 }
 
-// Makes a call under a refusal. Where it is refused, the book is as it was, and the call is made with memory. In the end
-// the book shows what one shows that was never refused.
+// Makes a call under a refusal. Where it is refused, the book is as it was, and the call is made with memory. In the
+// end the book shows what one shows that was never refused.
 fn try_call(heap: &Refusing<Global>, number: u32, refusal: Refusal) -> Result<Tried, Fail> {
     let call = numbered(number);
     let mut book = book_before(heap, number)?;

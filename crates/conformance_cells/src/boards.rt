@@ -108,8 +108,8 @@ fn count_writers<R: Threads + Wait + Sync, A: Allocator + Copy + Send + Sync>(
     Ok(writers.len())
 }
 
-// Makes the board of the two stocks under a refusal. Where it is refused, the day is as it was, and the board is made with
-// memory.
+// Makes the board of the two stocks under a refusal. Where it is refused, the day is as it was, and the board is made
+// with memory.
 fn try_board<R: Threads + Wait + Sync>(
     rt: &R,
     heap: &Refusing<Global>,

@@ -1,5 +1,5 @@
-//! A second reading of one line of a text, by docs/FORMATS.md, "Texts", which shares nothing with the assembler: whether
-//! two lines mean the same, and the bytes of a `raw` line.
+//! A second reading of one line of a text, by docs/FORMATS.md, "Texts", which shares nothing with the assembler:
+//! whether two lines mean the same, and the bytes of a `raw` line.
 use std::alloc::{AllocError, Allocator};
 use std::test::Fail;
 
@@ -116,8 +116,8 @@ fn same_word<A: Allocator + Copy>(alloc: A, one: &[u8], other: &[u8]) -> Result<
     }
 }
 
-/// Whether two lines mean the same: their first words are the same, and of the others each is the same field or the same
-/// digits. Blank lines and comments mean nothing, and so the same.
+/// Whether two lines mean the same: their first words are the same, and of the others each is the same field or the
+/// same digits. Blank lines and comments mean nothing, and so the same.
 pub fn mean_same<A: Allocator + Copy>(alloc: A, one: &[u8], other: &[u8]) -> Result<bool, Fail> {
     let words = words_of(alloc, one)?;
     let others = words_of(alloc, other)?;

@@ -86,8 +86,8 @@ fn compare_meaning<A: Allocator + Copy>(
     }
 }
 
-// A file that was made of a text with a changed byte. Its own text has the other lines as they were, and for that byte's
-// line one that means the same; and it is the file that it was exactly where the line means what it did.
+// A file that was made of a text with a changed byte. Its own text has the other lines as they were, and for that
+// byte's line one that means the same; and it is the file that it was exactly where the line means what it did.
 fn compare_changed<A: Allocator + Copy>(
     alloc: A,
     file: Vec<u8, A>,
@@ -138,7 +138,8 @@ fn take_changed<A: Allocator + Copy>(
 }
 
 /// Assembles the text of a day, which gives its bytes, and then that text with one byte changed, so often: it denotes a
-/// file that differs by what that byte's line means, or that line or a later one is faulty. Answers how many denote a file.
+/// file that differs by what that byte's line means, or that line or a later one is faulty. Answers how many denote a
+/// file.
 pub fn compare_texts<A: Allocator + Copy>(
     alloc: A,
     day: &Day<A>,

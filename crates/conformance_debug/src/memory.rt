@@ -7,8 +7,8 @@ use std::alloc::Global;
 use std::test::Fail;
 use support::same_bytes;
 
-// Hands a session at position 5, which has a breakpoint, a line under a refusal. An answer is then the one that is wanted,
-// and after a refusal the session goes on to show the day.
+// Hands a session at position 5, which has a breakpoint, a line under a refusal. An answer is then the one that is
+// wanted, and after a refusal the session goes on to show the day.
 fn try_line(
     heap: &Refusing<Global>,
     line: &str,

@@ -57,26 +57,23 @@ fn run<'h, A: Allocator + Copy>(
     Ok((ended, answered(writer.taken())?))
 }
 
-// A session under a refusal. A growth that is refused with all after it ends the session, no earlier than the growth before
-// it does; one that is refused alone ends it at the same answer, or is done without.
-fn try_session<'h>(
-    alloc: Global,
-    heap: &'h Refusing<Global>,
-    day: &Day<&'h Refusing<Global>>,
-    refusal: Refusal,
-) -> Result<Tried, Fail> {
+// A session under a refusal. A growth that is refused with all after it ends the session, no earlier than the growth
+// before it does; one that is refused alone ends it at the same answer, or is done without.
+fn try_session(alloc: Global, heap: &Refusing<Global>, refusal: Refusal) -> Result<Tried, Fail> {
+    heap.restart(Refusal::Never);
+    let day = day_in(heap, TRADED)?;
     let whole = (Ok(()), ANSWERS.len());
-    let ended = run(alloc, heap, day, refusal)?;
+    let ended = run(alloc, heap, &day, refusal)?;
     let tried = heap.tried(ended.0.is_err());
     match refusal {
         Refusal::Never => same("with memory", &ended, &whole)?,
         Refusal::Only(growth) => {
-            let all = run(alloc, heap, day, Refusal::From(growth))?;
+            let all = run(alloc, heap, &day, Refusal::From(growth))?;
             same("a growth alone", &(ended == all || ended == whole), &true)?;
         }
         Refusal::From(growth) => {
             same("without memory", &ended.0, &Err(ProgFault::Memory))?;
-            let before = run(alloc, heap, day, Refusal::From(growth.saturating_sub(1)))?;
+            let before = run(alloc, heap, &day, Refusal::From(growth.saturating_sub(1)))?;
             same("no earlier answer", &(before.1 <= ended.1), &true)?;
         }
     }
@@ -87,10 +84,11 @@ fn try_session<'h>(
 fn a_session_without_memory_has_sent_the_answers_before(rt: HostRuntime) -> Result<(), Fail> {
     let alloc = rt.alloc();
     let heap = Refusing::new(alloc, Refusal::Never);
-    let day = day_in(&heap, TRADED)?;
     let growths = refuse_each(|refusal: Refusal| -> Result<Tried, Fail> {
-        try_session(alloc, &heap, &day, refusal)
+        try_session(alloc, &heap, refusal)
     })?;
+    heap.restart(Refusal::Never);
+    let day = day_in(&heap, TRADED)?;
     let last = run(alloc, &heap, &day, Refusal::From(growths))?;
     same("the last answer", &last.1, &(ANSWERS.len() - 1))
 }

@@ -2,6 +2,7 @@
 use crate::worked::{TRADED, day_in};
 use binaryfile::{Feed, Sink};
 use itch_debug::debug_run;
+use itch_engine::ProgFault;
 use std::alloc::Allocator;
 use std::io::ErrorKind;
 use std::test::Fail;
@@ -12,21 +13,22 @@ const LINES: &str = "goto 0\nback\ngoto 5";
 
 const ANSWERS: &str = "at 0 start\n? before start\nat 5 applied\n";
 
-// Runs a session, and compares whether it came to its end, and what was written, with these.
+// Runs a session whose writer fails at a call, at none where that is 0, and compares how it ended, and what was written,
+// with these.
 fn run<A: Allocator + Copy>(
     alloc: A,
     mut reader: Pieces<'_>,
     failing: u64,
-    ends: bool,
-    wanted: &str,
+    ends: Option<ProgFault>,
+    wanted: &[u8],
 ) -> Result<(), Fail> {
     let day = day_in(alloc, TRADED)?;
     let mut writer = Narrow::failing(alloc, failing, Failure::TakesNone);
     let mut feed = Feed::new(&mut reader);
     let mut sink = Sink::new(&mut writer);
-    let ended = debug_run(alloc, &day, &mut feed, &mut sink).is_ok();
-    same("whether the session ended", &ended, &ends)?;
-    same_bytes("the answers", writer.taken(), wanted.as_bytes())
+    let fault = debug_run(alloc, &day, &mut feed, &mut sink).err();
+    same("how the session ended", &fault, &ends)?;
+    same_bytes("the answers", writer.taken(), wanted)
 }
 
 #[test]
@@ -36,8 +38,8 @@ fn lines_are_answered_however_the_reader_gives_them(rt: HostRuntime) -> Result<(
             rt.alloc(),
             Pieces::new(LINES.as_bytes(), most),
             0,
-            true,
-            ANSWERS,
+            None,
+            ANSWERS.as_bytes(),
         )?;
     }
     Ok(())
@@ -50,40 +52,52 @@ fn nothing_is_answered_after_quit(rt: HostRuntime) -> Result<(), Fail> {
             rt.alloc(),
             Pieces::new(b"goto 0\nquit\nback\n", most),
             0,
-            true,
-            "at 0 start\n",
+            None,
+            b"at 0 start\n",
         )?;
     }
     Ok(())
 }
 
-// A reader that fails after so many bytes finds the lines that they end answered.
+// What is answered before the call with a number, where each call gives one byte: the first line has 7 bytes, and the
+// second 5.
+fn answered_before(call: u64) -> &'static [u8] {
+    match call {
+        0..=7 => b"",
+        8..=12 => b"at 0 start\n",
+        _ => b"at 0 start\n? before start\n",
+    }
+}
+
+// A reader that fails at a call finds the lines answered that ended before. The last of 19 calls gives the end.
 #[test]
 fn a_line_is_answered_before_the_reader_is_asked_for_more(rt: HostRuntime) -> Result<(), Fail> {
-    for (failing, wanted) in [
-        (1, ""),
-        (7, ""),
-        (8, "at 0 start\n"),
-        (12, "at 0 start\n"),
-        (13, "at 0 start\n? before start\n"),
-        (19, "at 0 start\n? before start\n"),
-    ] {
+    for failing in 1..=19 {
         let reader = Pieces::failing(LINES.as_bytes(), 1, failing, ErrorKind::Other);
-        run(rt.alloc(), reader, 0, false, wanted)?;
+        run(
+            rt.alloc(),
+            reader,
+            0,
+            Some(ProgFault::Read),
+            answered_before(failing),
+        )?;
     }
     Ok(())
 }
 
+// A writer that takes one byte a call, and none at one call.
 #[test]
 fn a_writer_that_fails_has_taken_a_prefix_of_the_answers(rt: HostRuntime) -> Result<(), Fail> {
-    for (failing, wanted) in [
-        (1, ""),
-        (3, "at"),
-        (12, "at 0 start\n"),
-        (14, "at 0 start\n? "),
-    ] {
+    for failing in 1..=ANSWERS.len() {
         let reader = Pieces::new(LINES.as_bytes(), 2);
-        run(rt.alloc(), reader, failing, false, wanted)?;
+        let wanted = ANSWERS.as_bytes().get(..failing.saturating_sub(1));
+        run(
+            rt.alloc(),
+            reader,
+            failing as u64,
+            Some(ProgFault::Write),
+            wanted.unwrap_or(b"no prefix"),
+        )?;
     }
     Ok(())
 }

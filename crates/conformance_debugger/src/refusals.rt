@@ -55,8 +55,8 @@ fn debugger_at_3<A: Allocator + Copy>(alloc: A, day: &Day<A>) -> Result<Debugger
     Ok(debugger)
 }
 
-// Makes a call under a refusal. Where it is refused, it leaves the debugger as it was, and is made with memory. In the end
-// the answer and the debugger are those of a call that was never refused.
+// Makes a call under a refusal. Where it is refused, it leaves the debugger as it was, and is made with memory. In the
+// end the answer and the debugger are those of a call that was never refused.
 fn try_call(heap: &Refusing<Global>, call: Call, refusal: Refusal) -> Result<Tried, Fail> {
     let day = tour(heap)?;
     let mut debugger = debugger_at_3(heap, &day)?;

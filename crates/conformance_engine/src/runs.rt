@@ -149,8 +149,8 @@ fn engines_have_sent_a_prefix_after_a_failed_write(rt: HostRuntime) -> Result<()
     Ok(())
 }
 
-// A run under a refusal. Where it isn't out of memory, a list that asked for more than it needs has made do with less, and
-// then the output is whole.
+// A run under a refusal. Where it isn't out of memory, a list that asked for more than it needs has made do with less,
+// and then the output is whole.
 fn try_refusal<T: AllocGlobal + Threads + Wait + Sync>(
     rt: &T,
     engine: Engine,

@@ -83,8 +83,8 @@ fn each_limit_below_a_file_is_kept(rt: HostRuntime) -> Result<(), Fail> {
     Ok(())
 }
 
-// Loads the file under a refusal. Where a growth is refused, the load is, and its feed has not failed and stays past the
-// bytes that were taken. A load of another feed has memory then.
+// Loads the file under a refusal. Where a growth is refused, the load is, and its feed has not failed and stays past
+// the bytes that were taken. A load of another feed has memory then.
 fn try_load(heap: &Refusing<Global>, refusal: Refusal) -> Result<Tried, Fail> {
     let mut feed = Feed::new(THREE);
     heap.restart(refusal);

@@ -141,8 +141,8 @@ fn every_type_is_read_at_its_size_alone(rt: HostRuntime) -> Result<(), Fail> {
     Ok(())
 }
 
-// Writes a message after other bytes under a refusal. Where it is refused, these are as they were, and it is written with
-// memory.
+// Writes a message after other bytes under a refusal. Where it is refused, these are as they were, and it is written
+// with memory.
 fn try_write(
     heap: &Refusing<Global>,
     msg: &Msg,

@@ -51,7 +51,8 @@ impl Series {
     }
 }
 
-// A machine with order 1 before a message of a series, after the earlier ones: each replacement comes after its original.
+// A machine with order 1 before a message of a series, after the earlier ones: each replacement comes after its
+// original.
 fn machine_before<A: Allocator + Copy>(
     alloc: A,
     series: Series,
@@ -234,8 +235,8 @@ fn short_day() -> [Msg; 8] {
     ]
 }
 
-// Steps a machine through the short day under a refusal. A step that is refused leaves what is known, and is taken again
-// with memory. Answers what is known in the end, and what became of the steps.
+// Steps a machine through the short day under a refusal. A step that is refused leaves what is known, and is taken
+// again with memory. Answers what is known in the end, and what became of the steps.
 fn play(alloc: Global, heap: &Refusing<Global>, refusal: Refusal) -> Result<(Known, Tried), Fail> {
     let mut machine = Plain::new(heap);
     let mut refused = None;

@@ -173,7 +173,8 @@ fn shown<'d, A: Allocator + Copy>(turns: &Turns<'d, A>) -> ([u64; 4], Option<u32
     (turns.look(1), turns.stock(1).map(|stock| stock.steps()))
 }
 
-// Makes the workers of the crossed book under a refusal, which leaves the day as it is, and with memory where it is refused.
+// Makes the workers of the crossed book under a refusal, which leaves the day as it is, and with memory where it is
+// refused.
 fn try_new<R: Threads + Sync>(
     rt: &R,
     heap: &Refusing<Global>,

@@ -102,8 +102,8 @@ fn a_long_day_is_split_whole(rt: HostRuntime) -> Result<(), Fail> {
     )
 }
 
-// Splits a day under a refusal, which leaves the day as it is. Where it is refused, it is split with memory. It has these
-// stocks.
+// Splits a day under a refusal, which leaves the day as it is. Where it is refused, it is split with memory. It has
+// these stocks.
 fn try_split<R: Threads + Sync>(
     rt: &R,
     heap: &Refusing<Global>,

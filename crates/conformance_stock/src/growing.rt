@@ -13,8 +13,8 @@ fn one_bid() -> [Msg; 2] {
     [AAPL.directory(), AAPL.add(1, b'B', 10, 100)]
 }
 
-// A machine with order 1 before message `number` of a kind, after the earlier ones from 2 on: each replacement comes after
-// its original.
+// A machine with order 1 before message `number` of a kind, after the earlier ones from 2 on: each replacement comes
+// after its original.
 fn machine_before<A: Allocator + Copy>(
     alloc: A,
     kind: Growing,
@@ -52,8 +52,8 @@ fn step_under<'h>(
     Ok(tried)
 }
 
-// Hands a machine message `number` of a kind under a refusal. Where it is refused, the machine says what it said before,
-// and takes the message with memory. In the end it says what one says that was never refused.
+// Hands a machine message `number` of a kind under a refusal. Where it is refused, the machine says what it said
+// before, and takes the message with memory. In the end it says what one says that was never refused.
 fn try_step(
     heap: &Refusing<Global>,
     kind: Growing,

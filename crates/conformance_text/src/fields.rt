@@ -224,8 +224,8 @@ fn try_words<A: Allocator + Copy>(alloc: A, mnemonic: &str, words: &[&[u8]]) -> 
     Ok(faulty)
 }
 
-// The 22 messages have 157 fields. Of a message with n fields there are 4 n faulty lines, and n (n - 1) / 2 with two fields
-// exchanged.
+// The 22 messages have 157 fields. Of a message with n fields there are 4 n faulty lines, and n (n - 1) / 2 with two
+// fields exchanged.
 #[test]
 fn each_field_stands_once_in_its_place_within_its_limits(rt: HostRuntime) -> Result<(), Fail> {
     let mut faulty = 0u64;

@@ -1,5 +1,5 @@
-//! Texts where memory is refused. A list that is refused more room than it needs may make do with less; where all growths
-//! are refused from one on, there is no value, and what was lent is as it was.
+//! Texts where memory is refused. A list that is refused more room than it needs may make do with less; where all
+//! growths are refused from one on, there is no value, and what was lent is as it was.
 use binaryfile::Day;
 use itch_print::{disassemble, put_quoted, quote, reassembled};
 use itch_text::{AsmFault, assemble};
@@ -74,8 +74,8 @@ fn each_growth_of_a_text_may_be_refused(rt: HostRuntime) -> Result<(), Fail> {
     Ok(())
 }
 
-// Adds a quoted field to a text under a refusal. Where it is refused, the text is as it was, and the field is added with
-// memory.
+// Adds a quoted field to a text under a refusal. Where it is refused, the text is as it was, and the field is added
+// with memory.
 fn try_field(heap: &Refusing<Global>, refusal: Refusal) -> Result<Tried, Fail> {
     let mut text = b"stock ".to_vec(heap)?;
     heap.restart(refusal);

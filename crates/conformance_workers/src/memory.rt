@@ -32,8 +32,8 @@ fn readings() -> [Reading; 5] {
     ]
 }
 
-// A run by two workers under a refusal, on a new board: its fault, what became of it, and what a screen of the first stock,
-// made before the run, reads after it.
+// A run by two workers under a refusal, on a new board: its fault, what became of it, and what a screen of the first
+// stock, made before the run, reads after it.
 fn run_under<'h, R: Threads + Wait + Sync>(
     rt: &R,
     heap: &'h Refusing<Global>,

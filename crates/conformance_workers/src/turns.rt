@@ -163,8 +163,8 @@ fn a_screen_reads_what_each_turn_leaves(rt: HostRuntime) -> Result<(), Fail> {
     )
 }
 
-// Makes the only worker of the two stocks under a refusal. Where it is refused, the parts are as they were, and a worker is
-// made with memory.
+// Makes the only worker of the two stocks under a refusal. Where it is refused, the parts are as they were, and a
+// worker is made with memory.
 fn try_worker<R: Threads + Wait + Sync>(
     rt: &R,
     heap: &Refusing<Global>,
@@ -248,8 +248,8 @@ fn stock_after(steps: u32, message: u32, bid_price: u32, bid_shares: u64) -> Sta
     }
 }
 
-// What a turn of the only worker of the two stocks answers, and the stocks that have orders after it. The screen reads the
-// first of them.
+// What a turn of the only worker of the two stocks answers, and the stocks that have orders after it. The screen reads
+// the first of them.
 type After = (Option<Piece>, State, State);
 
 // All of its turns.
@@ -298,8 +298,8 @@ fn lead<R: Threads + Wait + Sync, A: Allocator + Copy>(
     Ok(())
 }
 
-// Takes the last of these turns under a refusal, after the earlier ones. Where it is refused, all is as it was, and it is
-// taken with memory.
+// Takes the last of these turns under a refusal, after the earlier ones. Where it is refused, all is as it was, and it
+// is taken with memory.
 fn try_turn<R: Threads + Wait + Sync>(
     rt: &R,
     heap: &Refusing<Global>,

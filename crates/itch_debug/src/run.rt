@@ -106,8 +106,8 @@ fn serve<A: Allocator + Copy, R: Read, W: Write>(
 ///
 /// An error is [`ProgFault::Read`] where the feed has failed or gave more than [`MOST_COMMAND_BYTES`],
 /// [`ProgFault::Write`] where the sink has failed, and [`ProgFault::Memory`] where memory was refused. What was sent
-/// then is a prefix of the answers, and after `Read` and `Memory` no part of an answer; where the feed has failed, it is
-/// the answers of all lines that came in whole. The commands and their answers are of this project.
+/// then is a prefix of the answers, and after `Read` and `Memory` no part of an answer; where the feed has failed, it
+/// is the answers of all lines that came in whole. The commands and their answers are of this project.
 pub fn debug_run<A: Allocator + Copy, R: Read, W: Write>(
     alloc: A,
     day: &Day<A>,

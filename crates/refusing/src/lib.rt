@@ -90,8 +90,8 @@ impl<B: Allocator> Refusing<B> {
         self.growths.asked.store(0, Ordering::SeqCst);
     }
 
-    /// What became of a call, made since `new` or the last `restart`, that was refused memory or wasn't. From now on none
-    /// is refused, and growths are counted from 0 again.
+    /// What became of a call, made since `new` or the last `restart`, that was refused memory or wasn't. From now on
+    /// none is refused, and growths are counted from 0 again.
     pub fn tried(&self, refused: bool) -> Tried {
         let growths = self.asked();
         self.restart(Refusal::Never);

@@ -1,8 +1,9 @@
-//! A worked file in all its forms: its bytes, its digits, its text and its report; and a shorter one by its bytes alone.
+//! A worked file in all its forms: its bytes, its digits, its text and its report; and a shorter one by its bytes
+//! alone.
 //!
 //! The worked file has a directory message, a bid, a payload of a wrong length, one of an unknown type, a system event,
-//! the marker and two bytes after it. Tests run where no file of this repository is to be read, so the bytes stand here; more worked
-//! files are in examples/, which tests/command-lines goes through.
+//! the marker and two bytes after it. Tests run where no file of this repository is to be read, so the bytes stand
+//! here; more worked files are in examples/, which tests/command-lines goes through.
 use binaryfile::Limits;
 
 /// Limits that no test's file comes near.
@@ -46,8 +47,8 @@ pub const REPORT: &[u8] = b"message 3 refused F1\n\
       bid 1010000 100\n\
       trades 0 shares 0 notional 0 unprinted 0\n";
 
-/// The bytes of examples/stored-run.itch: a directory message, a bid, an execution of all its shares, and the marker. Of
-/// its 114 bytes the entries end after 41, 79 and 112.
+/// The bytes of examples/stored-run.itch: a directory message, a bid, an execution of all its shares, and the marker.
+/// Of its 114 bytes the entries end after 41, 79 and 112.
 pub const STORED_RUN: &[u8] =
     b"\x00\x27R\x00\x01\x00\x00\x00\x00\x00\x00\x00\x00AAPL    QN\x00\x00\x00dNCZ PNN1N\x00\x00\x00\x00N\
       \x00\x24A\x00\x01\x00\x00\x00\x00\x00\x00\x00\x01\x00\x00\x00\x00\x00\x00\x00\x01B\x00\x00\x00dAAPL    \x00\x16\xe3\x60\
