@@ -92,7 +92,7 @@ fn a_cell_holds_the_greatest_numbers(rt: HostRuntime) -> Result<(), Fail> {
     };
     same("what a screen reads", &screen.read(&rt, &board), &shown)?;
     same(
-        "the words of the cell",
+        "the words of the best bid and ask",
         &machine.top(1).to_words(3),
         &[3, 0x0000_0000_ffff_ffff, 4_294_967_295, 1],
     )

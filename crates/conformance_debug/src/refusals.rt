@@ -41,14 +41,15 @@ fn answered(bytes: &[u8]) -> Result<usize, Fail> {
     Ok(count)
 }
 
-// Runs a session whose growths are refused so, and answers how it ended, and how many answers were sent.
+// Runs a session of these lines whose growths are refused so, and answers how it ended, and how many answers were sent.
 fn run<'h, A: Allocator + Copy>(
     alloc: A,
     heap: &'h Refusing<A>,
     day: &Day<&'h Refusing<A>>,
+    lines: &str,
     refusal: Refusal,
 ) -> Result<(Result<(), ProgFault>, usize), Fail> {
-    let mut reader = Pieces::new(LINES.as_bytes(), 7);
+    let mut reader = Pieces::new(lines.as_bytes(), 7);
     let mut writer = Narrow::failing(alloc, 0, Failure::TakesNone);
     let mut feed = Feed::new(&mut reader);
     let mut sink = Sink::new(&mut writer);
@@ -57,24 +58,54 @@ fn run<'h, A: Allocator + Copy>(
     Ok((ended, answered(writer.taken())?))
 }
 
-// A session under a refusal. A growth that is refused with all after it ends the session, no earlier than the growth
-// before it does; one that is refused alone ends it at the same answer, or is done without.
-fn try_session(alloc: Global, heap: &Refusing<Global>, refusal: Refusal) -> Result<Tried, Fail> {
+// The first lines, so many of them, with their line feeds.
+fn first_lines(count: usize) -> &'static str {
+    let mut left = count;
+    for (place, byte) in LINES.bytes().enumerate() {
+        if left == 0 {
+            return LINES.get(..place).unwrap_or("");
+        }
+        if byte == b'\n' {
+            left = left.saturating_sub(1);
+        }
+    }
+    LINES
+}
+
+// How many growths a session of the first lines has, for each number of lines.
+fn growths_of_lines(alloc: Global, heap: &Refusing<Global>) -> Result<Vec<u64, Global>, Fail> {
+    let mut growths = Vec::new(alloc);
+    let day = day_in(heap, TRADED)?;
+    for count in 0..=ANSWERS.len() {
+        let ended = run(alloc, heap, &day, first_lines(count), Refusal::Never)?;
+        same("the first lines", &ended, &(Ok(()), count))?;
+        growths.push(heap.asked())?;
+    }
+    Ok(growths)
+}
+
+// A session under a refusal, where sessions of its first lines have these growths. A growth that is refused with all
+// after it ends the session, when exactly the lines before the one that asks for it were answered; one that is refused
+// alone ends it there, or is done without.
+fn try_session(
+    alloc: Global,
+    heap: &Refusing<Global>,
+    growths: &[u64],
+    refusal: Refusal,
+) -> Result<Tried, Fail> {
     heap.restart(Refusal::Never);
     let day = day_in(heap, TRADED)?;
     let whole = (Ok(()), ANSWERS.len());
-    let ended = run(alloc, heap, &day, refusal)?;
+    let ended = run(alloc, heap, &day, LINES, refusal)?;
     let tried = heap.tried(ended.0.is_err());
     match refusal {
         Refusal::Never => same("with memory", &ended, &whole)?,
-        Refusal::Only(growth) => {
-            let all = run(alloc, heap, &day, Refusal::From(growth))?;
-            same("a growth alone", &(ended == all || ended == whole), &true)?;
-        }
-        Refusal::From(growth) => {
-            same("without memory", &ended.0, &Err(ProgFault::Memory))?;
-            let before = run(alloc, heap, &day, Refusal::From(growth.saturating_sub(1)))?;
-            same("no earlier answer", &(before.1 <= ended.1), &true)?;
+        Refusal::Only(growth) | Refusal::From(growth) => {
+            let sessions = growths.iter().filter(|less: &&u64| -> bool { **less < growth });
+            let answered = sessions.count().saturating_sub(1);
+            let stopped = (Err(ProgFault::Memory), answered);
+            let wanted = if tried.refused { stopped } else { whole };
+            same("without memory", &(growth, ended), &(growth, wanted))?;
         }
     }
     Ok(tried)
@@ -84,11 +115,9 @@ fn try_session(alloc: Global, heap: &Refusing<Global>, refusal: Refusal) -> Resu
 fn a_session_without_memory_has_sent_the_answers_before(rt: HostRuntime) -> Result<(), Fail> {
     let alloc = rt.alloc();
     let heap = Refusing::new(alloc, Refusal::Never);
+    let lines = growths_of_lines(alloc, &heap)?;
     let growths = refuse_each(|refusal: Refusal| -> Result<Tried, Fail> {
-        try_session(alloc, &heap, refusal)
+        try_session(alloc, &heap, &lines, refusal)
     })?;
-    heap.restart(Refusal::Never);
-    let day = day_in(&heap, TRADED)?;
-    let last = run(alloc, &heap, &day, Refusal::From(growths))?;
-    same("the last answer", &last.1, &(ANSWERS.len() - 1))
+    same("all growths", &lines.last(), &Some(&growths))
 }

@@ -13,8 +13,8 @@ const LINES: &str = "goto 0\nback\ngoto 5";
 
 const ANSWERS: &str = "at 0 start\n? before start\nat 5 applied\n";
 
-// Runs a session whose writer fails at a call, at none where that is 0, and compares how it ended, and what was written,
-// with these.
+// Runs a session whose writer fails at a call, at none where that is 0, and compares how it ended, and what was
+// written, with these.
 fn run<A: Allocator + Copy>(
     alloc: A,
     mut reader: Pieces<'_>,

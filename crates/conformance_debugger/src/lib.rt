@@ -4,6 +4,8 @@
 #[cfg(test)]
 mod breakpoints;
 #[cfg(test)]
+mod busy;
+#[cfg(test)]
 mod calls;
 #[cfg(test)]
 mod days;

@@ -4,7 +4,7 @@ use binaryfile::{Day, Feed, Limits, LoadFault, read_to_end};
 use refusing::{Refusal, Refusing, Tried, refuse_each};
 use std::alloc::{Allocator, Global};
 use std::test::Fail;
-use support::{AMPLE, STORED_RUN, same, same_bytes};
+use support::{AMPLE, Pieces, STORED_RUN, same, same_bytes};
 
 // The limits of bytes and messages under which the three entries are loaded, and the fault.
 const LIMITS: [(u64, u32, Option<LoadFault>); 5] = [
@@ -83,10 +83,19 @@ fn each_limit_below_a_file_is_kept(rt: HostRuntime) -> Result<(), Fail> {
     Ok(())
 }
 
+// What a load under a refusal leaves to be read: all where there is no room for the first read, which takes all.
+fn left_by(refusal: Refusal) -> &'static [u8] {
+    match refusal {
+        Refusal::Only(1) | Refusal::From(1) => THREE,
+        _ => b"",
+    }
+}
+
 // Loads the file under a refusal. Where a growth is refused, the load is, and its feed has not failed and stays past
 // the bytes that were taken. A load of another feed has memory then.
 fn try_load(heap: &Refusing<Global>, refusal: Refusal) -> Result<Tried, Fail> {
-    let mut feed = Feed::new(THREE);
+    let mut reader = Pieces::new(THREE, THREE.len());
+    let mut feed = Feed::new(&mut reader);
     heap.restart(refusal);
     let fault = Day::load(heap, &mut feed, AMPLE).err();
     let tried = heap.tried(fault.is_some());
@@ -97,7 +106,7 @@ fn try_load(heap: &Refusing<Global>, refusal: Refusal) -> Result<Tried, Fail> {
     let found = (refusal, fault, feed.failed());
     same("a load", &found, &(refusal, wanted, false))?;
     let rest = read_to_end(heap, &mut feed, 100)?;
-    same("what is left", &THREE.ends_with(&rest), &true)?;
+    same_bytes("what is left", &rest, left_by(refusal))?;
     let loaded = Day::load(heap, &mut Feed::new(THREE), AMPLE)?;
     same_bytes("with memory", loaded.bytes(), THREE)?;
     Ok(tried)

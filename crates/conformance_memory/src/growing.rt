@@ -3,6 +3,7 @@ use itch_layouts::Msg;
 use itch_table::{Outcome, Plain, Side};
 use refusing::{Refusal, Refusing, Tried, refuse_any, refuse_each};
 use std::alloc::{AllocError, Allocator, Global};
+use std::sync::atomic::{AtomicU64, Ordering};
 use std::test::Fail;
 use support::{AAPL, GROWING, Growing, Known, Ticker, known_of, payload_of, same, same_list, take};
 
@@ -157,6 +158,30 @@ fn a_call_ends_as_its_refusal_allows(_rt: HostRuntime) -> Result<(), Fail> {
         same("how a call ends", &found, &(refusal, tried, allowed))?;
     }
     Ok(())
+}
+
+// The digit of a refusal: 7 for none, k for growth k alone, and k + 3 for it and all after it.
+fn digit(refusal: Refusal) -> u64 {
+    match refusal {
+        Refusal::Never => 7,
+        Refusal::Only(growth) => growth,
+        Refusal::From(growth) => growth.saturating_add(3),
+    }
+}
+
+// A call of three growths is tried seven times.
+#[test]
+fn each_growth_is_refused_in_turn(_rt: HostRuntime) -> Result<(), Fail> {
+    let seen = AtomicU64::new(0);
+    let growths = refuse_each(|refusal: Refusal| -> Result<Tried, Fail> {
+        let before = seen.load(Ordering::SeqCst);
+        let digits = before.saturating_mul(10).saturating_add(digit(refusal));
+        seen.store(digits, Ordering::SeqCst);
+        let refused = matches!(refusal, Refusal::From(_));
+        Ok(Tried { growths: 3, refused })
+    })?;
+    let found = (growths, seen.load(Ordering::SeqCst));
+    same("the growths and the refusals", &found, &(3, 7_142_536))
 }
 
 // A list that a machine makes.

@@ -98,14 +98,14 @@ fn workers_come_in_any_order(rt: HostRuntime) -> Result<(), Fail> {
     )
 }
 
-// The crossed book, looked at after each message of worker 1, who has them all.
-fn schedule() -> [Event; 6] {
+// The crossed book, looked at after each turn of a worker.
+fn schedule(worker: u32) -> [Event; 6] {
     [
-        Event::Turn(1),
+        Event::Turn(worker),
         look(0, 1),
-        Event::Turn(1),
+        Event::Turn(worker),
         look(0, 1),
-        Event::Turn(1),
+        Event::Turn(worker),
         look(0, 1),
     ]
 }
@@ -129,13 +129,13 @@ fn a_schedule_has_1_to_64_workers(rt: HostRuntime) -> Result<(), Fail> {
         (65, Refusal::From(1), Some(SplitFault::Workers)),
     ] {
         heap.restart(refusal);
-        let fault = play(&rt, &heap, &day, workers, &schedule()).err();
+        let fault = play(&rt, &heap, &day, workers, &schedule(0)).err();
         same("a fault", &(workers, fault), &(workers, wanted))?;
     }
     Ok(())
 }
 
-// Runs the schedule under a refusal, which leaves the day as it is, and with memory where it is refused.
+// Runs the schedule of worker 1, whose messages they all are, under a refusal, which leaves the day as it is, and with memory where it is refused.
 fn try_play<R: Threads + Sync>(
     rt: &R,
     heap: &Refusing<Global>,
@@ -143,14 +143,14 @@ fn try_play<R: Threads + Sync>(
 ) -> Result<Tried, Fail> {
     let day = crossed_book(heap)?;
     heap.restart(refusal);
-    let played = play(rt, heap, &day, 2, &schedule());
+    let played = play(rt, heap, &day, 2, &schedule(1));
     let tried = heap.tried(played.is_err());
     same_bytes("the day", day.bytes(), crossed_book(heap)?.bytes())?;
     let list = match played {
         Ok(list) => list,
         Err(fault) => {
             same("a refused growth", &(refusal, fault), &(refusal, SplitFault::Memory))?;
-            play(rt, heap, &day, 2, &schedule())?
+            play(rt, heap, &day, 2, &schedule(1))?
         }
     };
     let [one, two, three] = WORDS;

@@ -125,6 +125,11 @@ fn try_split<R: Threads + Sync>(
         }
     };
     same_list("the stocks", parts.locates(), locates)?;
+    let whole = parts_of(rt, heap, &day, workers)?;
+    same_list("the messages of no stock", parts.fixed(), whole.fixed())?;
+    for worker in 0..workers {
+        same_list("a worker's messages", parts.own(worker), whole.own(worker))?;
+    }
     Ok(tried)
 }
 
@@ -145,7 +150,7 @@ fn a_long_day_without_memory_has_no_parts(rt: HostRuntime) -> Result<(), Fail> {
     let heap = Refusing::new(rt.alloc(), Refusal::Never);
     let day = long_day(rt.alloc())?;
     let growths = refuse_each(|refusal: Refusal| -> Result<Tried, Fail> {
-        try_split(&rt, &heap, day.bytes(), 2, &[1, 2], refusal)
+        try_split(&rt, &heap, day.bytes(), 64, &[1, 2], refusal)
     })?;
     same("growths", &(growths >= 17), &true)
 }

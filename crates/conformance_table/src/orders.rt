@@ -98,7 +98,7 @@ fn numbers_may_be_the_greatest(rt: HostRuntime) -> Result<(), Fail> {
     };
     follow(
         rt.alloc(),
-        "takes the least and the greatest reference and price, and levels of more shares than an order has",
+        "takes the least and the greatest numbers, and levels of more shares than an order has",
         &[
             Line::Applied(AAPL.directory()),
             Line::Applied(AAPL.add(0, b'B', 4_294_967_295, 0)),

@@ -164,7 +164,8 @@ fn a_screen_reads_what_each_turn_leaves(rt: HostRuntime) -> Result<(), Fail> {
 }
 
 // Makes the only worker of the two stocks under a refusal. Where it is refused, the parts are as they were, and a
-// worker is made with memory.
+// worker is made with memory. A list that is refused more room than it needs may ask again for less: where one growth
+// alone is refused, there is no worker exactly where no other growth is asked for after it.
 fn try_worker<R: Threads + Wait + Sync>(
     rt: &R,
     heap: &Refusing<Global>,
@@ -180,6 +181,10 @@ fn try_worker<R: Threads + Wait + Sync>(
     heap.restart(refusal);
     let made = Worker::new(heap, &parts, 0, writers).is_ok();
     let tried = heap.tried(!made);
+    if let Refusal::Only(growth) = refusal {
+        let last = tried.growths == growth;
+        same("one alone", &(growth, tried.refused), &(growth, last))?;
+    }
     if tried.refused {
         same_list(
             "the worker's messages",

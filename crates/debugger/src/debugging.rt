@@ -77,7 +77,7 @@ impl<'d, A: Allocator + Copy> Debugger<'d, A> {
     /// A debugger of a day at position 0, without breakpoints. It keeps copies of a stock's machine `every` of its
     /// messages apart, or further apart where they would be many ([`Track`](checkpoints::Track)); `every` is at least
     /// 1. It goes through the day twice, steps the stocks with very many messages along it, so that no later move has
-    /// to, and keeps four to eight bytes a message. An error says that memory was refused.
+    /// to, and keeps copies of these and four to eight bytes a message. An error says that memory was refused.
     pub fn new(alloc: A, day: &'d Day<A>, every: u32) -> Result<Debugger<'d, A>, AllocError>
         requires { 0 < every }
         ensures { IfOk result (λ debugger. debugger ≡ new_session day.now.payloads) }

@@ -63,7 +63,8 @@ Halts day before after commands Memory = AnswersWhole day before after commands
 Halts day before after commands Write = AnswersPart day before after commands
 Halts day before after commands fault = ⊥
 
--- Whole answers were written, and nothing else: those of each line that came in whole, where the feed has failed.
+-- Whole answers were written, and nothing else: where the feed has failed, those of each line that came in
+-- whole.
 abbrev pub AnswersGiven : List (List ℕ) → Option (List ℕ) → Option (List ℕ) → List ℕ → Bool → Type 0
 AnswersGiven day before after commands failed =
     (whole : AnswersWhole day before after commands)

@@ -1,0 +1,76 @@
+//! A stock with very many messages, whose track is made when a debugger begins.
+use binaryfile::Day;
+use debugger::{DebugFault, Debugger};
+use refusing::{Refusal, Refusing, Tried, refuse_each};
+use std::alloc::{Allocator, Global};
+use std::test::Fail;
+use support::{AAPL, add_entry, day_of, same, same_list};
+
+// How many orders are added and deleted, one after another. With the directory message there are 60,001 messages.
+const ORDERS: u64 = 30_000;
+
+// Places, and there how many messages the stock has taken, and the shares of its best bid: after the directory message
+// each even message adds an order, and each odd one deletes it.
+const SHOWN: [(u32, u32, u64); 5] = [
+    (0, 0, 0),
+    (1, 1, 0),
+    (2, 2, 10),
+    (30_001, 30_001, 0),
+    (60_000, 60_000, 10),
+];
+
+// The bytes of the day.
+fn busy_file<A: Allocator + Copy>(alloc: A) -> Result<Vec<u8, A>, Fail> {
+    let mut file = Vec::new(alloc);
+    add_entry(alloc, &mut file, &AAPL.directory())?;
+    for reference in 1..=ORDERS {
+        add_entry(alloc, &mut file, &AAPL.add(reference, b'B', 10, 100))?;
+        add_entry(alloc, &mut file, &AAPL.delete(reference))?;
+    }
+    Ok(file)
+}
+
+// What a new debugger shows of the stock at each of the places.
+fn shown_along<A: Allocator + Copy>(
+    alloc: A,
+    day: &Day<A>,
+) -> Result<Vec<(u32, u32, u64), A>, DebugFault> {
+    let mut debugger = Debugger::new(alloc, day, 30_000)?;
+    let mut list = Vec::new(alloc);
+    for (place, _, _) in SHOWN {
+        debugger.goto(alloc, place)?;
+        let stock = debugger.stock(alloc, 1)?;
+        let shown = (place, stock.steps(), stock.top().bid_shares);
+        if list.push(shown).is_err() {
+            return Err(DebugFault::Memory);
+        }
+    }
+    Ok(list)
+}
+
+// Goes along the day under a refusal, and with memory where it is refused.
+fn try_along(heap: &Refusing<Global>, file: &[u8], refusal: Refusal) -> Result<Tried, Fail> {
+    let day = day_of(heap, file.to_vec(heap)?)?;
+    heap.restart(refusal);
+    let mut shown = shown_along(heap, &day);
+    let tried = heap.tried(shown.is_err());
+    if tried.refused {
+        same("a refused growth", &shown.err(), &Some(DebugFault::Memory))?;
+        shown = shown_along(heap, &day);
+    }
+    let Ok(list) = shown else {
+        return Err(Fail::new("a debugger without memory"));
+    };
+    same_list("the stock along the day", &list, &SHOWN)?;
+    Ok(tried)
+}
+
+#[test]
+fn a_busy_stock_is_shown_at_each_place(rt: HostRuntime) -> Result<(), Fail> {
+    let file = busy_file(rt.alloc())?;
+    let heap = Refusing::new(rt.alloc(), Refusal::Never);
+    let growths = refuse_each(|refusal: Refusal| -> Result<Tried, Fail> {
+        try_along(&heap, &file, refusal)
+    })?;
+    same("some growths", &(growths > 20 && growths <= 200), &true)
+}
