@@ -101,7 +101,9 @@ fn try_session(
     match refusal {
         Refusal::Never => same("with memory", &ended, &whole)?,
         Refusal::Only(growth) | Refusal::From(growth) => {
-            let sessions = growths.iter().filter(|less: &&u64| -> bool { **less < growth });
+            let sessions = growths
+                .iter()
+                .filter(|less: &&u64| -> bool { **less < growth });
             let answered = sessions.count().saturating_sub(1);
             let stopped = (Err(ProgFault::Memory), answered);
             let wanted = if tried.refused { stopped } else { whole };

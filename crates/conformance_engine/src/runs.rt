@@ -165,7 +165,11 @@ fn try_refusal<T: AllocGlobal + Threads + Wait + Sync>(
     } else {
         (engine.answer(), engine.output())
     };
-    same("an answer", &(engine, refusal, answer), &(engine, refusal, wanted))?;
+    same(
+        "an answer",
+        &(engine, refusal, answer),
+        &(engine, refusal, wanted),
+    )?;
     same_bytes("an output", &output, written)?;
     Ok(tried)
 }

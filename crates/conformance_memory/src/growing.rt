@@ -178,7 +178,10 @@ fn each_growth_is_refused_in_turn(_rt: HostRuntime) -> Result<(), Fail> {
         let digits = before.saturating_mul(10).saturating_add(digit(refusal));
         seen.store(digits, Ordering::SeqCst);
         let refused = matches!(refusal, Refusal::From(_));
-        Ok(Tried { growths: 3, refused })
+        Ok(Tried {
+            growths: 3,
+            refused,
+        })
     })?;
     let found = (growths, seen.load(Ordering::SeqCst));
     same("the growths and the refusals", &found, &(3, 7_142_536))

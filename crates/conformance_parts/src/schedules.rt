@@ -149,7 +149,11 @@ fn try_play<R: Threads + Sync>(
     let list = match played {
         Ok(list) => list,
         Err(fault) => {
-            same("a refused growth", &(refusal, fault), &(refusal, SplitFault::Memory))?;
+            same(
+                "a refused growth",
+                &(refusal, fault),
+                &(refusal, SplitFault::Memory),
+            )?;
             play(rt, heap, &day, 2, &schedule(1))?
         }
     };
@@ -188,7 +192,11 @@ fn try_new<R: Threads + Sync>(
     let before = match made {
         Ok(turns) => shown(&turns),
         Err(fault) => {
-            same("a refused growth", &(refusal, fault), &(refusal, SplitFault::Memory))?;
+            same(
+                "a refused growth",
+                &(refusal, fault),
+                &(refusal, SplitFault::Memory),
+            )?;
             shown(&Turns::new(rt, heap, &day, 2)?)
         }
     };

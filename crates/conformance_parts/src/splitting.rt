@@ -120,7 +120,11 @@ fn try_split<R: Threads + Sync>(
     let parts = match made {
         Ok(parts) => parts,
         Err(fault) => {
-            same("a refused growth", &(refusal, fault), &(refusal, SplitFault::Memory))?;
+            same(
+                "a refused growth",
+                &(refusal, fault),
+                &(refusal, SplitFault::Memory),
+            )?;
             parts_of(rt, heap, &day, workers)?
         }
     };
