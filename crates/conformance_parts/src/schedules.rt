@@ -135,7 +135,8 @@ fn a_schedule_has_1_to_64_workers(rt: HostRuntime) -> Result<(), Fail> {
     Ok(())
 }
 
-// Runs the schedule of worker 1, whose messages they all are, under a refusal, which leaves the day as it is, and with memory where it is refused.
+// Runs the schedule of worker 1, whose messages they all are, under a refusal, which leaves the day as it is, and with
+// memory where it is refused.
 fn try_play<R: Threads + Sync>(
     rt: &R,
     heap: &Refusing<Global>,

@@ -13,9 +13,10 @@ use stock_machine::Stock;
 // The most tracks that are kept of the stocks that were asked for last.
 const MOST_TRACKS: usize = 64;
 
-// A stock is busy that has more messages than this, and more than one in so many of the day's.
+// A stock is busy that has more messages than this.
 const BUSY_MESSAGES: u32 = 60_000;
 
+// And more than one in so many of the day's.
 const BUSY_SHARE: u32 = 200;
 
 /// Tracks of the busy stocks, and of the stocks that were asked for last, at most 64 of them, seen as the day that they
