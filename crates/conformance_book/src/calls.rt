@@ -1,5 +1,5 @@
 //! Calls that change a book, and what a book shows.
-use itch_table::{Order, Side};
+use itch_table::{Level, Order, Side};
 use order_book::Book;
 use std::alloc::{AllocError, Allocator};
 use std::test::Fail;
@@ -38,6 +38,11 @@ pub fn ask(reference: u64, shares: u32, price: u32) -> Call {
         price,
         attribution: Some(*b"ABCD"),
     })
+}
+
+/// A level as its price and its shares.
+pub fn level(price: u32, shares: u64) -> Level {
+    Level { price, shares }
 }
 
 /// Makes a call, where it is one that the book takes: what the call answers.
@@ -89,17 +94,26 @@ pub fn make_all<A: Allocator + Copy>(book: &mut Book<A>, calls: &[Call]) -> Resu
     Ok(())
 }
 
-// Two books list the same orders.
+// Two books have the same orders, in their lists and by their references.
 fn same_orders<A: Allocator + Copy>(
     alloc: A,
     found: &Book<A>,
     wanted: &Book<A>,
 ) -> Result<(), Fail> {
     let orders = found.orders(alloc)?;
-    same_list("the orders", &orders, &wanted.orders(alloc)?)
+    same_list("the orders", &orders, &wanted.orders(alloc)?)?;
+    for order in orders.iter() {
+        let reference = order.reference;
+        same(
+            "an order",
+            &(found.order(reference), found.row(reference)),
+            &(Some(*order), Some(order.row())),
+        )?;
+    }
+    Ok(())
 }
 
-// Two books list the same levels of a side.
+// Two books have the same levels of a side, in their lists and by their prices.
 fn same_levels<A: Allocator + Copy>(
     alloc: A,
     found: &Book<A>,
@@ -107,7 +121,36 @@ fn same_levels<A: Allocator + Copy>(
     side: Side,
 ) -> Result<(), Fail> {
     let levels = found.levels(alloc, side)?;
-    same_list("the levels", &levels, &wanted.levels(alloc, side)?)
+    same_list("the levels", &levels, &wanted.levels(alloc, side)?)?;
+    for level in levels.iter() {
+        same("a level", &found.level(side, level.price), &level.shares)?;
+    }
+    Ok(())
+}
+
+/// Two books answer the same for each reference and each price that a test names, whether there are orders or not.
+pub fn same_answers<A: Allocator + Copy>(found: &Book<A>, wanted: &Book<A>) -> Result<(), Fail> {
+    for reference in 0..=1_100u64 {
+        same(
+            "an order",
+            &(found.order(reference), found.row(reference)),
+            &(wanted.order(reference), wanted.row(reference)),
+        )?;
+    }
+    for price in 0..=7u32 {
+        same(
+            "a level",
+            &(
+                found.level(Side::Buy, price),
+                found.level(Side::Sell, price),
+            ),
+            &(
+                wanted.level(Side::Buy, price),
+                wanted.level(Side::Sell, price),
+            ),
+        )?;
+    }
+    Ok(())
 }
 
 /// Two books show the same count, top, orders and levels.

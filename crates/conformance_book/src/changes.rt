@@ -1,15 +1,10 @@
 //! What a book shows after each of its calls.
-use crate::calls::{Call, ask, bid, make_all, same_books};
+use crate::calls::{Call, ask, bid, level, make_all, same_books};
 use itch_table::{Level, Order, Side, Top};
 use order_book::Book;
 use std::alloc::Allocator;
 use std::test::Fail;
 use support::{same, same_list};
-
-// A level as its price and its shares.
-fn level(price: u32, shares: u64) -> Level {
-    Level { price, shares }
-}
 
 // The top of a book without asks.
 fn best_bid(bid_price: u32, bid_shares: u64) -> Top {

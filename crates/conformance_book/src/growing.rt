@@ -1,11 +1,11 @@
 //! Growths that are refused in turn: a call that is refused memory changes nothing, and some calls take none.
-use crate::calls::{Call, ask, bid, make, make_all, same_books};
-use itch_table::Side;
+use crate::calls::{Call, ask, bid, level, make, make_all, same_answers, same_books};
+use itch_table::{Order, Side, Top};
 use order_book::Book;
 use refusing::{Refusal, Refusing, Tried, refuse_any, refuse_each};
 use std::alloc::{AllocError, Allocator, Global};
 use std::test::Fail;
-use support::same;
+use support::{same, same_list};
 
 // These of the numbers from 1 to 100 are each other, and neither rise nor fall.
 fn scattered(number: u32) -> u32 {
@@ -42,6 +42,7 @@ fn try_call(heap: &Refusing<Global>, number: u32, refusal: Refusal) -> Result<Tr
     let tried = heap.tried(answer.is_err());
     if tried.refused {
         same_books(heap, &book, &twin)?;
+        same_answers(&book, &twin)?;
         make_all(&mut book, &[call])?;
     }
     make_all(&mut twin, &[call])?;
@@ -94,45 +95,107 @@ enum Listing {
     Levels(Side),
 }
 
-// How many orders or levels are listed.
-fn listed<A: Allocator + Copy>(
+const LISTINGS: [Listing; 3] = [
+    Listing::Orders,
+    Listing::Levels(Side::Buy),
+    Listing::Levels(Side::Sell),
+];
+
+// The first of the orders of both sides, by their references.
+const FIRST: Order = Order {
+    reference: 1,
+    side: Side::Buy,
+    shares: 10,
+    price: 100,
+    attribution: None,
+};
+
+// The orders of both sides.
+fn orders_of_both() -> [Order; 4] {
+    [
+        FIRST,
+        Order {
+            reference: 2,
+            price: 90,
+            ..FIRST
+        },
+        Order {
+            reference: 3,
+            side: Side::Sell,
+            shares: 5,
+            price: 110,
+            attribution: Some(*b"ABCD"),
+        },
+        Order {
+            reference: 4,
+            shares: 1,
+            ..FIRST
+        },
+    ]
+}
+
+// Makes a list of a book of both sides, and compares it. An error of the list itself says that memory was refused.
+fn list<A: Allocator + Copy>(
     alloc: A,
     book: &Book<A>,
     listing: Listing,
-) -> Result<usize, AllocError> {
+) -> Result<Result<(), Fail>, AllocError> {
     match listing {
-        Listing::Orders => Ok(book.orders(alloc)?.len()),
-        Listing::Levels(side) => Ok(book.levels(alloc, side)?.len()),
+        Listing::Orders => {
+            let orders = book.orders(alloc)?;
+            Ok(same_list("the orders", &orders, &orders_of_both()))
+        }
+        Listing::Levels(Side::Buy) => {
+            let bids = book.levels(alloc, Side::Buy)?;
+            Ok(same_list("the bids", &bids, &[level(100, 11), level(90, 10)]))
+        }
+        Listing::Levels(Side::Sell) => {
+            let asks = book.levels(alloc, Side::Sell)?;
+            Ok(same_list("the asks", &asks, &[level(110, 5)]))
+        }
     }
 }
 
-// Makes a list of this length under a refusal, which leaves the book as it is.
-fn try_listing(
-    heap: &Refusing<Global>,
-    listing: Listing,
-    length: usize,
-    refusal: Refusal,
-) -> Result<Tried, Fail> {
+// Makes a list under a refusal, which leaves the book as it is, and with memory where it is refused.
+fn try_listing(heap: &Refusing<Global>, listing: Listing, refusal: Refusal) -> Result<Tried, Fail> {
     let book = both_sided(heap)?;
     heap.restart(refusal);
-    let found = listed(heap, &book, listing);
-    let tried = heap.tried(found.is_err());
-    if !tried.refused {
-        same("a list", &(listing, found), &(listing, Ok(length)))?;
+    let listed = list(heap, &book, listing);
+    let tried = heap.tried(listed.is_err());
+    match listed {
+        Ok(compared) => compared?,
+        Err(AllocError) => list(heap, &book, listing)??,
     }
     same_books(heap, &book, &both_sided(heap)?)?;
     Ok(tried)
 }
 
-// Makes a copy under a refusal, which leaves the book as it is.
+// A book shows what the orders of both sides make.
+fn shows_both_sides<A: Allocator + Copy>(alloc: A, book: &Book<A>) -> Result<(), Fail> {
+    let top = Top::of(level(100, 11), level(110, 5));
+    same(
+        "the count and the top",
+        &(book.count(), book.top()),
+        &(4, top),
+    )?;
+    for listing in LISTINGS {
+        list(alloc, book, listing)??;
+    }
+    Ok(())
+}
+
+// Makes a copy under a refusal, which leaves the book as it is, and with memory where it is refused.
 fn try_copy(heap: &Refusing<Global>, refusal: Refusal) -> Result<Tried, Fail> {
     let book = both_sided(heap)?;
     heap.restart(refusal);
-    let copy = book.copy(heap);
-    let tried = heap.tried(copy.is_err());
-    if let Ok(copy) = copy {
-        same_books(heap, &copy, &book)?;
-    }
+    let made = book.copy(heap);
+    let tried = heap.tried(made.is_err());
+    let copy = match made {
+        Ok(copy) => copy,
+        Err(AllocError) => book.copy(heap)?,
+    };
+    shows_both_sides(heap, &copy)?;
+    same_books(heap, &copy, &book)?;
     same_books(heap, &book, &both_sided(heap)?)?;
     Ok(tried)
 }
@@ -140,13 +203,9 @@ fn try_copy(heap: &Refusing<Global>, refusal: Refusal) -> Result<Tried, Fail> {
 #[test]
 fn a_list_or_a_copy_without_memory_is_none(rt: HostRuntime) -> Result<(), Fail> {
     let heap = Refusing::new(rt.alloc(), Refusal::Never);
-    for (listing, length) in [
-        (Listing::Orders, 4),
-        (Listing::Levels(Side::Buy), 2),
-        (Listing::Levels(Side::Sell), 1),
-    ] {
+    for listing in LISTINGS {
         refuse_each(|refusal: Refusal| -> Result<Tried, Fail> {
-            try_listing(&heap, listing, length, refusal)
+            try_listing(&heap, listing, refusal)
         })?;
     }
     refuse_each(|refusal: Refusal| -> Result<Tried, Fail> { try_copy(&heap, refusal) })?;
