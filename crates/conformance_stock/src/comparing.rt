@@ -6,7 +6,7 @@ use std::test::Fail;
 use stock_machine::Stock;
 use support::{payload_of, same, same_list};
 
-// The levels of a side.
+// Two machines have the same levels of a side, in their lists and by their prices.
 fn same_levels<A: Allocator + Copy>(
     alloc: A,
     found: &Stock<A>,
@@ -14,7 +14,25 @@ fn same_levels<A: Allocator + Copy>(
     side: Side,
 ) -> Result<(), Fail> {
     let levels = found.levels(alloc, side)?;
-    same_list("levels", &levels, &wanted.levels(alloc, side)?)
+    same_list("levels", &levels, &wanted.levels(alloc, side)?)?;
+    for level in levels.iter() {
+        same("a level", &found.level(side, level.price), &level.shares)?;
+    }
+    Ok(())
+}
+
+// Two machines have the same orders, in their lists and by their references.
+fn same_orders<A: Allocator + Copy>(
+    alloc: A,
+    found: &Stock<A>,
+    wanted: &Stock<A>,
+) -> Result<(), Fail> {
+    let orders = found.orders(alloc)?;
+    same_list("orders", &orders, &wanted.orders(alloc)?)?;
+    for order in orders.iter() {
+        same("an order", &found.order(order.reference), &Some(*order))?;
+    }
+    Ok(())
 }
 
 /// Compares what two machines say: the locate code, the steps, the top, the totals, the status and all lists.
@@ -36,8 +54,33 @@ pub fn same_machines<A: Allocator + Copy>(
     same("the status", &found.status(), &wanted.status())?;
     same_levels(alloc, found, wanted, Side::Buy)?;
     same_levels(alloc, found, wanted, Side::Sell)?;
-    let orders = found.orders(alloc)?;
-    same_list("orders", &orders, &wanted.orders(alloc)?)
+    same_orders(alloc, found, wanted)
+}
+
+/// Compares what two machines answer for each reference and each price that a test names, whether there are orders or
+/// not.
+pub fn same_answers<A: Allocator + Copy>(found: &Stock<A>, wanted: &Stock<A>) -> Result<(), Fail> {
+    for reference in 0..=1_100u64 {
+        same(
+            "an order",
+            &found.order(reference),
+            &wanted.order(reference),
+        )?;
+    }
+    for price in 0..=300u32 {
+        same(
+            "a level",
+            &(
+                found.level(Side::Buy, price),
+                found.level(Side::Sell, price),
+            ),
+            &(
+                wanted.level(Side::Buy, price),
+                wanted.level(Side::Sell, price),
+            ),
+        )?;
+    }
+    Ok(())
 }
 
 /// Hands a machine a payload of its stock, whose outcome is `wanted`.

@@ -1,12 +1,12 @@
 //! Growths that are refused in turn, and steps and calls that take no memory.
-use crate::comparing::{after, same_machines, take, take_message};
+use crate::comparing::{after, same_answers, same_machines, take, take_message};
 use itch_layouts::Msg;
-use itch_table::{Fault, Outcome, Part, Side, part};
+use itch_table::{Fault, Level, Order, Outcome, Part, Side, Status, Top, Totals, Trading, part};
 use refusing::{Refusal, Refusing, Tried, refuse_any, refuse_each};
 use std::alloc::{AllocError, Allocator, Global};
 use std::test::Fail;
 use stock_machine::Stock;
-use support::{AAPL, GROWING, Growing, payload_of, same};
+use support::{AAPL, GROWING, Growing, payload_of, same, same_list};
 
 // The directory message, and one that adds a bid.
 fn one_bid() -> [Msg; 2] {
@@ -66,6 +66,7 @@ fn try_step(
     let tried = step_under(heap, &mut stock, &payload, refusal)?;
     if tried.refused {
         same_machines(heap, &stock, &twin)?;
+        same_answers(&stock, &twin)?;
         take(&mut stock, &payload, Outcome::Applied)?;
     }
     take(&mut twin, &payload, Outcome::Applied)?;
@@ -104,55 +105,159 @@ fn two_bids() -> [Msg; 4] {
     ]
 }
 
+// The directory message, and others that add orders of both sides and trades.
+fn both_sides() -> [Msg; 9] {
+    [
+        AAPL.directory(),
+        AAPL.add(2, b'B', 10, 90),
+        AAPL.add(1, b'B', 10, 100),
+        AAPL.add_mpid(3, b'S', 6, 110),
+        AAPL.add(4, b'B', 1, 100),
+        AAPL.execute(3, 1, 1),
+        AAPL.execute_price(1, 2, 2, b'N', 5),
+        AAPL.trade(b'B', 7, 2, 3),
+        AAPL.trading(b'T', *b"    "),
+    ]
+}
+
 // A list that a machine makes.
 #[derive(Debug, Clone, Copy, PartialEq, Eq)]
 enum Listing {
-    Levels,
     Orders,
+    Levels(Side),
 }
 
-// How long a list is.
-fn length_of<A: Allocator + Copy>(
+const LISTINGS: [Listing; 3] = [
+    Listing::Orders,
+    Listing::Levels(Side::Buy),
+    Listing::Levels(Side::Sell),
+];
+
+// The first of the orders of both sides, by their references.
+const FIRST: Order = Order {
+    reference: 1,
+    side: Side::Buy,
+    shares: 8,
+    price: 100,
+    attribution: None,
+};
+
+// The orders of both sides.
+fn orders_of_both() -> [Order; 4] {
+    [
+        FIRST,
+        Order {
+            reference: 2,
+            shares: 10,
+            price: 90,
+            ..FIRST
+        },
+        Order {
+            reference: 3,
+            side: Side::Sell,
+            shares: 5,
+            price: 110,
+            attribution: Some(*b"ABCD"),
+        },
+        Order {
+            reference: 4,
+            shares: 1,
+            ..FIRST
+        },
+    ]
+}
+
+// A level as its price and its shares.
+fn level(price: u32, shares: u64) -> Level {
+    Level { price, shares }
+}
+
+// Makes a list of a machine with orders of both sides, and compares it. An error of the list itself says that memory
+// was refused.
+fn list<A: Allocator + Copy>(
     alloc: A,
     stock: &Stock<A>,
     listing: Listing,
-) -> Result<usize, AllocError> {
+) -> Result<Result<(), Fail>, AllocError> {
     match listing {
-        Listing::Levels => Ok(stock.levels(alloc, Side::Buy)?.len()),
-        Listing::Orders => Ok(stock.orders(alloc)?.len()),
+        Listing::Orders => {
+            let orders = stock.orders(alloc)?;
+            Ok(same_list("the orders", &orders, &orders_of_both()))
+        }
+        Listing::Levels(Side::Buy) => {
+            let bids = stock.levels(alloc, Side::Buy)?;
+            Ok(same_list("the bids", &bids, &[level(100, 9), level(90, 10)]))
+        }
+        Listing::Levels(Side::Sell) => {
+            let asks = stock.levels(alloc, Side::Sell)?;
+            Ok(same_list("the asks", &asks, &[level(110, 5)]))
+        }
     }
 }
 
-// Makes a list of the two bids under a refusal, which leaves the machine as it is.
+// Makes a list under a refusal, which leaves the machine as it is, and with memory where it is refused.
 fn try_listing(heap: &Refusing<Global>, listing: Listing, refusal: Refusal) -> Result<Tried, Fail> {
-    let stock = after(heap, &two_bids())?;
+    let stock = after(heap, &both_sides())?;
     heap.restart(refusal);
-    let found = length_of(heap, &stock, listing);
-    let tried = heap.tried(found.is_err());
-    if !tried.refused {
-        same("a list", &(listing, found), &(listing, Ok(2)))?;
+    let listed = list(heap, &stock, listing);
+    let tried = heap.tried(listed.is_err());
+    match listed {
+        Ok(compared) => compared?,
+        Err(AllocError) => list(heap, &stock, listing)??,
     }
-    same_machines(heap, &stock, &after(heap, &two_bids())?)?;
+    same_machines(heap, &stock, &after(heap, &both_sides())?)?;
     Ok(tried)
 }
 
-// Makes a copy under a refusal, which leaves the machine as it is.
-fn try_copy(heap: &Refusing<Global>, refusal: Refusal) -> Result<Tried, Fail> {
-    let stock = after(heap, &two_bids())?;
-    heap.restart(refusal);
-    let copy = stock.copy(heap);
-    let tried = heap.tried(copy.is_err());
-    if let Ok(copy) = copy {
-        same_machines(heap, &copy, &stock)?;
+// A machine says what the messages of both sides make.
+fn shows_both_sides<A: Allocator + Copy>(alloc: A, stock: &Stock<A>) -> Result<(), Fail> {
+    let totals = Totals {
+        trades: 2,
+        shares: 8,
+        notional: 124,
+        unprinted: 2,
+    };
+    let top = Top::of(level(100, 9), level(110, 5));
+    same(
+        "the locate code, the steps, the totals and the top",
+        &(stock.locate(), stock.steps(), stock.totals(), stock.top()),
+        &(1, 9, totals, top),
+    )?;
+    for listing in LISTINGS {
+        list(alloc, stock, listing)??;
     }
-    same_machines(heap, &stock, &after(heap, &two_bids())?)?;
+    let status = Status {
+        directory: Some(AAPL.directory_row()),
+        trading: Some(Trading {
+            state: b'T',
+            reserved: b' ',
+            reason: *b"    ",
+        }),
+        regsho: None,
+    };
+    same("the status", &stock.status(), &status)
+}
+
+// Makes a copy under a refusal, which leaves the machine as it is, and with memory where it is refused.
+fn try_copy(heap: &Refusing<Global>, refusal: Refusal) -> Result<Tried, Fail> {
+    let stock = after(heap, &both_sides())?;
+    heap.restart(refusal);
+    let made = stock.copy(heap);
+    let tried = heap.tried(made.is_err());
+    let copy = match made {
+        Ok(copy) => copy,
+        Err(AllocError) => stock.copy(heap)?,
+    };
+    shows_both_sides(heap, &copy)?;
+    same_machines(heap, &copy, &stock)?;
+    same_machines(heap, &stock, &after(heap, &both_sides())?)?;
     Ok(tried)
 }
 
 #[test]
 fn a_list_or_a_copy_without_memory_is_none(rt: HostRuntime) -> Result<(), Fail> {
     let heap = Refusing::new(rt.alloc(), Refusal::Never);
-    for listing in [Listing::Levels, Listing::Orders] {
+    for listing in LISTINGS {
         refuse_each(|refusal: Refusal| -> Result<Tried, Fail> {
             try_listing(&heap, listing, refusal)
         })?;
