@@ -8,6 +8,8 @@ mod merging;
 #[cfg(test)]
 mod schedules;
 #[cfg(test)]
+mod showing;
+#[cfg(test)]
 mod splitting;
 #[cfg(test)]
 mod turning;

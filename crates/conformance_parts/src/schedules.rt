@@ -1,13 +1,14 @@
 //! Schedules of a day: what the looks of screens see between the turns of its workers.
 use crate::days::{crossed_book, two_stocks};
+use crate::showing::{Shown, bid, shown_by, stock_with};
 use binaryfile::Day;
 use day_core::{Event, Piece, Seen, SplitFault, Turns, play};
-use itch_table::Outcome;
+use itch_table::{Order, Outcome, Side};
 use refusing::{Refusal, Refusing, Tried, refuse_any, refuse_each};
 use std::alloc::{Allocator, Global};
 use std::test::Fail;
 use std::thread::Threads;
-use support::{same, same_bytes, same_list};
+use support::{AAPL, same, same_bytes, same_list};
 
 // A look of a screen at a stock.
 fn look(screen: u32, locate: u16) -> Event {
@@ -173,9 +174,15 @@ fn a_schedule_without_memory_shows_nothing(rt: HostRuntime) -> Result<(), Fail> 
     same("some growths", &(growths > 10 && growths <= 100), &true)
 }
 
-// The words of stock 1, and how many messages its machine has taken.
-fn shown<'d, A: Allocator + Copy>(turns: &Turns<'d, A>) -> ([u64; 4], Option<u32>) {
-    (turns.look(1), turns.stock(1).map(|stock| stock.steps()))
+// The words of stock 1, and what its machine says.
+fn looked_at<'d, A: Allocator + Copy>(
+    alloc: A,
+    turns: &Turns<'d, A>,
+) -> Result<([u64; 4], Option<Shown>), Fail> {
+    match turns.stock(1) {
+        Some(stock) => Ok((turns.look(1), Some(shown_by(alloc, stock)?))),
+        None => Ok((turns.look(1), None)),
+    }
 }
 
 // Makes the workers of the crossed book under a refusal, which leaves the day as it is, and with memory where it is
@@ -191,27 +198,46 @@ fn try_new<R: Threads + Sync>(
     let tried = heap.tried(made.is_err());
     same_bytes("the day", day.bytes(), crossed_book(heap)?.bytes())?;
     let before = match made {
-        Ok(turns) => shown(&turns),
+        Ok(turns) => looked_at(heap, &turns)?,
         Err(fault) => {
             same(
                 "a refused growth",
                 &(refusal, fault),
                 &(refusal, SplitFault::Memory),
             )?;
-            shown(&Turns::new(rt, heap, &day, 2)?)
+            looked_at(heap, &Turns::new(rt, heap, &day, 2)?)?
         }
     };
-    same("before the first turn", &before, &([0; 4], Some(0)))?;
+    let stock = stock_with(1, 0, None, None, None);
+    same("before the first turn", &before, &([0; 4], Some(stock)))?;
     Ok(tried)
 }
 
-// Takes the turn after so many under a refusal. Where it is refused, looks show what they showed, and it is taken with
-// memory.
+// What looks at stock 1 of the crossed book show after each turn, and what its machine says.
+fn turns_of_crossed_book() -> [([u64; 4], Shown); 3] {
+    let row = Some(AAPL.directory_row());
+    let bought = bid(1, 100, 1_010_000);
+    let sold = Order {
+        reference: 2,
+        side: Side::Sell,
+        shares: 50,
+        price: 1_000_000,
+        attribution: None,
+    };
+    let [one, two, three] = WORDS;
+    [
+        (one, stock_with(1, 1, row, None, None)),
+        (two, stock_with(1, 2, row, Some(bought), None)),
+        (three, stock_with(1, 3, row, Some(bought), Some(sold))),
+    ]
+}
+
+// Takes the turn after so many under a refusal. Where it is refused, all is as it was, and it is taken with memory.
 fn try_turn<R: Threads + Sync>(
     rt: &R,
     heap: &Refusing<Global>,
     earlier: u32,
-    words: [u64; 4],
+    wanted: ([u64; 4], Shown),
     refusal: Refusal,
 ) -> Result<Tried, Fail> {
     let day = crossed_book(heap)?;
@@ -219,18 +245,23 @@ fn try_turn<R: Threads + Sync>(
     for _ in 0..earlier {
         turns.turn(0)?;
     }
-    let before = shown(&turns);
+    let before = looked_at(heap, &turns)?;
     heap.restart(refusal);
     let mut answer = turns.turn(0);
     let tried = heap.tried(answer.is_err());
     if tried.refused {
-        same("after a refused turn", &shown(&turns), &before)?;
+        same("after a refused turn", &looked_at(heap, &turns)?, &before)?;
         answer = turns.turn(0);
     }
     let message = earlier.saturating_add(1);
     let outcome = Outcome::Applied;
     same("a turn", &answer, &Ok(Some(Piece { message, outcome })))?;
-    same("after the turn", &shown(&turns), &(words, Some(message)))?;
+    let (words, stock) = wanted;
+    same(
+        "after the turn",
+        &looked_at(heap, &turns)?,
+        &(words, Some(stock)),
+    )?;
     Ok(tried)
 }
 
@@ -239,13 +270,10 @@ fn try_turn<R: Threads + Sync>(
 fn a_refused_turn_leaves_what_looks_show(rt: HostRuntime) -> Result<(), Fail> {
     let heap = Refusing::new(rt.alloc(), Refusal::Never);
     refuse_each(|refusal: Refusal| -> Result<Tried, Fail> { try_new(&rt, &heap, refusal) })?;
-    for (earlier, words, needs) in [
-        (0, WORDS[0], false),
-        (1, WORDS[1], true),
-        (2, WORDS[2], true),
-    ] {
+    let [one, two, three] = turns_of_crossed_book();
+    for (earlier, wanted, needs) in [(0, one, false), (1, two, true), (2, three, true)] {
         let growths = refuse_any(|refusal: Refusal| -> Result<Tried, Fail> {
-            try_turn(&rt, &heap, earlier, words, refusal)
+            try_turn(&rt, &heap, earlier, wanted, refusal)
         })?;
         same("growths", &(earlier, growths > 0), &(earlier, needs))?;
     }

@@ -2,14 +2,15 @@
 ghost use Rattle.std.specs.Prelude.{◌≡◌, IfOk};
 
 use crate::days::{parts_of, two_stocks};
+use crate::showing::{Shown, bid, shown_by, stock_with};
 use binaryfile::Day;
 use day_core::{Parts, Piece, ReplayedDay, Runner, Turned, Turns, replay_parts};
 use itch_table::{Fault, Outcome, Top};
-use refusing::{Refusal, Refusing, Tried, refuse_each};
+use refusing::{Refusal, Refusing, Tried, refuse_any, refuse_each};
 use std::alloc::{AllocError, Allocator, Global};
 use std::test::Fail;
 use std::thread::Threads;
-use support::{same, same_list};
+use support::{AAPL, MSFT, same, same_list};
 
 // What becomes of the messages of the two stocks.
 const OUTCOMES: [Outcome; 7] = [
@@ -68,30 +69,10 @@ fn take<A: Allocator + Copy>(
     wanted: Option<Turned>,
 ) -> Result<(), Fail>
     requires { day.now.payloads ≡ runner.old.day }
-    ensures { day.now.payloads ≡ runner.new.day }
+    ensures { runner.new.day ≡ runner.old.day }
 {
     let answer = runner.turn(day)?;
     same(case, &answer, &wanted)
-}
-
-// Takes a worker's turn where memory is refused.
-fn take_refused<A: Allocator + Copy>(
-    case: &str,
-    runner: &mut Runner<A>,
-    day: &Day<A>,
-) -> Result<(), Fail>
-    requires { day.now.payloads ≡ runner.old.day }
-    ensures { day.now.payloads ≡ runner.new.day }
-{
-    let answer = runner.turn(day);
-    same(case, &answer.is_err(), &true)
-}
-
-// The best bid of the stock of a locate code, where it is one of the worker's.
-fn top_of<A: Allocator + Copy>(runner: &Runner<A>, locate: u16) -> Option<Top> {
-    runner
-        .place_of(locate)
-        .map(|place| runner.stock_at(place).top())
 }
 
 #[test]
@@ -103,8 +84,6 @@ fn a_worker_does_its_messages_in_order(rt: HostRuntime) -> Result<(), Fail> {
     let unknown = Outcome::Refused(Fault::ReferenceUnknown);
     take("turn 1", &mut runner, &day, turned(1, Outcome::Applied, 0))?;
     take("turn 2", &mut runner, &day, turned(3, Outcome::Applied, 0))?;
-    let bid = top_of(&runner, 1).map(|top| (top.bid_price, top.bid_shares));
-    same("the bid after it", &bid, &Some((100, 10)))?;
     take("turn 3", &mut runner, &day, turned(5, Outcome::Applied, 0))?;
     take("turn 4", &mut runner, &day, turned(6, unlisted, 1))?;
     take("turn 5", &mut runner, &day, turned(7, unknown, 0))?;
@@ -115,10 +94,14 @@ fn a_worker_does_its_messages_in_order(rt: HostRuntime) -> Result<(), Fail> {
         None,
     )?;
     take("its next one", &mut runner, &day, None)?;
-    same("the top of stock 1", &top_of(&runner, 1), &Some(NO_TOP))?;
-    same("the top of stock 3", &top_of(&runner, 3), &Some(NO_TOP))?;
-    same("a stock of another worker", &top_of(&runner, 2), &None)?;
-    same("a stock of no message", &top_of(&runner, 5), &None)?;
+    let places = (runner.place_of(1), runner.place_of(3));
+    same("its stocks", &places, &(Some(0), Some(1)))?;
+    let others = (runner.place_of(2), runner.place_of(5));
+    same(
+        "a stock of another worker, and one of no message",
+        &others,
+        &(None, None),
+    )?;
     same("how many stocks", &runner.into_stocks().len(), &2)
 }
 
@@ -181,35 +164,147 @@ fn a_replay_without_memory_is_tried_again(rt: HostRuntime) -> Result<(), Fail> {
     same("some growths", &(growths > 10 && growths <= 100), &true)
 }
 
+// What a worker's machine of the stock of a locate code says, where the stock is one of the worker's.
+fn shown_at<A: Allocator + Copy>(
+    alloc: A,
+    runner: &Runner<A>,
+    locate: u16,
+) -> Result<Option<Shown>, Fail> {
+    match runner.place_of(locate) {
+        Some(place) => Ok(Some(shown_by(alloc, runner.stock_at(place))?)),
+        None => Ok(None),
+    }
+}
+
+// What a worker says: its number, how many messages it has, the next of them, and its stocks of locate codes 1 to 3.
+type Said = (u32, usize, Option<u32>, [Option<Shown>; 3]);
+
+fn said_by<A: Allocator + Copy>(alloc: A, runner: &Runner<A>) -> Result<Said, Fail> {
+    let one = shown_at(alloc, runner, 1)?;
+    let two = shown_at(alloc, runner, 2)?;
+    let three = shown_at(alloc, runner, 3)?;
+    let next = runner.next_message();
+    Ok((
+        runner.worker(),
+        runner.message_count(),
+        next,
+        [one, two, three],
+    ))
+}
+
+// What a turn of the only worker of the two stocks answers, the next message after it, and what the stocks say then.
+type After = (Option<Turned>, Option<u32>, [Shown; 3]);
+
+// All of its turns.
+fn turns_of_two_stocks() -> [After; 8] {
+    let (one, two) = (Some(AAPL.directory_row()), Some(MSFT.directory_row()));
+    let (ten, twenty) = (Some(bid(7, 10, 100)), Some(bid(7, 20, 200)));
+    let unlisted = Outcome::Refused(Fault::NoDirectory);
+    let unknown = Outcome::Refused(Fault::ReferenceUnknown);
+    let first = stock_with(1, 1, one, None, None);
+    let bought = stock_with(1, 2, one, ten, None);
+    let deleted = stock_with(1, 3, one, None, None);
+    let last = stock_with(1, 4, one, None, None);
+    let new = stock_with(2, 0, None, None, None);
+    let second = stock_with(2, 1, two, None, None);
+    let kept = stock_with(2, 2, two, twenty, None);
+    let third = stock_with(3, 0, None, None, None);
+    let refused = stock_with(3, 1, None, None, None);
+    [
+        (turned(1, Outcome::Applied, 0), Some(2), [first, new, third]),
+        (
+            turned(2, Outcome::Applied, 1),
+            Some(3),
+            [first, second, third],
+        ),
+        (
+            turned(3, Outcome::Applied, 0),
+            Some(4),
+            [bought, second, third],
+        ),
+        (
+            turned(4, Outcome::Applied, 1),
+            Some(5),
+            [bought, kept, third],
+        ),
+        (
+            turned(5, Outcome::Applied, 0),
+            Some(6),
+            [deleted, kept, third],
+        ),
+        (turned(6, unlisted, 2), Some(7), [deleted, kept, refused]),
+        (turned(7, unknown, 0), None, [last, kept, refused]),
+        (None, None, [last, kept, refused]),
+    ]
+}
+
+// Takes turns of a worker with memory.
+fn lead<A: Allocator + Copy>(
+    runner: &mut Runner<A>,
+    day: &Day<A>,
+    turns: &[After],
+) -> Result<(), Fail>
+    requires { day.now.payloads ≡ runner.old.day }
+    ensures { IfOk result (λ _. runner.new.day ≡ runner.old.day) }
+{
+    for wanted in turns {
+        take("an earlier turn", runner, day, wanted.0)?;
+    }
+    Ok(())
+}
+
+// Takes the last of these turns under a refusal, after the earlier ones. Where it is refused, the worker says what it
+// said before, and takes the turn with memory.
+fn try_turn<R: Threads + Sync>(
+    rt: &R,
+    heap: &Refusing<Global>,
+    turns: &[After],
+    refusal: Refusal,
+) -> Result<Tried, Fail> {
+    let Some((wanted, earlier)) = turns.split_last() else {
+        return Err(Fail::new("no turn"));
+    };
+    let day = two_stocks(heap)?;
+    let parts = parts_of(rt, heap, &day, 1)?;
+    let mut runner = runner_of(heap, &parts, 0)?;
+    lead(&mut runner, &day, earlier)?;
+    let before = said_by(heap, &runner)?;
+    heap.restart(refusal);
+    let mut answer = runner.turn(&day);
+    let tried = heap.tried(answer.is_err());
+    if tried.refused {
+        same("a refused turn", &said_by(heap, &runner)?, &before)?;
+        answer = runner.turn(&day);
+    }
+    let (turned, next, [one, two, three]) = *wanted;
+    same("a turn", &answer, &Ok(turned))?;
+    let after = (0, 7, next, [Some(one), Some(two), Some(three)]);
+    same("after a turn", &said_by(heap, &runner)?, &after)?;
+    Ok(tried)
+}
+
+// Only the two orders need memory.
 #[test]
 fn a_turn_without_memory_is_tried_again(rt: HostRuntime) -> Result<(), Fail> {
     let heap = Refusing::new(rt.alloc(), Refusal::Never);
-    let day = two_stocks(&heap)?;
-    let parts = parts_of(&rt, &heap, &day, 2)?;
-    let mut runner = runner_of(&heap, &parts, 1)?;
-    heap.restart(Refusal::From(1));
-    take(
-        "a directory message",
-        &mut runner,
-        &day,
-        turned(1, Outcome::Applied, 0),
-    )?;
-    take_refused("an order", &mut runner, &day)?;
-    same("the top after it", &top_of(&runner, 1), &Some(NO_TOP))?;
-    take_refused("the same order", &mut runner, &day)?;
-    heap.restart(Refusal::Never);
-    take(
-        "with memory",
-        &mut runner,
-        &day,
-        turned(3, Outcome::Applied, 0),
-    )?;
-    take(
-        "the next one",
-        &mut runner,
-        &day,
-        turned(5, Outcome::Applied, 0),
-    )
+    let turns = turns_of_two_stocks();
+    for (last, needs) in [
+        (1usize, false),
+        (2, false),
+        (3, true),
+        (4, true),
+        (5, false),
+        (6, false),
+        (7, false),
+        (8, false),
+    ] {
+        let some = turns.get(..last).unwrap_or(&[]);
+        let growths = refuse_any(|refusal: Refusal| -> Result<Tried, Fail> {
+            try_turn(&rt, &heap, some, refusal)
+        })?;
+        same("growths", &(last, growths > 0), &(last, needs))?;
+    }
+    Ok(())
 }
 
 // Takes a turn of one of the day's workers, which does this message.

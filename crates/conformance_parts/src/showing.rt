@@ -1,0 +1,98 @@
+//! What the machine of a stock says.
+use itch_layouts::Directory;
+use itch_table::{Level, Order, Side, Status, Top, Totals};
+use std::alloc::Allocator;
+use std::test::Fail;
+use stock_machine::Stock;
+
+/// All that the machine of a stock says, where it has at most two orders, and a level on each side.
+#[derive(Debug, Clone, Copy, PartialEq)]
+pub struct Shown {
+    locate: u16,
+    steps: u32,
+    top: Top,
+    totals: Totals,
+    status: Status,
+    // The first three orders, and the first two levels of each side.
+    orders: [Option<Order>; 3],
+    bids: [Option<Level>; 2],
+    asks: [Option<Level>; 2],
+}
+
+/// What the machine of a stock says.
+pub fn shown_by<A: Allocator + Copy>(alloc: A, stock: &Stock<A>) -> Result<Shown, Fail> {
+    let orders = stock.orders(alloc)?;
+    let bids = stock.levels(alloc, Side::Buy)?;
+    let asks = stock.levels(alloc, Side::Sell)?;
+    Ok(Shown {
+        locate: stock.locate(),
+        steps: stock.steps(),
+        top: stock.top(),
+        totals: stock.totals(),
+        status: stock.status(),
+        orders: [
+            orders.get(0).copied(),
+            orders.get(1).copied(),
+            orders.get(2).copied(),
+        ],
+        bids: [bids.get(0).copied(), bids.get(1).copied()],
+        asks: [asks.get(0).copied(), asks.get(1).copied()],
+    })
+}
+
+// An order's level, where it is the only one of its side.
+fn level_of(order: Order) -> Level {
+    Level {
+        price: order.price,
+        shares: u64::from(order.shares),
+    }
+}
+
+// The best level of a side without orders.
+const NO_LEVEL: Level = Level {
+    price: 0,
+    shares: 0,
+};
+
+/// What the machine of a stock says after so many of its messages, without trades, where it has this directory row and
+/// these orders. An ask comes only beside a bid of a lower reference.
+pub fn stock_with(
+    locate: u16,
+    steps: u32,
+    directory: Option<Directory>,
+    bid: Option<Order>,
+    ask: Option<Order>,
+) -> Shown {
+    let bids = bid.map(level_of);
+    let asks = ask.map(level_of);
+    Shown {
+        locate,
+        steps,
+        top: Top::of(bids.unwrap_or(NO_LEVEL), asks.unwrap_or(NO_LEVEL)),
+        totals: Totals {
+            trades: 0,
+            shares: 0,
+            notional: 0,
+            unprinted: 0,
+        },
+        status: Status {
+            directory,
+            trading: None,
+            regsho: None,
+        },
+        orders: [bid, ask, None],
+        bids: [bids, None],
+        asks: [asks, None],
+    }
+}
+
+/// A bid of no market participant.
+pub fn bid(reference: u64, shares: u32, price: u32) -> Order {
+    Order {
+        reference,
+        side: Side::Buy,
+        shares,
+        price,
+        attribution: None,
+    }
+}
