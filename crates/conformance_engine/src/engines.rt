@@ -1,4 +1,4 @@
-//! The four engines, called by one form.
+//! The four engines, called by one form, and the replay also by two workers.
 use binaryfile::{Feed, Sink};
 use itch_engine::{ProgFault, asm_run, dis_run, hex_run, replay_run};
 use std::alloc::Allocator;
@@ -12,12 +12,14 @@ use support::{DIGITS, FILE, REPORT, TEXT};
 #[derive(Debug, Clone, Copy, PartialEq, Eq)]
 pub(crate) enum Engine {
     Replay,
+    /// The replay by two workers, of a file of two stocks.
+    TwoWorkers,
     Digits,
     Disassembler,
     Assembler,
 }
 
-/// All of them.
+/// All of them, where the replay has one worker.
 pub(crate) const ENGINES: [Engine; 4] = [
     Engine::Replay,
     Engine::Digits,
@@ -25,11 +27,32 @@ pub(crate) const ENGINES: [Engine; 4] = [
     Engine::Assembler,
 ];
 
+// The bytes of examples/two-stocks.itch: two stocks with a bid each, and three deletes, of which the last two are refused.
+const TWO_STOCKS: &[u8] =
+    b"\x00\x27R\x00\x01\x00\x00\x00\x00\x00\x00\x00\x00AAPL    QN\x00\x00\x00dNCZ PNN1N\x00\x00\x00\x00N\
+      \x00\x27R\x00\x02\x00\x00\x00\x00\x00\x00\x00\x01MSFT    QN\x00\x00\x00dNCZ PNN1N\x00\x00\x00\x00N\
+      \x00\x24A\x00\x01\x00\x00\x00\x00\x00\x00\x00\x02\x00\x00\x00\x00\x00\x00\x00\x07B\x00\x00\x00\x0aAAPL    \x00\x00\x00d\
+      \x00\x24A\x00\x02\x00\x00\x00\x00\x00\x00\x00\x03\x00\x00\x00\x00\x00\x00\x00\x07B\x00\x00\x00\x14MSFT    \x00\x00\x00\xc8\
+      \x00\x13D\x00\x01\x00\x00\x00\x00\x00\x00\x00\x04\x00\x00\x00\x00\x00\x00\x00\x07\
+      \x00\x13D\x00\x03\x00\x00\x00\x00\x00\x00\x00\x05\x00\x00\x00\x00\x00\x00\x00\x07\
+      \x00\x13D\x00\x01\x00\x00\x00\x00\x00\x00\x00\x06\x00\x00\x00\x00\x00\x00\x00\x07";
+
+// The report of that file.
+const TWO_STOCKS_REPORT: &[u8] = b"message 6 refused F2\n\
+      message 7 refused F6\n\
+      messages 7 applied 5 passed 0 refused 2 marked no tail 0 event none\n\
+      stock 1 \"AAPL\" state none reason none regsho none\n\
+      trades 0 shares 0 notional 0 unprinted 0\n\
+      stock 2 \"MSFT\" state none reason none regsho none\n\
+      bid 200 20\n\
+      trades 0 shares 0 notional 0 unprinted 0\n";
+
 impl Engine {
-    /// The worked file in the form that the engine reads.
+    /// A file in the form that the engine reads.
     pub(crate) fn input(self) -> &'static [u8] {
         match self {
             Engine::Replay | Engine::Disassembler => FILE,
+            Engine::TwoWorkers => TWO_STOCKS,
             Engine::Digits => DIGITS,
             Engine::Assembler => TEXT,
         }
@@ -39,6 +62,7 @@ impl Engine {
     pub(crate) fn output(self) -> &'static [u8] {
         match self {
             Engine::Replay | Engine::Digits => REPORT,
+            Engine::TwoWorkers => TWO_STOCKS_REPORT,
             Engine::Disassembler => TEXT,
             Engine::Assembler => FILE,
         }
@@ -48,6 +72,7 @@ impl Engine {
     pub(crate) fn answer(self) -> Result<u32, ProgFault> {
         match self {
             Engine::Replay | Engine::Digits => Ok(1),
+            Engine::TwoWorkers => Ok(2),
             Engine::Disassembler | Engine::Assembler => Ok(0),
         }
     }
@@ -63,6 +88,7 @@ impl Engine {
         let mut sink = Sink::new(writer);
         match self {
             Engine::Replay => replay_run(rt, alloc, &mut feed, &mut sink, 1, &FreeGate),
+            Engine::TwoWorkers => replay_run(rt, alloc, &mut feed, &mut sink, 2, &FreeGate),
             Engine::Digits => hex_run(rt, alloc, &mut feed, &mut sink),
             Engine::Disassembler => dis_run(alloc, &mut feed, &mut sink).map(|()| 0),
             Engine::Assembler => asm_run(alloc, &mut feed, &mut sink).map(|()| 0),

@@ -5,8 +5,8 @@ use std::alloc::Allocator;
 use std::test::Fail;
 use support::{AMPLE, Pieces, STORED_RUN, same, same_bytes};
 
-// A file, and its payloads, whether it is marked, and its tail.
-type File<'a> = (&'a [u8], &'a [&'a [u8]], bool, &'a [u8]);
+/// A file, and its payloads, whether it is marked, and its tail.
+pub type File<'a> = (&'a [u8], &'a [&'a [u8]], bool, &'a [u8]);
 
 const FILES: [File; 8] = [
     (b"", &[], false, b""),
@@ -19,8 +19,8 @@ const FILES: [File; 8] = [
     (THREE, &[b"A", b"BC", b"D"], true, b"\xff"),
 ];
 
-// A day has the parts of its file, and gives its bytes back.
-fn try_day<A: Allocator + Copy>(alloc: A, day: &Day<A>, file: File) -> Result<(), Fail> {
+/// A day has the parts of its file, and gives its bytes back.
+pub fn try_day<A: Allocator + Copy>(alloc: A, day: &Day<A>, file: File) -> Result<(), Fail> {
     let (bytes, payloads, marked, tail) = file;
     same("how many payloads", &(day.len() as usize), &payloads.len())?;
     let mut number = 0usize;
@@ -29,8 +29,17 @@ fn try_day<A: Allocator + Copy>(alloc: A, day: &Day<A>, file: File) -> Result<()
         number = number.wrapping_add(1);
     }
     same("payloads in turn", &number, &payloads.len())?;
+    for number in 1..=day.len() {
+        let wanted = payloads.get(number as usize - 1).copied();
+        same(
+            "a payload by its number",
+            &Some(day.payload(number)),
+            &wanted,
+        )?;
+    }
     same("the marker", &day.marked(), &marked)?;
     same_bytes("the tail", day.tail(), tail)?;
+    same_bytes("the bytes that were loaded", day.bytes(), bytes)?;
     let mut sent = Vec::new(alloc);
     same(
         "a day is sent",

@@ -1,10 +1,11 @@
 //! Limits, and memory that is refused.
 use crate::THREE;
+use crate::days::{File, try_day};
 use binaryfile::{Day, Feed, Limits, LoadFault, read_to_end};
 use refusing::{Refusal, Refusing, Tried, refuse_each};
 use std::alloc::{Allocator, Global};
 use std::test::Fail;
-use support::{AMPLE, Pieces, STORED_RUN, same, same_bytes};
+use support::{AMPLE, Pieces, STORED_RUN, same};
 
 // The limits of bytes and messages under which the three entries are loaded, and the fault.
 const LIMITS: [(u64, u32, Option<LoadFault>); 5] = [
@@ -83,32 +84,57 @@ fn each_limit_below_a_file_is_kept(rt: HostRuntime) -> Result<(), Fail> {
     Ok(())
 }
 
-// What a load under a refusal leaves to be read: all where there is no room for the first read, which takes all.
-fn left_by(refusal: Refusal) -> &'static [u8] {
-    match refusal {
-        Refusal::Only(1) | Refusal::From(1) => THREE,
-        _ => b"",
-    }
+// A file of which each read gives three bytes, and what is left of it after each number of reads.
+const FOUR: &[u8] = b"\x00\x01A\x00\x01B\x00\x01C\x00\x01D\x00\x00\xff";
+
+const RESTS: [File; 6] = [
+    (FOUR, &[b"A", b"B", b"C", b"D"], true, b"\xff"),
+    (
+        b"\x00\x01B\x00\x01C\x00\x01D\x00\x00\xff",
+        &[b"B", b"C", b"D"],
+        true,
+        b"\xff",
+    ),
+    (
+        b"\x00\x01C\x00\x01D\x00\x00\xff",
+        &[b"C", b"D"],
+        true,
+        b"\xff",
+    ),
+    (b"\x00\x01D\x00\x00\xff", &[b"D"], true, b"\xff"),
+    (b"\x00\x00\xff", &[], true, b"\xff"),
+    (b"", &[], false, b""),
+];
+
+// How many reads that gave bytes a load of the file makes under a refusal.
+fn reads_under(heap: &Refusing<Global>, refusal: Refusal) -> u64 {
+    let mut reader = Pieces::new(FOUR, 3);
+    heap.restart(refusal);
+    let _loaded = Day::load(heap, &mut Feed::new(&mut reader), AMPLE);
+    reader.calls().min(5)
 }
 
-// Loads the file under a refusal. Where a growth is refused, the load is, and its feed has not failed and stays past
-// the bytes that were taken. A load of another feed has memory then.
+// Loads the file under a refusal. Where that is out of memory, the feed has not failed and stays past the bytes that
+// were taken: a load from it with memory is the day of the rest.
 fn try_load(heap: &Refusing<Global>, refusal: Refusal) -> Result<Tried, Fail> {
-    let mut reader = Pieces::new(THREE, THREE.len());
-    let mut feed = Feed::new(&mut reader);
+    let reads = reads_under(heap, refusal);
+    let mut feed = Feed::new(Pieces::new(FOUR, 3));
     heap.restart(refusal);
-    let fault = Day::load(heap, &mut feed, AMPLE).err();
-    let tried = heap.tried(fault.is_some());
-    let wanted = match refusal {
-        Refusal::Never => None,
-        Refusal::Only(_) | Refusal::From(_) => Some(LoadFault::Memory),
+    let loaded = Day::load(heap, &mut feed, AMPLE);
+    let tried = heap.tried(loaded.is_err());
+    same("a feed", &(refusal, feed.failed()), &(refusal, false))?;
+    let (day, taken) = match loaded {
+        Ok(day) => (day, 0),
+        Err(fault) => {
+            let memory = LoadFault::Memory;
+            same("a fault", &(refusal, fault), &(refusal, memory))?;
+            (Day::load(heap, &mut feed, AMPLE)?, reads)
+        }
     };
-    let found = (refusal, fault, feed.failed());
-    same("a load", &found, &(refusal, wanted, false))?;
-    let rest = read_to_end(heap, &mut feed, 100)?;
-    same_bytes("what is left", &rest, left_by(refusal))?;
-    let loaded = Day::load(heap, &mut Feed::new(THREE), AMPLE)?;
-    same_bytes("with memory", loaded.bytes(), THREE)?;
+    let Some(rest) = RESTS.get(taken as usize) else {
+        return Err(Fail::new("more reads than the file has"));
+    };
+    try_day(heap, &day, *rest)?;
     Ok(tried)
 }
 
@@ -118,7 +144,7 @@ fn each_growth_of_a_load_may_be_refused(rt: HostRuntime) -> Result<(), Fail> {
     let growths = refuse_each(|refusal: Refusal| -> Result<Tried, Fail> {
         try_load(&heap, refusal)
     })?;
-    same("that there are growths", &(growths > 1), &true)
+    same("that there are growths", &(growths > 3), &true)
 }
 
 // The fault of a load that may grow so often, and that of a day of bytes that may not grow at all.
