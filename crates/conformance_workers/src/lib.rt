@@ -11,4 +11,6 @@ mod runs;
 #[cfg(test)]
 mod screens;
 #[cfg(test)]
+mod stocks;
+#[cfg(test)]
 mod turns;

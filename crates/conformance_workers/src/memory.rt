@@ -1,4 +1,5 @@
 //! Runs that are refused memory.
+use crate::runs::same_two_stocks;
 use crate::screens::first_screen;
 use binaryfile::Day;
 use refusing::{Refusal, Refusing, Tried, refuse_each};
@@ -32,8 +33,8 @@ fn readings() -> [Reading; 5] {
     ]
 }
 
-// A run by two workers under a refusal, on a new board: its fault, what became of it, and what a screen of the first
-// stock, made before the run, reads after it.
+// A run by two workers under a refusal, on a new board: its fault, what a screen of the first stock, made before the
+// run, reads after it, and what became of it. A run that answers has made the whole day.
 fn run_under<'h, R: Threads + Wait + Sync>(
     rt: &R,
     heap: &'h Refusing<Global>,
@@ -43,9 +44,16 @@ fn run_under<'h, R: Threads + Wait + Sync>(
     let (board, mut writers) = Board::new(rt, &heap, day)?;
     let mut screen = first_screen(rt, &board, &mut writers)?;
     heap.restart(refusal);
-    let fault = run(rt, heap, day, &board, writers, 2, &FreeGate).err();
+    let ended = run(rt, heap, day, &board, writers, 2, &FreeGate);
+    let tried = heap.tried(ended.is_err());
     let reading = screen.read(rt, &board);
-    Ok((fault, reading, heap.tried(fault.is_some())))
+    match ended {
+        Ok(replayed) => {
+            same_two_stocks(heap, &replayed)?;
+            Ok((None, reading, tried))
+        }
+        Err(fault) => Ok((Some(fault), reading, tried)),
+    }
 }
 
 // Whether a run that ends so is as it must be: either it answers, and a screen reads the last message of its stock, or

@@ -1,5 +1,6 @@
 //! Whole runs, by several numbers of workers.
 use crate::screens::first_screen;
+use crate::stocks::{after_two_stocks, said_by};
 use binaryfile::Day;
 use itch_table::{Fault, Outcome};
 use refusing::{Refusal, Refusing};
@@ -7,10 +8,9 @@ use std::alloc::{Allocator, Global};
 use std::sync::Wait;
 use std::test::Fail;
 use std::thread::Threads;
-use stock_machine::Stock;
 use stock_workers::{FreeGate, Replayed, RunFault, run};
 use support::{crossed_book, day_with, same, same_list, system, two_stocks};
-use top_cell::{Board, Reading, TopWriter};
+use top_cell::{Board, Reading};
 
 /// A day, replayed on a new board.
 pub fn replayed<R: Threads + Wait + Sync>(
@@ -25,25 +25,6 @@ pub fn replayed<R: Threads + Wait + Sync>(
     ))
 }
 
-// The message at which the writer at a place stands.
-fn message_at(writers: &[TopWriter], place: usize) -> Option<u32> {
-    match writers.get(place) {
-        Some(writer) => Some(writer.message()),
-        None => None,
-    }
-}
-
-// The bid and the ask of the stock at a place.
-fn prices_at(stocks: &[Stock<Global>], place: usize) -> Option<(u32, u32)> {
-    match stocks.get(place) {
-        Some(stock) => {
-            let top = stock.top();
-            Some((top.bid_price, top.ask_price))
-        }
-        None => None,
-    }
-}
-
 // What became of the messages of two stocks.
 const OUTCOMES: [Outcome; 7] = [
     Outcome::Applied,
@@ -55,31 +36,30 @@ const OUTCOMES: [Outcome; 7] = [
     Outcome::Refused(Fault::ReferenceUnknown),
 ];
 
+/// Compares all that the day of two stocks makes.
+pub fn same_two_stocks<A: Allocator + Copy>(alloc: A, replayed: &Replayed<A>) -> Result<(), Fail> {
+    same_list("the outcomes", &replayed.outcomes, &OUTCOMES)?;
+    let counts = (replayed.stocks.len(), replayed.writers.len());
+    same(
+        "stocks, writers and the event",
+        &(counts, replayed.event),
+        &((3, 3), None),
+    )?;
+    for (stock, wanted) in replayed.stocks.iter().zip(after_two_stocks()) {
+        same("a stock", &said_by(alloc, stock), &Some(wanted))?;
+    }
+    for (writer, wanted) in replayed.writers.iter().zip([(1, 7), (2, 4), (3, 6)]) {
+        same("a writer", &(writer.locate(), writer.message()), &wanted)?;
+    }
+    Ok(())
+}
+
 #[test]
 fn two_stocks_are_the_same_for_each_number_of_workers(rt: HostRuntime) -> Result<(), Fail> {
     let alloc = rt.alloc();
     let day = two_stocks(alloc)?;
     for workers in [1, 2, 3, 64] {
-        let replayed = replayed(&rt, &alloc, &day, workers)?;
-        same_list("the outcomes", &replayed.outcomes, &OUTCOMES)?;
-        same("how many stocks", &replayed.stocks.len(), &3)?;
-        same(
-            "the second stock",
-            &prices_at(&replayed.stocks, 1),
-            &Some((200, 0)),
-        )?;
-        same("how many writers", &replayed.writers.len(), &3)?;
-        same(
-            "the first writer",
-            &message_at(&replayed.writers, 0),
-            &Some(7),
-        )?;
-        same(
-            "the last writer",
-            &message_at(&replayed.writers, 2),
-            &Some(6),
-        )?;
-        same("the event", &replayed.event, &None)?;
+        same_two_stocks(alloc, &replayed(&rt, &alloc, &day, workers)?)?;
     }
     Ok(())
 }
@@ -90,10 +70,16 @@ fn a_crossed_book_ends_at_its_last_message(rt: HostRuntime) -> Result<(), Fail> 
     let day = crossed_book(alloc)?;
     for workers in [1, 2, 3, 64] {
         let replayed = replayed(&rt, &alloc, &day, workers)?;
-        same("how many writers", &replayed.writers.len(), &1)?;
-        same("the writer", &message_at(&replayed.writers, 0), &Some(3))?;
-        let prices = prices_at(&replayed.stocks, 0);
-        same("the stock", &prices, &Some((1_010_000, 1_000_000)))?;
+        let counts = (replayed.stocks.len(), replayed.writers.len());
+        same("how many stocks and writers", &counts, &(1, 1))?;
+        for writer in &replayed.writers {
+            same("the writer", &writer.message(), &3)?;
+        }
+        for stock in &replayed.stocks {
+            let top = stock.top();
+            let prices = (top.bid_price, top.ask_price);
+            same("the stock", &prices, &(1_010_000, 1_000_000))?;
+        }
     }
     Ok(())
 }

@@ -4,6 +4,7 @@ ghost use Rattle.top_cell.specs.Boards.{IsOn};
 ghost use Rattle.stock_workers.specs.Running.{IsWaiting};
 
 use crate::screens::first_screen;
+use crate::stocks::{Said, said_by, with_bid};
 use binaryfile::Day;
 use day_core::{Parts, Piece, Turns, split};
 use itch_table::{Fault, Outcome, Top};
@@ -13,7 +14,7 @@ use std::sync::Wait;
 use std::test::Fail;
 use std::thread::Threads;
 use stock_workers::{FreeGate, Worker};
-use support::{crossed_book, same, same_list, two_stocks};
+use support::{AAPL, MSFT, Ticker, crossed_book, same, same_list, two_stocks};
 use top_cell::{Board, Reading, Screen, TopWriter};
 
 // What the only worker of a day is made of, and a screen of the day's first stock.
@@ -79,14 +80,6 @@ fn turn<R: Threads + Wait + Sync, A: Allocator + Copy>(
 {
     worker.turn(rt, day, board, &FreeGate)
 }
-
-// A stock without orders.
-const NO_TOP: Top = Top {
-    bid_price: 0,
-    bid_shares: 0,
-    ask_price: 0,
-    ask_shares: 0,
-};
 
 // What becomes of a message.
 fn piece(message: u32, outcome: Outcome) -> Option<Piece> {
@@ -205,27 +198,23 @@ fn a_worker_without_memory_is_none(rt: HostRuntime) -> Result<(), Fail> {
     same("some growths", &(growths > 2 && growths <= 100), &true)
 }
 
-// What a worker has of a stock: the steps and the top of its machine, and the message of its writer.
+// What a worker has of a stock: what its machine says, and the message of its writer.
 #[derive(Debug, Clone, Copy, PartialEq)]
 struct State {
-    steps: u32,
-    top: Top,
+    stock: Said,
     message: u32,
 }
 
-fn state_of<A: Allocator + Copy>(worker: &Worker<A>, locate: u16) -> Option<State> {
-    let stock = worker.stock(locate)?;
-    let writer = worker.writer(locate)?;
-    Some(State {
-        steps: stock.steps(),
-        top: stock.top(),
-        message: writer.message(),
-    })
+fn state_of<A: Allocator + Copy>(alloc: A, worker: &Worker<A>, locate: u16) -> Option<State> {
+    let stock = said_by(alloc, worker.stock(locate)?)?;
+    let message = worker.writer(locate)?.message();
+    Some(State { stock, message })
 }
 
 // What a refused turn leaves as it was: the two stocks that have orders, and what a screen reads.
 fn see<R: Wait, A: Allocator + Copy>(
     rt: &R,
+    alloc: A,
     board: &Board<'_, A>,
     worker: &Worker<A>,
     screen: &mut Screen,
@@ -234,21 +223,16 @@ fn see<R: Wait, A: Allocator + Copy>(
     ensures { screen.new.place ≡ screen.old.place }
 {
     (
-        state_of(worker, 1),
-        state_of(worker, 2),
+        state_of(alloc, worker, 1),
+        state_of(alloc, worker, 2),
         screen.read(rt, board),
     )
 }
 
 // A stock after so many of its messages, of which this is the last, with these shares at its only bid.
-fn stock_after(steps: u32, message: u32, bid_price: u32, bid_shares: u64) -> State {
+fn stock_after(stock: Ticker, steps: u32, message: u32, price: u32, shares: u32) -> State {
     State {
-        steps,
-        top: Top {
-            bid_price,
-            bid_shares,
-            ..NO_TOP
-        },
+        stock: with_bid(stock, steps, price, shares),
         message,
     }
 }
@@ -261,25 +245,25 @@ type After = (Option<Piece>, State, State);
 fn turns_of_two_stocks() -> [After; 8] {
     let unlisted = Outcome::Refused(Fault::NoDirectory);
     let unknown = Outcome::Refused(Fault::ReferenceUnknown);
-    let one = stock_after(2, 3, 100, 10);
-    let two = stock_after(2, 4, 200, 20);
+    let start = stock_after(AAPL, 1, 1, 0, 0);
+    let one = stock_after(AAPL, 2, 3, 100, 10);
+    let deleted = stock_after(AAPL, 3, 5, 0, 0);
+    let end = stock_after(AAPL, 4, 7, 0, 0);
+    let listed = stock_after(MSFT, 1, 2, 0, 0);
+    let two = stock_after(MSFT, 2, 4, 200, 20);
     [
         (
             piece(1, Outcome::Applied),
-            stock_after(1, 1, 0, 0),
-            stock_after(0, 0, 0, 0),
+            start,
+            stock_after(MSFT, 0, 0, 0, 0),
         ),
-        (
-            piece(2, Outcome::Applied),
-            stock_after(1, 1, 0, 0),
-            stock_after(1, 2, 0, 0),
-        ),
-        (piece(3, Outcome::Applied), one, stock_after(1, 2, 0, 0)),
+        (piece(2, Outcome::Applied), start, listed),
+        (piece(3, Outcome::Applied), one, listed),
         (piece(4, Outcome::Applied), one, two),
-        (piece(5, Outcome::Applied), stock_after(3, 5, 0, 0), two),
-        (piece(6, unlisted), stock_after(3, 5, 0, 0), two),
-        (piece(7, unknown), stock_after(4, 7, 0, 0), two),
-        (None, stock_after(4, 7, 0, 0), two),
+        (piece(5, Outcome::Applied), deleted, two),
+        (piece(6, unlisted), deleted, two),
+        (piece(7, unknown), end, two),
+        (None, end, two),
     ]
 }
 
@@ -317,22 +301,22 @@ fn try_turn<R: Threads + Wait + Sync>(
     let day = two_stocks(heap)?;
     let (mut worker, board, mut screen) = only_worker(rt, &heap, &day)?;
     lead(rt, &day, &board, &mut worker, earlier)?;
-    let before = see(rt, &board, &worker, &mut screen);
+    let before = see(rt, heap, &board, &worker, &mut screen);
     heap.restart(refusal);
     let mut answer = turn(rt, &day, &board, &mut worker);
     let tried = heap.tried(answer.is_err());
     if tried.refused {
-        let after = see(rt, &board, &worker, &mut screen);
+        let after = see(rt, heap, &board, &worker, &mut screen);
         same("a refused turn", &after, &before)?;
         answer = turn(rt, &day, &board, &mut worker);
     }
-    let (first, second, reading) = see(rt, &board, &worker, &mut screen);
+    let (first, second, reading) = see(rt, heap, &board, &worker, &mut screen);
     let (piece, one, two) = *wanted;
     same("a turn", &answer, &Ok(piece))?;
     same(
         "the stocks and the screen",
         &(first, second, words_of(reading)),
-        &(Some(one), Some(two), one.top.to_words(one.message)),
+        &(Some(one), Some(two), one.stock.top.to_words(one.message)),
     )?;
     Ok(tried)
 }
