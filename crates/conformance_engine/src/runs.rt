@@ -157,7 +157,6 @@ fn try_refusal<T: AllocGlobal + Threads + Wait + Sync>(
     refusal: Refusal,
 ) -> Result<Tried, Fail> {
     let heap = Refusing::new(rt.alloc(), refusal);
-    if engine == Engine::Digits { return Err(Fail::new("temporary")); }
     let mut output = Vec::new(rt.alloc());
     let mut answer = engine.run(rt, &heap, engine.input(), &mut output);
     let tried = heap.tried(answer.is_err());
@@ -186,8 +185,8 @@ fn engines_send_nothing_without_memory(rt: HostRuntime) -> Result<(), Fail> {
         })?;
         same(
             "that there are growths",
-            &(engine, growths),
-            &(engine, 0),
+            &(engine, growths > 3),
+            &(engine, true),
         )?;
     }
     Ok(())
