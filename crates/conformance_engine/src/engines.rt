@@ -27,7 +27,7 @@ pub(crate) const ENGINES: [Engine; 4] = [
     Engine::Assembler,
 ];
 
-// The bytes of examples/two-stocks.itch: two stocks with a bid each, and three deletes, of which the last two are refused.
+// The bytes of examples/two-stocks.itch: two stocks with a bid each, and three deletes, two of which are refused.
 const TWO_STOCKS: &[u8] =
     b"\x00\x27R\x00\x01\x00\x00\x00\x00\x00\x00\x00\x00AAPL    QN\x00\x00\x00dNCZ PNN1N\x00\x00\x00\x00N\
       \x00\x27R\x00\x02\x00\x00\x00\x00\x00\x00\x00\x01MSFT    QN\x00\x00\x00dNCZ PNN1N\x00\x00\x00\x00N\
