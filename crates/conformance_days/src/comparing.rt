@@ -43,7 +43,7 @@ fn same_levels<A: Allocator + Copy>(
     Ok(())
 }
 
-// The orders, in a list and one by one, and one that never lives.
+// The orders, in a list and one by one, and that of the greatest reference.
 fn same_orders<A: Allocator + Copy>(
     alloc: A,
     plain: &Plain<A>,
@@ -55,7 +55,11 @@ fn same_orders<A: Allocator + Copy>(
     for order in &wanted {
         same("an order", &stock.order(order.reference), &Some(*order))?;
     }
-    same("no order", &stock.order(u64::MAX), &None)
+    same(
+        "the order of the greatest reference",
+        &stock.order(u64::MAX),
+        &plain.order(stock.locate(), u64::MAX),
+    )
 }
 
 /// Compares all that the machine of a stock says with what the plain machine says of that stock.

@@ -3,14 +3,14 @@
 use std::alloc::{AllocError, Allocator};
 use std::test::Fail;
 
-// The words of a line; a comment has none.
+// The words of a line; a comment has none. A line that a line feed was put into is two, whose words are read as one's.
 fn words_of<A: Allocator>(alloc: A, line: &[u8]) -> Result<Vec<&[u8], A>, AllocError> {
     let line = line.strip_suffix(b"\n").unwrap_or(line);
     let mut words: Vec<&[u8], A> = Vec::new(alloc);
     let mut quoted = false;
     let parts = line.split(|byte: &u8| -> bool {
         quoted ^= *byte == b'"';
-        *byte == b' ' && !quoted
+        (*byte == b' ' || *byte == b'\n') && !quoted
     });
     for part in parts {
         if words.is_empty() && part.first() == Some(&b'#') {

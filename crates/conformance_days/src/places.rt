@@ -26,6 +26,35 @@ fn plain_at<A: Allocator + Copy>(
     Ok((plain, outcome))
 }
 
+// Goes to a place, and compares the outcome and the event there with those that are wanted.
+fn go<A: Allocator + Copy>(
+    alloc: A,
+    debugger: &mut Debugger<'_, A>,
+    n: u32,
+    outcome: Option<Outcome>,
+    event: Option<u8>,
+) -> Result<(), Fail> {
+    same("a move", &debugger.goto(alloc, n), &Ok(()))?;
+    same(
+        "a place",
+        &(debugger.position(), debugger.outcome(), debugger.event()),
+        &(n, outcome, event),
+    )
+}
+
+// Compares the stocks at a debugger's position with those of the plain machine.
+fn same_stocks_at<A: Allocator + Copy>(
+    alloc: A,
+    plain: &Plain<A>,
+    debugger: &mut Debugger<'_, A>,
+    locates: &[u16],
+) -> Result<(), Fail> {
+    for locate in locates {
+        same_stock(alloc, plain, &debugger.stock(alloc, *locate)?)?;
+    }
+    Ok(())
+}
+
 // Goes to a place, and compares the outcome, the event and all stocks there with those of the plain machine.
 fn compare_at<A: Allocator + Copy>(
     alloc: A,
@@ -35,14 +64,23 @@ fn compare_at<A: Allocator + Copy>(
     locates: &[u16],
 ) -> Result<(), Fail> {
     let (plain, outcome) = plain_at(alloc, day, n)?;
-    same("a move", &debugger.goto(alloc, n), &Ok(()))?;
-    same(
-        "a place",
-        &(debugger.position(), debugger.outcome(), debugger.event()),
-        &(n, outcome, plain.event()),
-    )?;
-    for locate in locates {
-        same_stock(alloc, &plain, &debugger.stock(alloc, *locate)?)?;
+    go(alloc, debugger, n, outcome, plain.event())?;
+    same_stocks_at(alloc, &plain, debugger, locates)
+}
+
+// Compares a debugger with the plain machine at all places, forwards and backwards.
+fn compare_all<A: Allocator + Copy>(
+    alloc: A,
+    day: &Day<A>,
+    debugger: &mut Debugger<'_, A>,
+    locates: &[u16],
+) -> Result<(), Fail> {
+    let every = if day.len() <= 100 { 1 } else { 100 };
+    for n in 0..=day.len() {
+        if n % every == 0 {
+            compare_at(alloc, day, debugger, n, locates)?;
+            compare_at(alloc, day, debugger, day.len() - n, locates)?;
+        }
     }
     Ok(())
 }
@@ -55,18 +93,12 @@ pub fn compare_places<R: Threads + Sync, A: Allocator + Copy + Send + Sync>(
     day: &Day<A>,
 ) -> Result<(), Fail> {
     let locates = locates(rt, alloc, day)?;
-    let every = if day.len() <= 100 { 1 } else { 100 };
     for distance in DISTANCES {
         if distance == 0 {
             return Err(Fail::new("copies lie no message apart"));
         }
         let mut debugger = Debugger::new(alloc, day, distance)?;
-        for n in 0..=day.len() {
-            if n % every == 0 {
-                compare_at(alloc, day, &mut debugger, n, &locates)?;
-                compare_at(alloc, day, &mut debugger, day.len() - n, &locates)?;
-            }
-        }
+        compare_all(alloc, day, &mut debugger, &locates)?;
     }
     Ok(())
 }

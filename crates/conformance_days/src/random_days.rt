@@ -21,10 +21,10 @@ pub const DAYS: u64 = 100;
 pub const MESSAGES: u32 = 97;
 
 // How many texts with one byte changed are assembled for each day.
-const CHANGED_TEXTS: u32 = 50;
+const CHANGED_TEXTS: u32 = 100;
 
 // How many of these denote a file at least, over all days.
-const ASSEMBLED_TEXTS: u64 = 100;
+const ASSEMBLED_TEXTS: u64 = 400;
 
 // Breakpoints of each kind.
 fn breakpoints() -> Result<[Break; 4], Fail> {

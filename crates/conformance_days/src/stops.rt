@@ -117,6 +117,37 @@ fn stops_along<A: Allocator + Copy>(
     Ok(stops)
 }
 
+// Compares the messages at which the debugger stops on its way with those that are wanted.
+fn compare_way<A: Allocator + Copy>(
+    alloc: A,
+    debugger: &mut Debugger<'_, A>,
+    onward: bool,
+    wanted: &[u32],
+) -> Result<(), Fail> {
+    let found = stops_along(alloc, debugger, onward)?;
+    let way = if onward {
+        "stops onward"
+    } else {
+        "stops rearward"
+    };
+    same_list(way, &found, wanted)
+}
+
+// Compares the stops on the way to the end of a day, and those on the way back, which begins at the last message.
+fn compare_ways<A: Allocator + Copy>(
+    alloc: A,
+    debugger: &mut Debugger<'_, A>,
+    stops: &mut Vec<u32, A>,
+) -> Result<(), Fail> {
+    compare_way(alloc, debugger, true, stops)?;
+    if stops.last() == Some(&debugger.last()) {
+        stops.pop();
+    }
+    stops.reverse();
+    compare_way(alloc, debugger, false, stops)?;
+    same("the start", &debugger.position(), &0)
+}
+
 /// Compares the messages at which a breakpoint stops, on the way to the end of a day and on the way back, with those
 /// that the bytes of the messages and the plain machine give.
 pub fn compare_stops<A: Allocator + Copy>(
@@ -124,17 +155,8 @@ pub fn compare_stops<A: Allocator + Copy>(
     day: &Day<A>,
     breakpoint: Break,
 ) -> Result<(), Fail> {
-    let mut wanted = stops_of(alloc, day, &breakpoint)?;
+    let mut stops = stops_of(alloc, day, &breakpoint)?;
     let mut debugger = Debugger::new(alloc, day, 7)?;
     debugger.add_break(alloc, breakpoint)?;
-    let found = stops_along(alloc, &mut debugger, true)?;
-    same_list("stops onward", &found, &wanted)?;
-    // The way back begins at the last message.
-    if wanted.last() == Some(&day.len()) {
-        wanted.pop();
-    }
-    wanted.reverse();
-    let found = stops_along(alloc, &mut debugger, false)?;
-    same_list("stops rearward", &found, &wanted)?;
-    same("the start", &debugger.position(), &0)
+    compare_ways(alloc, &mut debugger, &mut stops)
 }

@@ -137,6 +137,15 @@ fn take_changed<A: Allocator + Copy>(
     }
 }
 
+// One from the space to `z`, or any.
+fn any_byte(random: &mut SmallRng) -> u8 {
+    if random.random_ratio(1, 2) {
+        random.random_range(b' '..=b'z')
+    } else {
+        random.random_range(0..=u8::MAX)
+    }
+}
+
 /// Assembles the text of a day, which gives its bytes, and then that text with one byte changed, so often: it denotes a
 /// file that differs by what that byte's line means, or that line or a later one is faulty. Answers how many denote a
 /// file.
@@ -158,7 +167,7 @@ pub fn compare_texts<A: Allocator + Copy>(
         let Some(byte) = other.get_mut(place) else {
             continue;
         };
-        *byte = random.random_range(b' '..=b'z');
+        *byte = any_byte(random);
         if take_changed(alloc, day, &text, &other, place)? {
             assembled = assembled.saturating_add(1);
         }
