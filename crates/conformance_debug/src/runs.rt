@@ -3,7 +3,7 @@ use crate::worked::{TRADED, day_in};
 use binaryfile::{Feed, Sink};
 use itch_debug::debug_run;
 use itch_engine::ProgFault;
-use std::alloc::Allocator;
+use std::alloc::{AllocError, Allocator};
 use std::io::ErrorKind;
 use std::test::Fail;
 use support::{Failure, Narrow, Pieces, same, same_bytes};
@@ -100,4 +100,37 @@ fn a_writer_that_fails_has_taken_a_prefix_of_the_answers(rt: HostRuntime) -> Res
         )?;
     }
     Ok(())
+}
+
+// Adds spaces and a command, a line of this many bytes without the line feed that may end it.
+fn add_line<A: Allocator>(
+    lines: &mut Vec<u8, A>,
+    length: usize,
+    command: &[u8],
+) -> Result<(), AllocError> {
+    let words = command.strip_suffix(b"\n").unwrap_or(command);
+    for _ in words.len()..length {
+        lines.push(b' ')?;
+    }
+    lines.extend_from_slice(command)
+}
+
+// Runs a session with a line of 1,000 bytes, one of 1,001 and, at its end without a line feed, one of this many, in
+// pieces of several sizes.
+fn run_long_lines<A: Allocator + Copy>(alloc: A, last: usize, wanted: &str) -> Result<(), Fail> {
+    let mut lines = Vec::new(alloc);
+    add_line(&mut lines, 1_000, b"goto 5\n")?;
+    add_line(&mut lines, 1_001, b"quit\n")?;
+    add_line(&mut lines, last, b"step")?;
+    for most in [1, 1_000, 1_001, 4_096] {
+        run(alloc, Pieces::new(&lines, most), 0, None, wanted.as_bytes())?;
+    }
+    Ok(())
+}
+
+#[test]
+fn a_line_of_a_session_has_at_most_a_thousand_bytes(rt: HostRuntime) -> Result<(), Fail> {
+    let alloc = rt.alloc();
+    run_long_lines(alloc, 1_000, "at 5 applied\n? command\nat 6 applied\n")?;
+    run_long_lines(alloc, 1_001, "at 5 applied\n? command\n? command\n")
 }
