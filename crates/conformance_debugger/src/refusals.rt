@@ -3,7 +3,7 @@ use crate::calls::{Answer, Call, follow};
 use crate::days::{BIDS, time_break, tour};
 use binaryfile::Day;
 use debugger::{Break, DebugFault, Debugger};
-use itch_table::Outcome;
+use itch_table::{Outcome, Top, Totals};
 use refusing::{Refusal, Refusing, Tried, refuse_each};
 use std::alloc::{Allocator, Global};
 use std::test::Fail;
@@ -55,8 +55,25 @@ fn debugger_at_3<A: Allocator + Copy>(alloc: A, day: &Day<A>) -> Result<Debugger
     Ok(debugger)
 }
 
-// Makes a call under a refusal. Where it is refused, it leaves the debugger as it was, and is made with memory. In the
-// end the answer and the debugger are those of a call that was never refused.
+// The stock at that place: a bid of which a part was executed.
+const AT_3: Answer = Answer::Shown(
+    Top {
+        bid_price: 1_500_000,
+        bid_shares: 60,
+        ask_price: 0,
+        ask_shares: 0,
+    },
+    Totals {
+        trades: 1,
+        shares: 40,
+        notional: 60_000_000,
+        unprinted: 0,
+    },
+    None,
+);
+
+// Makes a call under a refusal. Where it is refused, it leaves the debugger as it was, its stock too, and is made with
+// memory. In the end the answer and the debugger are those of a call that was never refused.
 fn try_call(heap: &Refusing<Global>, call: Call, refusal: Refusal) -> Result<Tried, Fail> {
     let day = tour(heap)?;
     let mut debugger = debugger_at_3(heap, &day)?;
@@ -66,6 +83,7 @@ fn try_call(heap: &Refusing<Global>, call: Call, refusal: Refusal) -> Result<Tri
     let tried = heap.tried(done.answer == Err(DebugFault::Memory));
     if tried.refused {
         same("after a refusal", &done.seen, &seen_of(&twin))?;
+        follow(heap, &mut debugger, &[(Call::Stock(1), Ok(AT_3))])?;
         done = done_by(heap, &mut debugger, &call);
     }
     same("a call", &done, &done_by(heap, &mut twin, &call))?;
