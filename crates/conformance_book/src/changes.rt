@@ -180,13 +180,22 @@ fn shows_mixed<A: Allocator + Copy>(alloc: A, book: &Book<A>, calls: &[Call]) ->
     same_books(alloc, book, &mixed_book(alloc, calls)?)
 }
 
+// A copy shows its book as it was when it was made, until it is changed in the same way.
+fn change_apart<A: Allocator + Copy>(
+    alloc: A,
+    book: &mut Book<A>,
+    copy: &mut Book<A>,
+) -> Result<(), Fail> {
+    let changes = [Call::Remove(9), Call::Reduce(3, 4)];
+    make_all(book, &changes)?;
+    shows_mixed(alloc, copy, &[])?;
+    make_all(copy, &changes)?;
+    shows_mixed(alloc, copy, &changes)
+}
+
 #[test]
 fn a_copy_stays_as_it_was_made(rt: HostRuntime) -> Result<(), Fail> {
-    let changes = [Call::Remove(9), Call::Reduce(3, 4)];
     let mut book = mixed_book(rt.alloc(), &[])?;
     let mut copy = book.copy(rt.alloc())?;
-    make_all(&mut book, &changes)?;
-    shows_mixed(rt.alloc(), &copy, &[])?;
-    make_all(&mut copy, &changes)?;
-    shows_mixed(rt.alloc(), &copy, &changes)
+    change_apart(rt.alloc(), &mut book, &mut copy)
 }

@@ -31,23 +31,33 @@ fn book_before<A: Allocator + Copy>(alloc: A, number: u32) -> Result<Book<A>, Fa
     Ok(book)
 }
 
-// Makes a call under a refusal. Where it is refused, the book is as it was, and the call is made with memory. In the
-// end the book shows what one shows that was never refused.
-fn try_call(heap: &Refusing<Global>, number: u32, refusal: Refusal) -> Result<Tried, Fail> {
-    let call = numbered(number);
-    let mut book = book_before(heap, number)?;
-    let mut twin = book_before(heap, number)?;
+// Makes a call of a book under a refusal. Where it is refused, the book is as its twin is, and the call is made with
+// memory. In the end the book shows what the twin shows, whose call was never refused.
+fn try_call<'h>(
+    heap: &'h Refusing<Global>,
+    book: &mut Book<&'h Refusing<Global>>,
+    twin: &mut Book<&'h Refusing<Global>>,
+    call: Call,
+    refusal: Refusal,
+) -> Result<Tried, Fail> {
     heap.restart(refusal);
-    let answer = make(&mut book, call)?;
+    let answer = make(book, call)?;
     let tried = heap.tried(answer.is_err());
     if tried.refused {
-        same_books(heap, &book, &twin)?;
-        same_answers(&book, &twin)?;
-        make_all(&mut book, &[call])?;
+        same_books(heap, book, twin)?;
+        same_answers(book, twin)?;
+        make_all(book, &[call])?;
     }
-    make_all(&mut twin, &[call])?;
-    same_books(heap, &book, &twin)?;
+    make_all(twin, &[call])?;
+    same_books(heap, book, twin)?;
     Ok(tried)
+}
+
+// Makes the call of this number under a refusal.
+fn try_numbered(heap: &Refusing<Global>, number: u32, refusal: Refusal) -> Result<Tried, Fail> {
+    let mut book = book_before(heap, number)?;
+    let mut twin = book_before(heap, number)?;
+    try_call(heap, &mut book, &mut twin, numbered(number), refusal)
 }
 
 // Of the rows of 99 orders some need memory, and some find room.
@@ -58,7 +68,7 @@ fn a_call_without_memory_changes_nothing(rt: HostRuntime) -> Result<(), Fail> {
         let mut growths = 0u64;
         for number in kind {
             let more = refuse_any(|refusal: Refusal| -> Result<Tried, Fail> {
-                try_call(&heap, number, refusal)
+                try_numbered(&heap, number, refusal)
             })?;
             growths = growths.saturating_add(more);
         }
@@ -156,20 +166,6 @@ fn list<A: Allocator + Copy>(
     }
 }
 
-// Makes a list under a refusal, which leaves the book as it is, and with memory where it is refused.
-fn try_listing(heap: &Refusing<Global>, listing: Listing, refusal: Refusal) -> Result<Tried, Fail> {
-    let book = both_sided(heap)?;
-    heap.restart(refusal);
-    let listed = list(heap, &book, listing);
-    let tried = heap.tried(listed.is_err());
-    match listed {
-        Ok(compared) => compared?,
-        Err(AllocError) => list(heap, &book, listing)??,
-    }
-    same_books(heap, &book, &both_sided(heap)?)?;
-    Ok(tried)
-}
-
 // A book shows what the orders of both sides make.
 fn shows_both_sides<A: Allocator + Copy>(alloc: A, book: &Book<A>) -> Result<(), Fail> {
     let top = Top::of(level(100, 11), level(110, 5));
@@ -184,31 +180,57 @@ fn shows_both_sides<A: Allocator + Copy>(alloc: A, book: &Book<A>) -> Result<(),
     Ok(())
 }
 
-// Makes a copy under a refusal, which leaves the book as it is, and with memory where it is refused.
-fn try_copy(heap: &Refusing<Global>, refusal: Refusal) -> Result<Tried, Fail> {
-    let book = both_sided(heap)?;
+// Makes a list of a book of both sides under a refusal. It leaves the book as it is, whose lists are then made with
+// memory.
+fn try_listing<'h>(
+    heap: &'h Refusing<Global>,
+    book: &Book<&'h Refusing<Global>>,
+    listing: Listing,
+    refusal: Refusal,
+) -> Result<Tried, Fail> {
     heap.restart(refusal);
-    let made = book.copy(heap);
-    let tried = heap.tried(made.is_err());
-    let copy = match made {
-        Ok(copy) => copy,
-        Err(AllocError) => book.copy(heap)?,
-    };
-    shows_both_sides(heap, &copy)?;
-    same_books(heap, &copy, &book)?;
-    same_books(heap, &book, &both_sided(heap)?)?;
+    let listed = list(heap, book, listing);
+    let tried = heap.tried(listed.is_err());
+    if let Ok(compared) = listed {
+        compared?;
+    }
+    shows_both_sides(heap, book)?;
+    Ok(tried)
+}
+
+// A copy shows what the orders of both sides make, and what its book shows.
+fn same_copy<A: Allocator + Copy>(alloc: A, copy: &Book<A>, book: &Book<A>) -> Result<(), Fail> {
+    shows_both_sides(alloc, copy)?;
+    same_books(alloc, copy, book)
+}
+
+// Makes a copy of a book of both sides under a refusal, and with memory where it is refused. It leaves the book as it
+// is.
+fn try_copy<'h>(
+    heap: &'h Refusing<Global>,
+    book: &Book<&'h Refusing<Global>>,
+    refusal: Refusal,
+) -> Result<Tried, Fail> {
+    heap.restart(refusal);
+    let copy = book.copy(heap);
+    let tried = heap.tried(copy.is_err());
+    match copy {
+        Ok(copy) => same_copy(heap, &copy, book)?,
+        Err(AllocError) => same_copy(heap, &book.copy(heap)?, book)?,
+    }
     Ok(tried)
 }
 
 #[test]
 fn a_list_or_a_copy_without_memory_is_none(rt: HostRuntime) -> Result<(), Fail> {
     let heap = Refusing::new(rt.alloc(), Refusal::Never);
+    let book = both_sided(&heap)?;
     for listing in LISTINGS {
         refuse_each(|refusal: Refusal| -> Result<Tried, Fail> {
-            try_listing(&heap, listing, refusal)
+            try_listing(&heap, &book, listing, refusal)
         })?;
     }
-    refuse_each(|refusal: Refusal| -> Result<Tried, Fail> { try_copy(&heap, refusal) })?;
+    refuse_each(|refusal: Refusal| -> Result<Tried, Fail> { try_copy(&heap, &book, refusal) })?;
     Ok(())
 }
 

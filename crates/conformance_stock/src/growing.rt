@@ -52,9 +52,28 @@ fn step_under<'h>(
     Ok(tried)
 }
 
-// Hands a machine message `number` of a kind under a refusal. Where it is refused, the machine says what it said
-// before, and takes the message with memory. In the end it says what one says that was never refused.
-fn try_step(
+// Hands a machine a payload under a refusal. Where it is refused, the machine says what its twin says, and takes the
+// payload with memory. In the end it says what the twin says, which took it and was never refused.
+fn try_step<'h>(
+    heap: &'h Refusing<Global>,
+    stock: &mut Stock<&'h Refusing<Global>>,
+    twin: &mut Stock<&'h Refusing<Global>>,
+    payload: &[u8],
+    refusal: Refusal,
+) -> Result<Tried, Fail> {
+    let tried = step_under(heap, stock, payload, refusal)?;
+    if tried.refused {
+        same_machines(heap, stock, twin)?;
+        same_answers(stock, twin)?;
+        take(stock, payload, Outcome::Applied)?;
+    }
+    take(twin, payload, Outcome::Applied)?;
+    same_machines(heap, stock, twin)?;
+    Ok(tried)
+}
+
+// Hands a machine message `number` of a kind under a refusal.
+fn try_message(
     heap: &Refusing<Global>,
     kind: Growing,
     number: u8,
@@ -63,15 +82,7 @@ fn try_step(
     let payload = payload_of(heap, &kind.message(number))?;
     let mut stock = machine_before(heap, kind, number)?;
     let mut twin = machine_before(heap, kind, number)?;
-    let tried = step_under(heap, &mut stock, &payload, refusal)?;
-    if tried.refused {
-        same_machines(heap, &stock, &twin)?;
-        same_answers(&stock, &twin)?;
-        take(&mut stock, &payload, Outcome::Applied)?;
-    }
-    take(&mut twin, &payload, Outcome::Applied)?;
-    same_machines(heap, &stock, &twin)?;
-    Ok(tried)
+    try_step(heap, &mut stock, &mut twin, &payload, refusal)
 }
 
 // Some of 99 messages of a kind need memory, and some find room.
@@ -82,7 +93,7 @@ fn a_step_without_memory_changes_nothing(rt: HostRuntime) -> Result<(), Fail> {
         let mut growths = 0u64;
         for number in 2..=100u8 {
             let more = refuse_any(|refusal: Refusal| -> Result<Tried, Fail> {
-                try_step(&heap, kind, number, refusal)
+                try_message(&heap, kind, number, refusal)
             })?;
             growths = growths.saturating_add(more);
         }
@@ -195,20 +206,6 @@ fn list<A: Allocator + Copy>(
     }
 }
 
-// Makes a list under a refusal, which leaves the machine as it is, and with memory where it is refused.
-fn try_listing(heap: &Refusing<Global>, listing: Listing, refusal: Refusal) -> Result<Tried, Fail> {
-    let stock = after(heap, &both_sides())?;
-    heap.restart(refusal);
-    let listed = list(heap, &stock, listing);
-    let tried = heap.tried(listed.is_err());
-    match listed {
-        Ok(compared) => compared?,
-        Err(AllocError) => list(heap, &stock, listing)??,
-    }
-    same_machines(heap, &stock, &after(heap, &both_sides())?)?;
-    Ok(tried)
-}
-
 // A machine says what the messages of both sides make.
 fn shows_both_sides<A: Allocator + Copy>(alloc: A, stock: &Stock<A>) -> Result<(), Fail> {
     let totals = Totals {
@@ -238,31 +235,57 @@ fn shows_both_sides<A: Allocator + Copy>(alloc: A, stock: &Stock<A>) -> Result<(
     same("the status", &stock.status(), &status)
 }
 
-// Makes a copy under a refusal, which leaves the machine as it is, and with memory where it is refused.
-fn try_copy(heap: &Refusing<Global>, refusal: Refusal) -> Result<Tried, Fail> {
-    let stock = after(heap, &both_sides())?;
+// Makes a list of a machine with orders of both sides under a refusal. It leaves the machine as it is, whose lists are
+// then made with memory.
+fn try_listing<'h>(
+    heap: &'h Refusing<Global>,
+    stock: &Stock<&'h Refusing<Global>>,
+    listing: Listing,
+    refusal: Refusal,
+) -> Result<Tried, Fail> {
     heap.restart(refusal);
-    let made = stock.copy(heap);
-    let tried = heap.tried(made.is_err());
-    let copy = match made {
-        Ok(copy) => copy,
-        Err(AllocError) => stock.copy(heap)?,
-    };
-    shows_both_sides(heap, &copy)?;
-    same_machines(heap, &copy, &stock)?;
-    same_machines(heap, &stock, &after(heap, &both_sides())?)?;
+    let listed = list(heap, stock, listing);
+    let tried = heap.tried(listed.is_err());
+    if let Ok(compared) = listed {
+        compared?;
+    }
+    shows_both_sides(heap, stock)?;
+    Ok(tried)
+}
+
+// A copy says what the messages of both sides make, and what its machine says.
+fn same_copy<A: Allocator + Copy>(alloc: A, copy: &Stock<A>, stock: &Stock<A>) -> Result<(), Fail> {
+    shows_both_sides(alloc, copy)?;
+    same_machines(alloc, copy, stock)
+}
+
+// Makes a copy of a machine with orders of both sides under a refusal, and with memory where it is refused. It leaves
+// the machine as it is.
+fn try_copy<'h>(
+    heap: &'h Refusing<Global>,
+    stock: &Stock<&'h Refusing<Global>>,
+    refusal: Refusal,
+) -> Result<Tried, Fail> {
+    heap.restart(refusal);
+    let copy = stock.copy(heap);
+    let tried = heap.tried(copy.is_err());
+    match copy {
+        Ok(copy) => same_copy(heap, &copy, stock)?,
+        Err(AllocError) => same_copy(heap, &stock.copy(heap)?, stock)?,
+    }
     Ok(tried)
 }
 
 #[test]
 fn a_list_or_a_copy_without_memory_is_none(rt: HostRuntime) -> Result<(), Fail> {
     let heap = Refusing::new(rt.alloc(), Refusal::Never);
+    let stock = after(&heap, &both_sides())?;
     for listing in LISTINGS {
         refuse_each(|refusal: Refusal| -> Result<Tried, Fail> {
-            try_listing(&heap, listing, refusal)
+            try_listing(&heap, &stock, listing, refusal)
         })?;
     }
-    refuse_each(|refusal: Refusal| -> Result<Tried, Fail> { try_copy(&heap, refusal) })?;
+    refuse_each(|refusal: Refusal| -> Result<Tried, Fail> { try_copy(&heap, &stock, refusal) })?;
     Ok(())
 }
 
