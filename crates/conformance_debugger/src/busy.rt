@@ -19,28 +19,36 @@ const SHOWN: [(u32, u32, u64); 5] = [
     (60_000, 60_000, 10),
 ];
 
-// The bytes of the day.
-fn busy_file<A: Allocator + Copy>(alloc: A) -> Result<Vec<u8, A>, Fail> {
+// The day.
+fn busy_day<A: Allocator + Copy>(alloc: A) -> Result<Day<A>, Fail> {
     let mut file = Vec::new(alloc);
     add_entry(alloc, &mut file, &AAPL.directory())?;
     for reference in 1..=ORDERS {
         add_entry(alloc, &mut file, &AAPL.add(reference, b'B', 10, 100))?;
         add_entry(alloc, &mut file, &AAPL.delete(reference))?;
     }
-    Ok(file)
+    day_of(alloc, file)
 }
 
-// What a new debugger shows of the stock at each of the places.
+// What a debugger shows of the stock at a place.
+fn shown_at<A: Allocator + Copy>(
+    alloc: A,
+    debugger: &mut Debugger<'_, A>,
+    place: u32,
+) -> Result<(u32, u32, u64), DebugFault> {
+    debugger.goto(alloc, place)?;
+    let stock = debugger.stock(alloc, 1)?;
+    Ok((place, stock.steps(), stock.top().bid_shares))
+}
+
+// What a debugger shows of the stock at each of the places.
 fn shown_along<A: Allocator + Copy>(
     alloc: A,
-    day: &Day<A>,
+    debugger: &mut Debugger<'_, A>,
 ) -> Result<Vec<(u32, u32, u64), A>, DebugFault> {
-    let mut debugger = Debugger::new(alloc, day, 30_000)?;
     let mut list = Vec::new(alloc);
     for (place, _, _) in SHOWN {
-        debugger.goto(alloc, place)?;
-        let stock = debugger.stock(alloc, 1)?;
-        let shown = (place, stock.steps(), stock.top().bid_shares);
+        let shown = shown_at(alloc, debugger, place)?;
         if list.push(shown).is_err() {
             return Err(DebugFault::Memory);
         }
@@ -48,29 +56,38 @@ fn shown_along<A: Allocator + Copy>(
     Ok(list)
 }
 
+// Compares what a new debugger shows along the day.
+fn go_along<A: Allocator + Copy>(alloc: A, day: &Day<A>) -> Result<Result<(), Fail>, DebugFault> {
+    let mut debugger = Debugger::new(alloc, day, 30_000)?;
+    let list = shown_along(alloc, &mut debugger)?;
+    Ok(same_list("the stock along the day", &list, &SHOWN))
+}
+
 // Goes along the day under a refusal, and with memory where it is refused.
-fn try_along(heap: &Refusing<Global>, file: &[u8], refusal: Refusal) -> Result<Tried, Fail> {
-    let day = day_of(heap, file.to_vec(heap)?)?;
+fn try_along<'h>(
+    heap: &'h Refusing<Global>,
+    day: &Day<&'h Refusing<Global>>,
+    refusal: Refusal,
+) -> Result<Tried, Fail> {
     heap.restart(refusal);
-    let mut shown = shown_along(heap, &day);
-    let tried = heap.tried(shown.is_err());
-    if tried.refused {
-        same("a refused growth", &shown.err(), &Some(DebugFault::Memory))?;
-        shown = shown_along(heap, &day);
+    let along = go_along(heap, day);
+    let tried = heap.tried(along.is_err());
+    match along {
+        Ok(compared) => compared?,
+        Err(fault) => {
+            same("a refused growth", &fault, &DebugFault::Memory)?;
+            go_along(heap, day)??;
+        }
     }
-    let Ok(list) = shown else {
-        return Err(Fail::new("a debugger without memory"));
-    };
-    same_list("the stock along the day", &list, &SHOWN)?;
     Ok(tried)
 }
 
 #[test]
 fn a_busy_stock_is_shown_at_each_place(rt: HostRuntime) -> Result<(), Fail> {
-    let file = busy_file(rt.alloc())?;
     let heap = Refusing::new(rt.alloc(), Refusal::Never);
+    let day = busy_day(&heap)?;
     let growths = refuse_each(|refusal: Refusal| -> Result<Tried, Fail> {
-        try_along(&heap, &file, refusal)
+        try_along(&heap, &day, refusal)
     })?;
     same("some growths", &(growths > 20 && growths <= 200), &true)
 }

@@ -3,6 +3,7 @@ use debugger::{Break, DebugFault, Debugger, Stop};
 use itch_table::{Outcome, Top, Totals};
 use std::alloc::Allocator;
 use std::test::Fail;
+use stock_machine::Stock;
 use support::same;
 
 /// A call of a debugger.
@@ -38,15 +39,10 @@ fn moved<A: Allocator>(debugger: &Debugger<'_, A>) -> Answer {
     Answer::Moved(debugger.position(), debugger.outcome())
 }
 
-// What a stock is at the position.
-fn shown<A: Allocator + Copy>(
-    alloc: A,
-    debugger: &mut Debugger<'_, A>,
-    locate: u16,
-) -> Result<Answer, DebugFault> {
-    let stock = debugger.stock(alloc, locate)?;
+// What is shown of a stock.
+fn shown<A: Allocator + Copy>(stock: &Stock<A>) -> Answer {
     let state = stock.status().trading.map(|trading| trading.state);
-    Ok(Answer::Shown(stock.top(), stock.totals(), state))
+    Answer::Shown(stock.top(), stock.totals(), state)
 }
 
 impl Call {
@@ -64,7 +60,7 @@ impl Call {
             Call::Rearward => return Ok(Answer::Stopped(debugger.rearward(alloc)?)),
             Call::AddBreak(added) => return Ok(Answer::Place(debugger.add_break(alloc, added)?)),
             Call::RemoveBreak(place) => return Ok(Answer::Removed(debugger.remove_break(place))),
-            Call::Stock(locate) => return shown(alloc, debugger, locate),
+            Call::Stock(locate) => return Ok(shown(&debugger.stock(alloc, locate)?)),
         }
         Ok(moved(debugger))
     }

@@ -47,12 +47,13 @@ fn done_by<A: Allocator + Copy>(alloc: A, debugger: &mut Debugger<'_, A>, call: 
     }
 }
 
-// A debugger after message 3 of the tour, with a breakpoint.
-fn debugger_at_3<A: Allocator + Copy>(alloc: A, day: &Day<A>) -> Result<Debugger<'_, A>, Fail> {
-    let mut debugger = Debugger::new(alloc, day, 2)?;
+// Moves a new debugger of the tour after message 3, with a breakpoint.
+fn set_at_3<A: Allocator + Copy>(
+    alloc: A,
+    debugger: &mut Debugger<'_, A>,
+) -> Result<(), DebugFault> {
     debugger.add_break(alloc, BIDS)?;
-    debugger.goto(alloc, 3)?;
-    Ok(debugger)
+    debugger.goto(alloc, 3)
 }
 
 // The stock at that place: a bid of which a part was executed.
@@ -72,27 +73,45 @@ const AT_3: Answer = Answer::Shown(
     None,
 );
 
-// Makes a call under a refusal. Where it is refused, it leaves the debugger as it was, its stock too, and is made with
-// memory. In the end the answer and the debugger are those of a call that was never refused.
-fn try_call(heap: &Refusing<Global>, call: Call, refusal: Refusal) -> Result<Tried, Fail> {
-    let day = tour(heap)?;
-    let mut debugger = debugger_at_3(heap, &day)?;
-    let mut twin = debugger_at_3(heap, &day)?;
+// Makes a call of a new debugger under a refusal. Where it is refused, it leaves the debugger as it was, its stock too,
+// and is made with memory. In the end the answer and the debugger are those of a twin whose call was never refused.
+fn try_call<'h>(
+    heap: &'h Refusing<Global>,
+    debugger: &mut Debugger<'_, &'h Refusing<Global>>,
+    twin: &mut Debugger<'_, &'h Refusing<Global>>,
+    call: Call,
+    refusal: Refusal,
+) -> Result<Tried, Fail> {
+    set_at_3(heap, debugger)?;
+    set_at_3(heap, twin)?;
     heap.restart(refusal);
-    let mut done = done_by(heap, &mut debugger, &call);
+    let mut done = done_by(heap, debugger, &call);
     let tried = heap.tried(done.answer == Err(DebugFault::Memory));
     if tried.refused {
-        same("after a refusal", &done.seen, &seen_of(&twin))?;
-        follow(heap, &mut debugger, &[(Call::Stock(1), Ok(AT_3))])?;
-        done = done_by(heap, &mut debugger, &call);
+        same("after a refusal", &done.seen, &seen_of(twin))?;
+        follow(heap, debugger, &[(Call::Stock(1), Ok(AT_3))])?;
+        done = done_by(heap, debugger, &call);
     }
-    same("a call", &done, &done_by(heap, &mut twin, &call))?;
+    same("a call", &done, &done_by(heap, twin, &call))?;
     Ok(tried)
+}
+
+// Makes a call of new debuggers of a day under a refusal.
+fn try_new_call<'h>(
+    heap: &'h Refusing<Global>,
+    day: &Day<&'h Refusing<Global>>,
+    call: Call,
+    refusal: Refusal,
+) -> Result<Tried, Fail> {
+    let mut debugger = Debugger::new(heap, day, 2)?;
+    let mut twin = Debugger::new(heap, day, 2)?;
+    try_call(heap, &mut debugger, &mut twin, call, refusal)
 }
 
 #[test]
 fn a_refused_call_leaves_the_debugger(rt: HostRuntime) -> Result<(), Fail> {
     let heap = Refusing::new(rt.alloc(), Refusal::Never);
+    let day = tour(&heap)?;
     let late = time_break(3)?;
     for call in [
         Call::Goto(6),
@@ -104,7 +123,7 @@ fn a_refused_call_leaves_the_debugger(rt: HostRuntime) -> Result<(), Fail> {
         Call::Stock(1),
     ] {
         let growths = refuse_each(|refusal: Refusal| -> Result<Tried, Fail> {
-            try_call(&heap, call, refusal)
+            try_new_call(&heap, &day, call, refusal)
         })?;
         same("some growths", &(call, growths <= 60), &(call, true))?;
     }
@@ -137,7 +156,8 @@ fn a_debugger_without_memory_is_none(rt: HostRuntime) -> Result<(), Fail> {
 fn some_calls_take_no_memory(rt: HostRuntime) -> Result<(), Fail> {
     let heap = Refusing::new(rt.alloc(), Refusal::Never);
     let day = tour(&heap)?;
-    let mut debugger = debugger_at_3(&heap, &day)?;
+    let mut debugger = Debugger::new(&heap, &day, 2)?;
+    set_at_3(&heap, &mut debugger)?;
     let before = seen_of(&debugger);
     heap.restart(Refusal::From(1));
     same("with no memory", &seen_of(&debugger), &before)?;

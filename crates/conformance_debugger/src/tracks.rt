@@ -81,22 +81,30 @@ fn a_track_shows_every_place(rt: HostRuntime) -> Result<(), Fail> {
 }
 
 // Makes a track of the tour under a refusal, and with memory where it is refused.
-fn try_track(heap: &Refusing<Global>, way: Way, refusal: Refusal) -> Result<Tried, Fail> {
-    let day = tour(heap)?;
+fn try_track<'h>(
+    heap: &'h Refusing<Global>,
+    day: &Day<&'h Refusing<Global>>,
+    way: Way,
+    refusal: Refusal,
+) -> Result<Tried, Fail> {
     heap.restart(refusal);
-    let made = track_by(heap, &day, way, 2);
+    let made = track_by(heap, day, way, 2);
     let tried = heap.tried(made.is_err());
     match made {
-        Ok(track) => same_places(heap, &day, &track)?,
-        Err(AllocError) => same_places(heap, &day, &track_by(heap, &day, way, 2)?)?,
+        Ok(track) => same_places(heap, day, &track)?,
+        Err(AllocError) => same_places(heap, day, &track_by(heap, day, way, 2)?)?,
     }
     Ok(tried)
 }
 
-// Asks a track for a place under a refusal, which leaves the track as it is.
-fn try_place(heap: &Refusing<Global>, n: u32, refusal: Refusal) -> Result<Tried, Fail> {
-    let day = tour(heap)?;
-    let track = track_by(heap, &day, Way::Day, 2)?;
+// Asks a track of the tour for a place under a refusal, which leaves the track as it is.
+fn try_place<'h>(
+    heap: &'h Refusing<Global>,
+    day: &Day<&'h Refusing<Global>>,
+    n: u32,
+    refusal: Refusal,
+) -> Result<Tried, Fail> {
+    let track = track_by(heap, day, Way::Day, 2)?;
     if n > day.len() {
         return Err(Fail::new("no such place"));
     }
@@ -110,20 +118,23 @@ fn try_place(heap: &Refusing<Global>, n: u32, refusal: Refusal) -> Result<Tried,
         let wanted = BID_SHARES.get(n as usize).copied();
         same("a place", &(n, found), &(n, wanted))?;
     }
-    same_places(heap, &day, &track)?;
+    same_places(heap, day, &track)?;
     Ok(tried)
 }
 
 #[test]
 fn a_track_without_memory_is_none(rt: HostRuntime) -> Result<(), Fail> {
     let heap = Refusing::new(rt.alloc(), Refusal::Never);
+    let day = tour(&heap)?;
     for way in [Way::Day, Way::Index] {
-        refuse_each(|refusal: Refusal| -> Result<Tried, Fail> { try_track(&heap, way, refusal) })?;
+        refuse_each(|refusal: Refusal| -> Result<Tried, Fail> {
+            try_track(&heap, &day, way, refusal)
+        })?;
     }
     let mut growths = 0u64;
     for n in 0..=7 {
         let more = refuse_any(|refusal: Refusal| -> Result<Tried, Fail> {
-            try_place(&heap, n, refusal)
+            try_place(&heap, &day, n, refusal)
         })?;
         growths = growths.saturating_add(more);
     }
