@@ -26,10 +26,26 @@ fn lists_levels<A: Allocator + Copy>(
     same_list("the levels", &book.levels(alloc, side)?, levels)
 }
 
-// Calls on bids, and what the book shows after each: its top, how many orders live, and the bids.
+// A call, and what a book shows after it: its top, how many orders live, and the bids.
+type Row<'a> = (Call, Top, u32, &'a [Level]);
+
+// Makes calls on bids one after another, and compares what the book shows after each.
+fn follow<A: Allocator + Copy>(alloc: A, book: &mut Book<A>, rows: &[Row<'_>]) -> Result<(), Fail> {
+    for (call, top, count, levels) in rows {
+        make_all(book, &[*call])?;
+        same(
+            "after a call",
+            &(*call, book.top(), book.count()),
+            &(*call, *top, *count),
+        )?;
+        lists_levels(alloc, book, Side::Buy, levels)?;
+    }
+    Ok(())
+}
+
 #[test]
 fn levels_follow_the_orders(rt: HostRuntime) -> Result<(), Fail> {
-    let rows: [(Call, Top, u32, &[Level]); 6] = [
+    let rows: [Row<'_>; 6] = [
         (bid(1, 100, 10), best_bid(10, 100), 1, &[level(10, 100)]),
         (bid(2, 50, 10), best_bid(10, 150), 2, &[level(10, 150)]),
         (Call::Reduce(1, 40), best_bid(10, 110), 2, &[level(10, 110)]),
@@ -42,17 +58,7 @@ fn levels_follow_the_orders(rt: HostRuntime) -> Result<(), Fail> {
         (Call::Remove(1), best_bid(11, 50), 1, &[level(11, 50)]),
         (Call::Reduce(3, 50), best_bid(0, 0), 0, &[]),
     ];
-    let mut book = Book::new(rt.alloc());
-    for (call, top, count, levels) in rows {
-        make_all(&mut book, &[call])?;
-        same(
-            "after a call",
-            &(call, book.top(), book.count()),
-            &(call, top, count),
-        )?;
-        lists_levels(rt.alloc(), &book, Side::Buy, levels)?;
-    }
-    Ok(())
+    follow(rt.alloc(), &mut Book::new(rt.alloc()), &rows)
 }
 
 // Orders of both sides, which come in no order.
@@ -85,9 +91,8 @@ fn lists_orders<A: Allocator + Copy>(
     same_list("the references", &listed, references)
 }
 
-#[test]
-fn orders_and_levels_are_in_order(rt: HostRuntime) -> Result<(), Fail> {
-    let book = mixed_book(rt.alloc(), &[])?;
+// A book shows those orders and their levels in order.
+fn is_in_order<A: Allocator + Copy>(alloc: A, book: &Book<A>) -> Result<(), Fail> {
     let top = Top {
         ask_price: 25,
         ask_shares: 5,
@@ -98,35 +103,39 @@ fn orders_and_levels_are_in_order(rt: HostRuntime) -> Result<(), Fail> {
         &(book.count(), book.top()),
         &(5, top),
     )?;
-    lists_orders(rt.alloc(), &book, &[3, 4, 5, 7, 9])?;
-    lists_levels(rt.alloc(), &book, Side::Buy, &[level(21, 2), level(20, 10)])?;
-    lists_levels(
-        rt.alloc(),
-        &book,
-        Side::Sell,
-        &[level(25, 5), level(30, 20)],
-    )
+    lists_orders(alloc, book, &[3, 4, 5, 7, 9])?;
+    lists_levels(alloc, book, Side::Buy, &[level(21, 2), level(20, 10)])?;
+    lists_levels(alloc, book, Side::Sell, &[level(25, 5), level(30, 20)])
 }
 
-// Of twenty orders fifteen go; a free reference comes again, and an order moves to one below all others.
 #[test]
-fn references_that_are_free_come_again(rt: HostRuntime) -> Result<(), Fail> {
-    let mut book = Book::new(rt.alloc());
+fn orders_and_levels_are_in_order(rt: HostRuntime) -> Result<(), Fail> {
+    is_in_order(rt.alloc(), &mixed_book(rt.alloc(), &[])?)
+}
+
+// Of twenty orders of a new book fifteen go; a free reference comes again, and an order moves to one below all others.
+fn free_references<A: Allocator + Copy>(alloc: A, book: &mut Book<A>) -> Result<(), Fail> {
     for reference in 1..=20u64 {
-        make_all(&mut book, &[bid(reference, 10, 5)])?;
+        make_all(book, &[bid(reference, 10, 5)])?;
     }
     for reference in 1..=15u64 {
-        make_all(&mut book, &[Call::Remove(reference)])?;
+        make_all(book, &[Call::Remove(reference)])?;
     }
-    lists_orders(rt.alloc(), &book, &[16, 17, 18, 19, 20])?;
+    lists_orders(alloc, book, &[16, 17, 18, 19, 20])?;
     let changes = [
         bid(7, 3, 6),
         Call::Replace(18, 2, 4, 6),
         Call::Reduce(7, 1),
         Call::Remove(20),
     ];
-    make_all(&mut book, &changes)?;
-    lists_orders(rt.alloc(), &book, &[2, 7, 16, 17, 19])?;
+    make_all(book, &changes)?;
+    lists_orders(alloc, book, &[2, 7, 16, 17, 19])
+}
+
+#[test]
+fn references_that_are_free_come_again(rt: HostRuntime) -> Result<(), Fail> {
+    let mut book = Book::new(rt.alloc());
+    free_references(rt.alloc(), &mut book)?;
     let shares = (book.level(Side::Buy, 5), book.level(Side::Buy, 6));
     same(
         "the shares and the count",
