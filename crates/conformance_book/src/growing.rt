@@ -33,7 +33,7 @@ fn book_before<A: Allocator + Copy>(alloc: A, number: u32) -> Result<Book<A>, Fa
 
 // Makes a call of a book under a refusal. Where it is refused, the book is as its twin is, and the call is made with
 // memory. In the end the book shows what the twin shows, whose call was never refused.
-fn try_call<'h>(
+fn call_under<'h>(
     heap: &'h Refusing<Global>,
     book: &mut Book<&'h Refusing<Global>>,
     twin: &mut Book<&'h Refusing<Global>>,
@@ -54,10 +54,10 @@ fn try_call<'h>(
 }
 
 // Makes the call of this number under a refusal.
-fn try_numbered(heap: &Refusing<Global>, number: u32, refusal: Refusal) -> Result<Tried, Fail> {
+fn try_call(heap: &Refusing<Global>, number: u32, refusal: Refusal) -> Result<Tried, Fail> {
     let mut book = book_before(heap, number)?;
     let mut twin = book_before(heap, number)?;
-    try_call(heap, &mut book, &mut twin, numbered(number), refusal)
+    call_under(heap, &mut book, &mut twin, numbered(number), refusal)
 }
 
 // Of the rows of 99 orders some need memory, and some find room.
@@ -68,7 +68,7 @@ fn a_call_without_memory_changes_nothing(rt: HostRuntime) -> Result<(), Fail> {
         let mut growths = 0u64;
         for number in kind {
             let more = refuse_any(|refusal: Refusal| -> Result<Tried, Fail> {
-                try_numbered(&heap, number, refusal)
+                try_call(&heap, number, refusal)
             })?;
             growths = growths.saturating_add(more);
         }
@@ -182,7 +182,7 @@ fn shows_both_sides<A: Allocator + Copy>(alloc: A, book: &Book<A>) -> Result<(),
 
 // Makes a list of a book of both sides under a refusal. It leaves the book as it is, whose lists are then made with
 // memory.
-fn try_listing<'h>(
+fn list_under<'h>(
     heap: &'h Refusing<Global>,
     book: &Book<&'h Refusing<Global>>,
     listing: Listing,
@@ -206,7 +206,7 @@ fn same_copy<A: Allocator + Copy>(alloc: A, copy: &Book<A>, book: &Book<A>) -> R
 
 // Makes a copy of a book of both sides under a refusal, and with memory where it is refused. It leaves the book as it
 // is.
-fn try_copy<'h>(
+fn copy_under<'h>(
     heap: &'h Refusing<Global>,
     book: &Book<&'h Refusing<Global>>,
     refusal: Refusal,
@@ -224,13 +224,14 @@ fn try_copy<'h>(
 #[test]
 fn a_list_or_a_copy_without_memory_is_none(rt: HostRuntime) -> Result<(), Fail> {
     let heap = Refusing::new(rt.alloc(), Refusal::Never);
-    let book = both_sided(&heap)?;
     for listing in LISTINGS {
         refuse_each(|refusal: Refusal| -> Result<Tried, Fail> {
-            try_listing(&heap, &book, listing, refusal)
+            list_under(&heap, &both_sided(&heap)?, listing, refusal)
         })?;
     }
-    refuse_each(|refusal: Refusal| -> Result<Tried, Fail> { try_copy(&heap, &book, refusal) })?;
+    refuse_each(|refusal: Refusal| -> Result<Tried, Fail> {
+        copy_under(&heap, &both_sided(&heap)?, refusal)
+    })?;
     Ok(())
 }
 

@@ -19,15 +19,15 @@ const SHOWN: [(u32, u32, u64); 5] = [
     (60_000, 60_000, 10),
 ];
 
-// The day.
-fn busy_day<A: Allocator + Copy>(alloc: A) -> Result<Day<A>, Fail> {
+// The bytes of the day.
+fn busy_file<A: Allocator + Copy>(alloc: A) -> Result<Vec<u8, A>, Fail> {
     let mut file = Vec::new(alloc);
     add_entry(alloc, &mut file, &AAPL.directory())?;
     for reference in 1..=ORDERS {
         add_entry(alloc, &mut file, &AAPL.add(reference, b'B', 10, 100))?;
         add_entry(alloc, &mut file, &AAPL.delete(reference))?;
     }
-    day_of(alloc, file)
+    Ok(file)
 }
 
 // What a debugger shows of the stock at a place.
@@ -64,7 +64,7 @@ fn go_along<A: Allocator + Copy>(alloc: A, day: &Day<A>) -> Result<Result<(), Fa
 }
 
 // Goes along the day under a refusal, and with memory where it is refused.
-fn try_along<'h>(
+fn go_under<'h>(
     heap: &'h Refusing<Global>,
     day: &Day<&'h Refusing<Global>>,
     refusal: Refusal,
@@ -84,10 +84,10 @@ fn try_along<'h>(
 
 #[test]
 fn a_busy_stock_is_shown_at_each_place(rt: HostRuntime) -> Result<(), Fail> {
+    let file = busy_file(rt.alloc())?;
     let heap = Refusing::new(rt.alloc(), Refusal::Never);
-    let day = busy_day(&heap)?;
     let growths = refuse_each(|refusal: Refusal| -> Result<Tried, Fail> {
-        try_along(&heap, &day, refusal)
+        go_under(&heap, &day_of(&heap, file.to_vec(&heap)?)?, refusal)
     })?;
     same("some growths", &(growths > 20 && growths <= 200), &true)
 }

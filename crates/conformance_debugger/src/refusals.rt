@@ -75,7 +75,7 @@ const AT_3: Answer = Answer::Shown(
 
 // Makes a call of a new debugger under a refusal. Where it is refused, it leaves the debugger as it was, its stock too,
 // and is made with memory. In the end the answer and the debugger are those of a twin whose call was never refused.
-fn try_call<'h>(
+fn call_under<'h>(
     heap: &'h Refusing<Global>,
     debugger: &mut Debugger<'_, &'h Refusing<Global>>,
     twin: &mut Debugger<'_, &'h Refusing<Global>>,
@@ -96,22 +96,17 @@ fn try_call<'h>(
     Ok(tried)
 }
 
-// Makes a call of new debuggers of a day under a refusal.
-fn try_new_call<'h>(
-    heap: &'h Refusing<Global>,
-    day: &Day<&'h Refusing<Global>>,
-    call: Call,
-    refusal: Refusal,
-) -> Result<Tried, Fail> {
-    let mut debugger = Debugger::new(heap, day, 2)?;
-    let mut twin = Debugger::new(heap, day, 2)?;
-    try_call(heap, &mut debugger, &mut twin, call, refusal)
+// Makes a call of new debuggers of the tour under a refusal.
+fn try_call(heap: &Refusing<Global>, call: Call, refusal: Refusal) -> Result<Tried, Fail> {
+    let day = tour(heap)?;
+    let mut debugger = Debugger::new(heap, &day, 2)?;
+    let mut twin = Debugger::new(heap, &day, 2)?;
+    call_under(heap, &mut debugger, &mut twin, call, refusal)
 }
 
 #[test]
 fn a_refused_call_leaves_the_debugger(rt: HostRuntime) -> Result<(), Fail> {
     let heap = Refusing::new(rt.alloc(), Refusal::Never);
-    let day = tour(&heap)?;
     let late = time_break(3)?;
     for call in [
         Call::Goto(6),
@@ -123,7 +118,7 @@ fn a_refused_call_leaves_the_debugger(rt: HostRuntime) -> Result<(), Fail> {
         Call::Stock(1),
     ] {
         let growths = refuse_each(|refusal: Refusal| -> Result<Tried, Fail> {
-            try_new_call(&heap, &day, call, refusal)
+            try_call(&heap, call, refusal)
         })?;
         same("some growths", &(call, growths <= 60), &(call, true))?;
     }

@@ -81,7 +81,7 @@ fn a_track_shows_every_place(rt: HostRuntime) -> Result<(), Fail> {
 }
 
 // Makes a track of the tour under a refusal, and with memory where it is refused.
-fn try_track<'h>(
+fn make_under<'h>(
     heap: &'h Refusing<Global>,
     day: &Day<&'h Refusing<Global>>,
     way: Way,
@@ -98,7 +98,7 @@ fn try_track<'h>(
 }
 
 // Asks a track of the tour for a place under a refusal, which leaves the track as it is.
-fn try_place<'h>(
+fn go_under<'h>(
     heap: &'h Refusing<Global>,
     day: &Day<&'h Refusing<Global>>,
     n: u32,
@@ -125,16 +125,15 @@ fn try_place<'h>(
 #[test]
 fn a_track_without_memory_is_none(rt: HostRuntime) -> Result<(), Fail> {
     let heap = Refusing::new(rt.alloc(), Refusal::Never);
-    let day = tour(&heap)?;
     for way in [Way::Day, Way::Index] {
         refuse_each(|refusal: Refusal| -> Result<Tried, Fail> {
-            try_track(&heap, &day, way, refusal)
+            make_under(&heap, &tour(&heap)?, way, refusal)
         })?;
     }
     let mut growths = 0u64;
     for n in 0..=7 {
         let more = refuse_any(|refusal: Refusal| -> Result<Tried, Fail> {
-            try_place(&heap, &day, n, refusal)
+            go_under(&heap, &tour(&heap)?, n, refusal)
         })?;
         growths = growths.saturating_add(more);
     }

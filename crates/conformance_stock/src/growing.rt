@@ -54,7 +54,7 @@ fn step_under<'h>(
 
 // Hands a machine a payload under a refusal. Where it is refused, the machine says what its twin says, and takes the
 // payload with memory. In the end it says what the twin says, which took it and was never refused.
-fn try_step<'h>(
+fn take_under<'h>(
     heap: &'h Refusing<Global>,
     stock: &mut Stock<&'h Refusing<Global>>,
     twin: &mut Stock<&'h Refusing<Global>>,
@@ -73,7 +73,7 @@ fn try_step<'h>(
 }
 
 // Hands a machine message `number` of a kind under a refusal.
-fn try_message(
+fn try_step(
     heap: &Refusing<Global>,
     kind: Growing,
     number: u8,
@@ -82,7 +82,7 @@ fn try_message(
     let payload = payload_of(heap, &kind.message(number))?;
     let mut stock = machine_before(heap, kind, number)?;
     let mut twin = machine_before(heap, kind, number)?;
-    try_step(heap, &mut stock, &mut twin, &payload, refusal)
+    take_under(heap, &mut stock, &mut twin, &payload, refusal)
 }
 
 // Some of 99 messages of a kind need memory, and some find room.
@@ -93,7 +93,7 @@ fn a_step_without_memory_changes_nothing(rt: HostRuntime) -> Result<(), Fail> {
         let mut growths = 0u64;
         for number in 2..=100u8 {
             let more = refuse_any(|refusal: Refusal| -> Result<Tried, Fail> {
-                try_message(&heap, kind, number, refusal)
+                try_step(&heap, kind, number, refusal)
             })?;
             growths = growths.saturating_add(more);
         }
@@ -237,7 +237,7 @@ fn shows_both_sides<A: Allocator + Copy>(alloc: A, stock: &Stock<A>) -> Result<(
 
 // Makes a list of a machine with orders of both sides under a refusal. It leaves the machine as it is, whose lists are
 // then made with memory.
-fn try_listing<'h>(
+fn list_under<'h>(
     heap: &'h Refusing<Global>,
     stock: &Stock<&'h Refusing<Global>>,
     listing: Listing,
@@ -261,7 +261,7 @@ fn same_copy<A: Allocator + Copy>(alloc: A, copy: &Stock<A>, stock: &Stock<A>) -
 
 // Makes a copy of a machine with orders of both sides under a refusal, and with memory where it is refused. It leaves
 // the machine as it is.
-fn try_copy<'h>(
+fn copy_under<'h>(
     heap: &'h Refusing<Global>,
     stock: &Stock<&'h Refusing<Global>>,
     refusal: Refusal,
@@ -279,13 +279,14 @@ fn try_copy<'h>(
 #[test]
 fn a_list_or_a_copy_without_memory_is_none(rt: HostRuntime) -> Result<(), Fail> {
     let heap = Refusing::new(rt.alloc(), Refusal::Never);
-    let stock = after(&heap, &both_sides())?;
     for listing in LISTINGS {
         refuse_each(|refusal: Refusal| -> Result<Tried, Fail> {
-            try_listing(&heap, &stock, listing, refusal)
+            list_under(&heap, &after(&heap, &both_sides())?, listing, refusal)
         })?;
     }
-    refuse_each(|refusal: Refusal| -> Result<Tried, Fail> { try_copy(&heap, &stock, refusal) })?;
+    refuse_each(|refusal: Refusal| -> Result<Tried, Fail> {
+        copy_under(&heap, &after(&heap, &both_sides())?, refusal)
+    })?;
     Ok(())
 }
 
