@@ -59,11 +59,12 @@ fn compare_file<R: Runtime + AllocGlobal + Threads + Wait + Sync>(
     }
 }
 
-// Compares the machines over days at random, and prints how many there are.
+// Compares the machines over days at random, and prints how many there are, how often each outcome occurs, and how many
+// changed texts denote a file.
 fn compare_random<R: Runtime + AllocGlobal + Threads + Wait + Sync>(rt: &R) -> Result<(), Fail> {
-    random_days::compare_random_days(rt, rt.alloc())?;
+    let (tally, assembled) = random_days::compare_random_days(rt, rt.alloc())?;
     match println!(rt;
-        "at random: {} days, {} messages each",
+        "at random: {} days, {} messages each\n{tally}\nchanged texts that denote a file {assembled}",
         random_days::DAYS,
         random_days::MESSAGES
     ) {

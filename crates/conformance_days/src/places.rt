@@ -26,22 +26,6 @@ fn plain_at<A: Allocator + Copy>(
     Ok((plain, outcome))
 }
 
-// Goes to a place, and compares the outcome and the event there with those that are wanted.
-fn go<A: Allocator + Copy>(
-    alloc: A,
-    debugger: &mut Debugger<'_, A>,
-    n: u32,
-    outcome: Option<Outcome>,
-    event: Option<u8>,
-) -> Result<(), Fail> {
-    same("a move", &debugger.goto(alloc, n), &Ok(()))?;
-    same(
-        "a place",
-        &(debugger.position(), debugger.outcome(), debugger.event()),
-        &(n, outcome, event),
-    )
-}
-
 // Compares the stocks at a debugger's position with those of the plain machine.
 fn same_stocks_at<A: Allocator + Copy>(
     alloc: A,
@@ -55,8 +39,9 @@ fn same_stocks_at<A: Allocator + Copy>(
     Ok(())
 }
 
-// Goes to a place, and compares the outcome, the event and all stocks there with those of the plain machine.
-fn compare_at<A: Allocator + Copy>(
+/// Compares the position of a debugger, and the outcome, the event and all stocks there, with those of the plain
+/// machine after the first `n` messages.
+pub fn same_place<A: Allocator + Copy>(
     alloc: A,
     day: &Day<A>,
     debugger: &mut Debugger<'_, A>,
@@ -64,8 +49,24 @@ fn compare_at<A: Allocator + Copy>(
     locates: &[u16],
 ) -> Result<(), Fail> {
     let (plain, outcome) = plain_at(alloc, day, n)?;
-    go(alloc, debugger, n, outcome, plain.event())?;
+    same(
+        "a place",
+        &(debugger.position(), debugger.outcome(), debugger.event()),
+        &(n, outcome, plain.event()),
+    )?;
     same_stocks_at(alloc, &plain, debugger, locates)
+}
+
+// Goes to a place, and compares all that is there with the plain machine.
+fn compare_at<A: Allocator + Copy>(
+    alloc: A,
+    day: &Day<A>,
+    debugger: &mut Debugger<'_, A>,
+    n: u32,
+    locates: &[u16],
+) -> Result<(), Fail> {
+    same("a move", &debugger.goto(alloc, n), &Ok(()))?;
+    same_place(alloc, day, debugger, n, locates)
 }
 
 // Compares a debugger with the plain machine at all places, forwards and backwards.
@@ -101,4 +102,33 @@ pub fn compare_places<R: Threads + Sync, A: Allocator + Copy + Send + Sync>(
         compare_all(alloc, day, &mut debugger, &locates)?;
     }
     Ok(())
+}
+
+// Steps a debugger from the start of a day to its end and back, and compares all that is at each place with the plain
+// machine.
+fn walk<A: Allocator + Copy>(
+    alloc: A,
+    day: &Day<A>,
+    debugger: &mut Debugger<'_, A>,
+    locates: &[u16],
+) -> Result<(), Fail> {
+    for n in 1..=day.len() {
+        same("a step", &debugger.step(alloc), &Ok(()))?;
+        same_place(alloc, day, debugger, n, locates)?;
+    }
+    for n in (0..day.len()).rev() {
+        same("a step back", &debugger.back(alloc), &Ok(()))?;
+        same_place(alloc, day, debugger, n, locates)?;
+    }
+    Ok(())
+}
+
+/// Compares a debugger with the plain machine at each place of a day, step by step, forwards and backwards.
+pub fn compare_walk<A: Allocator + Copy>(
+    alloc: A,
+    day: &Day<A>,
+    locates: &[u16],
+) -> Result<(), Fail> {
+    let mut debugger = Debugger::new(alloc, day, 7)?;
+    walk(alloc, day, &mut debugger, locates)
 }

@@ -1,9 +1,12 @@
 //! Days at random, through all machines, the debugger and the text form.
 use crate::compare_day;
+use crate::places::compare_walk;
 use crate::random::random_day;
 use crate::stops::compare_stops;
 use crate::tally::Tally;
 use crate::texts::compare_texts;
+use binaryfile::Day;
+use day_core::locates;
 use debugger::Break;
 use itch_layouts::Nanos;
 use itch_table::Side;
@@ -50,20 +53,33 @@ fn breakpoints() -> Result<[Break; 4], Fail> {
     ])
 }
 
+// Steps a debugger through a day, and lets breakpoints stop along it.
+fn compare_moves<R: Threads + Wait + Sync, A: Allocator + Copy + Send + Sync>(
+    rt: &R,
+    alloc: A,
+    day: &Day<A>,
+) -> Result<(), Fail> {
+    let locates = locates(rt, alloc, day)?;
+    compare_walk(alloc, day, &locates)?;
+    for breakpoint in breakpoints()? {
+        compare_stops(alloc, day, breakpoint, &locates)?;
+    }
+    Ok(())
+}
+
 /// Compares the machines, the debugger and the texts over days at random, and fails too where an outcome is rare.
+/// Answers how often each outcome occurs, and how many changed texts denote a file.
 pub fn compare_random_days<R: Threads + Wait + Sync, A: Allocator + Copy + Send + Sync>(
     rt: &R,
     alloc: A,
-) -> Result<(), Fail> {
+) -> Result<(Tally, u64), Fail> {
     let mut tally = Tally::NONE;
     let mut assembled = 0u64;
     for seed in 0..DAYS {
         let day = random_day(alloc, seed, MESSAGES)?;
         compare_day(rt, alloc, &day)?;
-        for breakpoint in breakpoints()? {
-            compare_stops(alloc, &day, breakpoint)?;
-        }
-        let mut random = SmallRng::seed_from_u64(seed);
+        compare_moves(rt, alloc, &day)?;
+        let mut random = SmallRng::seed_from_u64(seed.wrapping_add(DAYS));
         let texts = compare_texts(alloc, &day, &mut random, CHANGED_TEXTS)?;
         assembled = assembled.saturating_add(texts);
         tally.add_day(alloc, &day)?;
@@ -71,5 +87,6 @@ pub fn compare_random_days<R: Threads + Wait + Sync, A: Allocator + Copy + Send 
     if assembled < ASSEMBLED_TEXTS {
         return Err(Fail::new(format_args!("{assembled} changed texts denote a file")));
     }
-    tally.judge()
+    tally.judge()?;
+    Ok((tally, assembled))
 }

@@ -1,12 +1,13 @@
 //! Where breakpoints stop along a day, beside what the bytes of its messages and the plain machine say.
 use crate::comparing::step;
+use crate::places::same_place;
 use binaryfile::Day;
 use debugger::{Break, DebugFault, Debugger};
 use itch_layouts::{Nanos, Shape, read_msg};
 use itch_table::{Plain, Side};
 use std::alloc::{AllocError, Allocator};
 use std::test::Fail;
-use support::{same, same_list};
+use support::same_list;
 
 // The number that these bytes of a payload make, the highest first.
 fn number_in(payload: &[u8], from: usize, len: usize) -> u64 {
@@ -94,24 +95,30 @@ fn stops_of<A: Allocator + Copy>(
     Ok(stops)
 }
 
-// The messages at which the debugger stops on its way to the end of the day, or to its start.
+// The messages at which the debugger stops on its way to the end of the day, or to its start. At each of them, and at
+// the end of the way, all that it shows is compared with the plain machine.
 fn stops_along<A: Allocator + Copy>(
     alloc: A,
+    day: &Day<A>,
     debugger: &mut Debugger<'_, A>,
     onward: bool,
+    locates: &[u16],
 ) -> Result<Vec<u32, A>, Fail> {
     let mut stops = Vec::new(alloc);
-    for _ in 0..=debugger.last() {
+    for _ in 0..=day.len() {
         let moved = if onward {
             debugger.onward(alloc)
         } else {
             debugger.rearward(alloc)
         };
-        match moved {
-            Ok(stop) if stop.hit.is_some() => stops.push(stop.at)?,
-            Ok(_) => {}
+        let stop = match moved {
+            Ok(stop) => stop,
             Err(DebugFault::PastEnd | DebugFault::BeforeStart) => return Ok(stops),
             Err(DebugFault::Memory) => return Err(Fail::new("memory was refused")),
+        };
+        same_place(alloc, day, debugger, stop.at, locates)?;
+        if stop.hit.is_some() {
+            stops.push(stop.at)?;
         }
     }
     Ok(stops)
@@ -120,11 +127,13 @@ fn stops_along<A: Allocator + Copy>(
 // Compares the messages at which the debugger stops on its way with those that are wanted.
 fn compare_way<A: Allocator + Copy>(
     alloc: A,
+    day: &Day<A>,
     debugger: &mut Debugger<'_, A>,
     onward: bool,
+    locates: &[u16],
     wanted: &[u32],
 ) -> Result<(), Fail> {
-    let found = stops_along(alloc, debugger, onward)?;
+    let found = stops_along(alloc, day, debugger, onward, locates)?;
     let way = if onward {
         "stops onward"
     } else {
@@ -133,30 +142,27 @@ fn compare_way<A: Allocator + Copy>(
     same_list(way, &found, wanted)
 }
 
-// Compares the stops on the way to the end of a day, and those on the way back, which begins at the last message.
-fn compare_ways<A: Allocator + Copy>(
-    alloc: A,
-    debugger: &mut Debugger<'_, A>,
-    stops: &mut Vec<u32, A>,
-) -> Result<(), Fail> {
-    compare_way(alloc, debugger, true, stops)?;
-    if stops.last() == Some(&debugger.last()) {
+// The stops on the way back from the end of a day, which begins at the last message, in the order of that way.
+fn stops_back<A: Allocator>(mut stops: Vec<u32, A>, last: u32) -> Vec<u32, A> {
+    if stops.last() == Some(&last) {
         stops.pop();
     }
     stops.reverse();
-    compare_way(alloc, debugger, false, stops)?;
-    same("the start", &debugger.position(), &0)
+    stops
 }
 
 /// Compares the messages at which a breakpoint stops, on the way to the end of a day and on the way back, with those
-/// that the bytes of the messages and the plain machine give.
+/// that the bytes of the messages and the plain machine give, and what the debugger shows there.
 pub fn compare_stops<A: Allocator + Copy>(
     alloc: A,
     day: &Day<A>,
     breakpoint: Break,
+    locates: &[u16],
 ) -> Result<(), Fail> {
-    let mut stops = stops_of(alloc, day, &breakpoint)?;
+    let stops = stops_of(alloc, day, &breakpoint)?;
     let mut debugger = Debugger::new(alloc, day, 7)?;
     debugger.add_break(alloc, breakpoint)?;
-    compare_ways(alloc, &mut debugger, &mut stops)
+    compare_way(alloc, day, &mut debugger, true, locates, &stops)?;
+    let stops = stops_back(stops, day.len());
+    compare_way(alloc, day, &mut debugger, false, locates, &stops)
 }

@@ -3,6 +3,7 @@ use crate::comparing::step;
 use binaryfile::Day;
 use itch_table::{Outcome, Plain};
 use std::alloc::Allocator;
+use std::fmt::{self, Display, Formatter, Write};
 use std::test::Fail;
 
 // The types of all messages.
@@ -74,5 +75,19 @@ impl Tally {
             return Err(Fail::new(format_args!("{} messages pass", self.passed)));
         }
         Ok(())
+    }
+}
+
+impl Display for Tally {
+    /// A line for each type, one for each fault, and one for messages that pass.
+    fn fmt<W: Write>(&self, f: &mut Formatter<W>) -> fmt::Result {
+        for kind in KINDS {
+            let count = self.applied[usize::from(kind)];
+            writeln!(f, "applied {} {count}", char::from(kind))?;
+        }
+        for (number, count) in self.refused.iter().enumerate().skip(1) {
+            writeln!(f, "refused F{number} {count}")?;
+        }
+        write!(f, "passed {}", self.passed)
     }
 }

@@ -137,13 +137,14 @@ fn take_changed<A: Allocator + Copy>(
     }
 }
 
-// One from the space to `z`, or any.
-fn any_byte(random: &mut SmallRng) -> u8 {
-    if random.random_ratio(1, 2) {
+// Another byte than it was: one from the space to `z`, or any.
+fn other_byte(random: &mut SmallRng, was: u8) -> u8 {
+    let byte = if random.random_ratio(1, 2) {
         random.random_range(b' '..=b'z')
     } else {
         random.random_range(0..=u8::MAX)
-    }
+    };
+    if byte == was { was ^ 1 } else { byte }
 }
 
 /// Assembles the text of a day, which gives its bytes, and then that text with one byte changed, so often: it denotes a
@@ -163,11 +164,11 @@ pub fn compare_texts<A: Allocator + Copy>(
     let mut assembled = 0u64;
     for _ in 0..changes {
         let mut other = text.to_vec(alloc)?;
-        let place = random.random_range(0..=text.len());
+        let place = random.random_range(0..=text.len().saturating_sub(1));
         let Some(byte) = other.get_mut(place) else {
             continue;
         };
-        *byte = any_byte(random);
+        *byte = other_byte(random, *byte);
         if take_changed(alloc, day, &text, &other, place)? {
             assembled = assembled.saturating_add(1);
         }
