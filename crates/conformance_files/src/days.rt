@@ -8,6 +8,9 @@ use support::{AMPLE, Pieces, STORED_RUN, same, same_bytes};
 /// A file, and its payloads, whether it is marked, and its tail.
 pub type File<'a> = (&'a [u8], &'a [&'a [u8]], bool, &'a [u8]);
 
+/// The three entries.
+pub const THREE_ENTRIES: File = (THREE, &[b"A", b"BC", b"D"], true, b"\xff");
+
 const FILES: [File; 8] = [
     (b"", &[], false, b""),
     (b"\x00", &[], false, b"\x00"),
@@ -16,11 +19,15 @@ const FILES: [File; 8] = [
     (b"\x00\x00", &[], true, b""),
     (b"\x00\x00\xff", &[], true, b"\xff"),
     (b"\x00\x00\x00\x00", &[], true, b"\x00\x00"),
-    (THREE, &[b"A", b"BC", b"D"], true, b"\xff"),
+    THREE_ENTRIES,
 ];
 
 /// A day has the parts of its file, and gives its bytes back.
-pub fn try_day<A: Allocator + Copy>(alloc: A, day: &Day<A>, file: File) -> Result<(), Fail> {
+pub fn try_day<A: Allocator, B: Allocator + Copy>(
+    alloc: B,
+    day: &Day<A>,
+    file: File,
+) -> Result<(), Fail> {
     let (bytes, payloads, marked, tail) = file;
     same("how many payloads", &(day.len() as usize), &payloads.len())?;
     let mut number = 0usize;

@@ -1,6 +1,6 @@
 //! Limits, and memory that is refused.
 use crate::THREE;
-use crate::days::{File, try_day};
+use crate::days::{File, THREE_ENTRIES, try_day};
 use binaryfile::{Day, Feed, Limits, LoadFault, read_to_end};
 use refusing::{Refusal, Refusing, Tried, refuse_each};
 use std::alloc::{Allocator, Global};
@@ -181,4 +181,13 @@ fn too_many_messages_are_found_before_the_index_grows(rt: HostRuntime) -> Result
     try_limit(&heap, reading, 0, LoadFault::TooManyMessages)?;
     try_limit(&heap, reading, 2, LoadFault::TooManyMessages)?;
     try_limit(&heap, reading, 3, LoadFault::Memory)
+}
+
+#[test]
+fn a_loaded_day_is_read_and_sent_without_memory(rt: HostRuntime) -> Result<(), Fail> {
+    let heap = Refusing::new(rt.alloc(), Refusal::Never);
+    let day = Day::load(&heap, &mut Feed::new(THREE), AMPLE)?;
+    heap.restart(Refusal::From(1));
+    try_day(rt.alloc(), &day, THREE_ENTRIES)?;
+    same("the growths", &heap.asked(), &0)
 }

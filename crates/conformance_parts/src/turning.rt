@@ -328,10 +328,29 @@ fn look_at_both<'d, A: Allocator + Copy>(
     same(case, &(turns.look(1), turns.look(2)), &(one, two))
 }
 
+// Looks at stocks after the last turn, which takes no memory.
+fn look_without_memory(
+    heap: &Refusing<Global>,
+    turns: &Turns<'_, &Refusing<Global>>,
+) -> Result<(), Fail> {
+    heap.restart(Refusal::From(1));
+    same("the words of stock 3", &turns.look(3), &[6, 0, 0, 0])?;
+    same("the words of no stock", &turns.look(9), &[0; 4])?;
+    let steps = turns.stock(2).map(|stock| stock.steps());
+    same("the steps of stock 2", &steps, &Some(2))?;
+    let none = turns.stock(9).is_none();
+    same(
+        "no stock, and the growths",
+        &(none, heap.asked()),
+        &(true, 0),
+    )
+}
+
 #[test]
 fn turns_of_a_day_come_in_any_order(rt: HostRuntime) -> Result<(), Fail> {
-    let day = two_stocks(rt.alloc())?;
-    let mut turns = Turns::new(&rt, rt.alloc(), &day, 2).map_err(|_| Fail::new("no turns"))?;
+    let heap = Refusing::new(rt.alloc(), Refusal::Never);
+    let day = two_stocks(&heap)?;
+    let mut turns = Turns::new(&rt, &heap, &day, 2).map_err(|_| Fail::new("no turns"))?;
     same("a turn of no worker", &turns.turn(2)?, &None)?;
     look_at_both("before the first turn", &turns, [0; 4], [0; 4])?;
     take_of_day(&mut turns, 1, 1, Outcome::Applied)?;
@@ -353,9 +372,5 @@ fn turns_of_a_day_come_in_any_order(rt: HostRuntime) -> Result<(), Fail> {
     take_of_day(&mut turns, 1, 6, Outcome::Refused(Fault::NoDirectory))?;
     take_of_day(&mut turns, 1, 7, Outcome::Refused(Fault::ReferenceUnknown))?;
     look_at_both("a refused delete", &turns, [7, 0, 0, 0], two)?;
-    same("the words of stock 3", &turns.look(3), &[6, 0, 0, 0])?;
-    same("the words of no stock", &turns.look(9), &[0; 4])?;
-    let steps = turns.stock(2).map(|stock| stock.steps());
-    same("the steps of stock 2", &steps, &Some(2))?;
-    same("no stock", &turns.stock(9).is_none(), &true)
+    look_without_memory(&heap, &turns)
 }

@@ -267,6 +267,26 @@ fn turns_of_two_stocks() -> [After; 8] {
     ]
 }
 
+// Finds a worker's stocks and writers, and none of a stock of no message, without memory.
+fn find_without_memory<'h>(
+    heap: &'h Refusing<Global>,
+    worker: &Worker<&'h Refusing<Global>>,
+) -> Result<(), Fail> {
+    heap.restart(Refusal::From(1));
+    for (locate, has) in [(1, true), (2, true), (9, false)] {
+        let found = (
+            worker.stock(locate).is_some(),
+            worker.writer(locate).is_some(),
+        );
+        same(
+            "a stock and its writer",
+            &(locate, found),
+            &(locate, (has, has)),
+        )?;
+    }
+    same("the growths", &heap.tried(false).growths, &0)
+}
+
 // Takes turns of a worker with memory.
 fn lead<R: Threads + Wait + Sync, A: Allocator + Copy>(
     rt: &R,
@@ -301,6 +321,7 @@ fn try_turn<R: Threads + Wait + Sync>(
     let day = two_stocks(heap)?;
     let (mut worker, board, mut screen) = only_worker(rt, &heap, &day)?;
     lead(rt, &day, &board, &mut worker, earlier)?;
+    find_without_memory(heap, &worker)?;
     let before = see(rt, heap, &board, &worker, &mut screen);
     heap.restart(refusal);
     let mut answer = turn(rt, &day, &board, &mut worker);
