@@ -91,8 +91,8 @@ fn lists_orders<A: Allocator + Copy>(
     same_list("the references", &listed, references)
 }
 
-// A book shows those orders and their levels in order.
-fn is_in_order<A: Allocator + Copy>(alloc: A, book: &Book<A>) -> Result<(), Fail> {
+// A book of those orders lists them by their references, and their levels by their prices.
+fn lists_in_order<A: Allocator + Copy>(alloc: A, book: &Book<A>) -> Result<(), Fail> {
     let top = Top {
         ask_price: 25,
         ask_shares: 5,
@@ -110,11 +110,12 @@ fn is_in_order<A: Allocator + Copy>(alloc: A, book: &Book<A>) -> Result<(), Fail
 
 #[test]
 fn orders_and_levels_are_in_order(rt: HostRuntime) -> Result<(), Fail> {
-    is_in_order(rt.alloc(), &mixed_book(rt.alloc(), &[])?)
+    lists_in_order(rt.alloc(), &mixed_book(rt.alloc(), &[])?)
 }
 
-// Of twenty orders of a new book fifteen go; a free reference comes again, and an order moves to one below all others.
-fn free_references<A: Allocator + Copy>(alloc: A, book: &mut Book<A>) -> Result<(), Fail> {
+// Twenty orders come into a new book, and fifteen of them go; a free reference comes again, and an order moves to one
+// below all others.
+fn reuse_references<A: Allocator + Copy>(alloc: A, book: &mut Book<A>) -> Result<(), Fail> {
     for reference in 1..=20u64 {
         make_all(book, &[bid(reference, 10, 5)])?;
     }
@@ -135,7 +136,7 @@ fn free_references<A: Allocator + Copy>(alloc: A, book: &mut Book<A>) -> Result<
 #[test]
 fn references_that_are_free_come_again(rt: HostRuntime) -> Result<(), Fail> {
     let mut book = Book::new(rt.alloc());
-    free_references(rt.alloc(), &mut book)?;
+    reuse_references(rt.alloc(), &mut book)?;
     let shares = (book.level(Side::Buy, 5), book.level(Side::Buy, 6));
     same(
         "the shares and the count",

@@ -180,7 +180,7 @@ fn shows_both_sides<A: Allocator + Copy>(alloc: A, book: &Book<A>) -> Result<(),
     Ok(())
 }
 
-// Makes a list of a book of both sides under a refusal. It leaves the book as it is, whose lists are then made with
+// Makes a list of a book of both sides under a refusal. The book stays as it is, and its lists are made again with
 // memory.
 fn list_under<'h>(
     heap: &'h Refusing<Global>,

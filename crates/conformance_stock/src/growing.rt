@@ -235,8 +235,8 @@ fn shows_both_sides<A: Allocator + Copy>(alloc: A, stock: &Stock<A>) -> Result<(
     same("the status", &stock.status(), &status)
 }
 
-// Makes a list of a machine with orders of both sides under a refusal. It leaves the machine as it is, whose lists are
-// then made with memory.
+// Makes a list of a machine with orders of both sides under a refusal. The machine stays as it is, and its lists are
+// made again with memory.
 fn list_under<'h>(
     heap: &'h Refusing<Global>,
     stock: &Stock<&'h Refusing<Global>>,
