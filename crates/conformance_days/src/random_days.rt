@@ -27,7 +27,7 @@ pub const MESSAGES: u32 = 97;
 const CHANGED_TEXTS: u32 = 100;
 
 // How many of these denote a file at least, over all days.
-const ASSEMBLED_TEXTS: u64 = 400;
+const ASSEMBLED_TEXTS: u64 = 300;
 
 // Breakpoints of each kind.
 fn breakpoints() -> Result<[Break; 4], Fail> {
