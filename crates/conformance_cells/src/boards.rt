@@ -1,14 +1,17 @@
 //! Boards, and what their writers and screens show one after another.
+ghost use Rattle.conformance_cells.specs.Showing.{AreInStep};
+
 use crate::cells::only_cell;
 use crate::showing::show_next;
 use binaryfile::Day;
+use itch_table::Plain;
 use refusing::{Refusal, Refusing, Tried, refuse_each};
 use std::alloc::{AllocError, Allocator, Global};
 use std::sync::Wait;
 use std::test::Fail;
 use std::thread::Threads;
 use support::{AAPL, crossed_book, day_of, day_with, same, same_bytes, same_list, two_stocks};
-use top_cell::{Board, Reading};
+use top_cell::{Board, Reading, TopWriter};
 
 // The best bid and ask of the crossed book: 100 shares are bid at 101, above the ask of 50 shares at 100.
 const CROSSED: Reading = Reading {
@@ -44,31 +47,61 @@ fn each_stock_has_a_writer(rt: HostRuntime) -> Result<(), Fail> {
     same("of an empty file", &none.len(), &0)
 }
 
-#[test]
-fn screens_stand_at_what_they_have_seen(rt: HostRuntime) -> Result<(), Fail> {
-    let alloc = rt.alloc();
-    let day = crossed_book(alloc)?;
-    let (board, mut writer, mut machine) = only_cell(&rt, &alloc, &day)?;
-    let mut first = writer.screen(&rt, &board);
-    show_next(&rt, &day, &mut machine, &board, &mut writer)?;
-    show_next(&rt, &day, &mut machine, &board, &mut writer)?;
-    let mut second = writer.screen(&rt, &board);
-    show_next(&rt, &day, &mut machine, &board, &mut writer)?;
-    let third = writer.screen(&rt, &board);
+// Screens of the crossed book's cell, made before its first message and after its second and third.
+fn screens_stand<R: Wait, A: Allocator + Copy>(
+    rt: &R,
+    day: &Day<A>,
+    machine: &mut Plain<A>,
+    board: &Board<'_, A>,
+    writer: &mut TopWriter,
+) -> Result<(), Fail>
+    requires { AreInStep day.now.payloads board.now machine.old writer.old }
+{
+    let mut first = writer.screen(rt, board);
+    show_next(rt, day, machine, board, writer)?;
+    show_next(rt, day, machine, board, writer)?;
+    let mut second = writer.screen(rt, board);
+    show_next(rt, day, machine, board, writer)?;
+    let third = writer.screen(rt, board);
     same(
         "where they stand",
         &(first.message(), second.message(), third.message()),
         &(0, 2, 3),
     )?;
-    same("what the first reads", &first.read(&rt, &board), &CROSSED)?;
-    second.join(&rt, &board, third);
-    let fourth = first.split(&rt, &board);
+    same("what the first reads", &first.read(rt, board), &CROSSED)?;
+    second.join(rt, board, third);
+    let fourth = first.split(rt, board);
     same(
         "where they stand then",
         &(first.message(), second.message(), fourth.message()),
         &(3, 3, 3),
     )?;
     same("whose it is", &(writer.locate(), first.locate()), &(1, 1))
+}
+
+#[test]
+fn screens_stand_at_what_they_have_seen(rt: HostRuntime) -> Result<(), Fail> {
+    let alloc = rt.alloc();
+    let day = crossed_book(alloc)?;
+    let (board, mut writer, mut machine) = only_cell(&rt, &alloc, &day)?;
+    screens_stand(&rt, &day, &mut machine, &board, &mut writer)
+}
+
+// What a screen reads of a cell after the first three messages of its stock, and the words of the best bid and ask then.
+fn show_three<R: Wait, A: Allocator + Copy>(
+    rt: &R,
+    day: &Day<A>,
+    machine: &mut Plain<A>,
+    board: &Board<'_, A>,
+    writer: &mut TopWriter,
+) -> Result<(Reading, [u64; 4]), Fail>
+    requires { AreInStep day.now.payloads board.now machine.old writer.old }
+{
+    let mut screen = writer.screen(rt, board);
+    for _ in 0..3u32 {
+        show_next(rt, day, machine, board, writer)?;
+    }
+    Ok((screen.read(rt, board), machine.top(1).to_words(3)))
 }
 
 // The price of the bid stands in the high half of the second word, and that of the ask in the low one.
@@ -79,22 +112,19 @@ fn a_cell_holds_the_greatest_numbers(rt: HostRuntime) -> Result<(), Fail> {
     let ask = AAPL.add(18_446_744_073_709_551_615, b'S', 1, 4_294_967_295);
     let day = day_with(alloc, &[AAPL.directory(), bid, ask])?;
     let (board, mut writer, mut machine) = only_cell(&rt, &alloc, &day)?;
-    let mut screen = writer.screen(&rt, &board);
-    show_next(&rt, &day, &mut machine, &board, &mut writer)?;
-    show_next(&rt, &day, &mut machine, &board, &mut writer)?;
-    show_next(&rt, &day, &mut machine, &board, &mut writer)?;
-    let shown = Reading {
+    let shown = show_three(&rt, &day, &mut machine, &board, &mut writer)?;
+    let reading = Reading {
         message: 3,
         bid_price: 0,
         bid_shares: 4_294_967_295,
         ask_price: 4_294_967_295,
         ask_shares: 1,
     };
-    same("what a screen reads", &screen.read(&rt, &board), &shown)?;
+    let words = [3, 0x0000_0000_ffff_ffff, 4_294_967_295, 1];
     same(
-        "the words of the best bid and ask",
-        &machine.top(1).to_words(3),
-        &[3, 0x0000_0000_ffff_ffff, 4_294_967_295, 1],
+        "what a screen reads, and the words",
+        &shown,
+        &(reading, words),
     )
 }
 
@@ -136,25 +166,27 @@ fn a_board_without_memory_is_none(rt: HostRuntime) -> Result<(), Fail> {
     same("some growths", &(growths > 10 && growths <= 40), &true)
 }
 
-// Publishes a message that takes no memory, and lets screens be made, read and joined, all without memory.
-#[test]
-fn cells_that_are_made_take_no_memory(rt: HostRuntime) -> Result<(), Fail> {
-    let heap = Refusing::new(rt.alloc(), Refusal::Never);
-    let alloc = &heap;
-    let day = day_with(
-        alloc,
-        &[AAPL.directory(), AAPL.add(1, b'B', 10, 100), AAPL.delete(1)],
-    )?;
-    let (board, mut writer, mut machine) = only_cell(&rt, &alloc, &day)?;
-    show_next(&rt, &day, &mut machine, &board, &mut writer)?;
-    show_next(&rt, &day, &mut machine, &board, &mut writer)?;
+// Publishes the third message of a bid that is deleted, which takes no memory, and lets screens be made, read and joined,
+// all without memory.
+fn show_without_memory<'h, R: Wait>(
+    rt: &R,
+    heap: &'h Refusing<Global>,
+    day: &Day<&'h Refusing<Global>>,
+    machine: &mut Plain<&'h Refusing<Global>>,
+    board: &Board<'_, &'h Refusing<Global>>,
+    writer: &mut TopWriter,
+) -> Result<(), Fail>
+    requires { AreInStep day.now.payloads board.now machine.old writer.old }
+{
+    show_next(rt, day, machine, board, writer)?;
+    show_next(rt, day, machine, board, writer)?;
     heap.restart(Refusal::From(1));
-    let mut first = writer.screen(&rt, &board);
-    let bid = first.read(&rt, &board);
-    show_next(&rt, &day, &mut machine, &board, &mut writer)?;
-    let second = first.split(&rt, &board);
-    first.join(&rt, &board, second);
-    let gone = first.read(&rt, &board);
+    let mut first = writer.screen(rt, board);
+    let bid = first.read(rt, board);
+    show_next(rt, day, machine, board, writer)?;
+    let second = first.split(rt, board);
+    first.join(rt, board, second);
+    let gone = first.read(rt, board);
     same(
         "what is read, and the growths",
         &(
@@ -164,4 +196,16 @@ fn cells_that_are_made_take_no_memory(rt: HostRuntime) -> Result<(), Fail> {
         ),
         &((2, 10), (3, 0), 0),
     )
+}
+
+#[test]
+fn cells_that_are_made_take_no_memory(rt: HostRuntime) -> Result<(), Fail> {
+    let heap = Refusing::new(rt.alloc(), Refusal::Never);
+    let alloc = &heap;
+    let day = day_with(
+        alloc,
+        &[AAPL.directory(), AAPL.add(1, b'B', 10, 100), AAPL.delete(1)],
+    )?;
+    let (board, mut writer, mut machine) = only_cell(&rt, &alloc, &day)?;
+    show_without_memory(&rt, alloc, &day, &mut machine, &board, &mut writer)
 }

@@ -3,12 +3,45 @@ use crate::worked::{TRADED, day_in};
 use debugger::Debugger;
 use itch_debug::answer_line;
 use refusing::{Refusal, Refusing, Tried, refuse_each};
-use std::alloc::Global;
+use std::alloc::{Allocator, Global};
 use std::test::Fail;
 use support::{same, same_bytes};
 
-// Hands a session at position 5, which has a breakpoint, a line under a refusal. An answer is then the one that is
-// wanted, or a part of it where memory was refused, and then the session goes on to show the day.
+// Hands a session a line with memory.
+fn answer<A: Allocator + Copy>(
+    alloc: A,
+    debugger: &mut Debugger<'_, A>,
+    line: &str,
+    wanted: &str,
+) -> Result<(), Fail> {
+    let mut text = Vec::new(alloc);
+    answer_line(alloc, &mut text, debugger, line.as_bytes())?;
+    same_bytes(line, &text, wanted.as_bytes())
+}
+
+// Hands a session a line under a refusal. An answer is then the one that is wanted, or a part of it where memory was
+// refused.
+fn answer_under<'h>(
+    heap: &'h Refusing<Global>,
+    debugger: &mut Debugger<'_, &'h Refusing<Global>>,
+    line: &str,
+    wanted: &str,
+    refusal: Refusal,
+) -> Result<Tried, Fail> {
+    heap.restart(refusal);
+    let mut text = Vec::new(heap);
+    let refused = answer_line(heap, &mut text, debugger, line.as_bytes()).is_err();
+    let tried = heap.tried(refused);
+    if tried.refused {
+        same(line, &wanted.as_bytes().starts_with(&text), &true)?;
+    } else {
+        same_bytes(line, &text, wanted.as_bytes())?;
+    }
+    Ok(tried)
+}
+
+// Hands a session at position 5, which has a breakpoint, a line under a refusal. Then the session goes on to show the
+// day.
 fn try_line(
     heap: &Refusing<Global>,
     line: &str,
@@ -17,21 +50,10 @@ fn try_line(
 ) -> Result<Tried, Fail> {
     let day = day_in(heap, TRADED)?;
     let mut debugger = Debugger::new(heap, &day, 1)?;
-    let mut setting = Vec::new(heap);
-    answer_line(heap, &mut setting, &mut debugger, b"break time 3")?;
-    answer_line(heap, &mut setting, &mut debugger, b"goto 5")?;
-    heap.restart(refusal);
-    let mut text = Vec::new(heap);
-    let refused = answer_line(heap, &mut text, &mut debugger, line.as_bytes()).is_err();
-    let tried = heap.tried(refused);
-    if tried.refused {
-        same(line, &wanted.as_bytes().starts_with(&text), &true)?;
-    } else {
-        same_bytes(line, &text, wanted.as_bytes())?;
-    }
-    let mut later = Vec::new(heap);
-    answer_line(heap, &mut later, &mut debugger, b"goto 5")?;
-    same_bytes("a later move", &later, b"at 5 applied\n")?;
+    answer(heap, &mut debugger, "break time 3", "break 1\n")?;
+    answer(heap, &mut debugger, "goto 5", "at 5 applied\n")?;
+    let tried = answer_under(heap, &mut debugger, line, wanted, refusal)?;
+    answer(heap, &mut debugger, "goto 5", "at 5 applied\n")?;
     Ok(tried)
 }
 

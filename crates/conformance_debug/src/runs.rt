@@ -1,9 +1,9 @@
 //! Sessions between a reader and a writer: pieces of lines, their end, and devices that fail.
-use crate::worked::{TRADED, day_in};
+use crate::worked::{TRADED, add_line, day_in};
 use binaryfile::{Feed, Sink};
 use itch_debug::debug_run;
 use itch_engine::ProgFault;
-use std::alloc::{AllocError, Allocator};
+use std::alloc::Allocator;
 use std::io::ErrorKind;
 use std::test::Fail;
 use support::{Failure, Narrow, Pieces, same, same_bytes};
@@ -100,19 +100,6 @@ fn a_writer_that_fails_has_taken_a_prefix_of_the_answers(rt: HostRuntime) -> Res
         )?;
     }
     Ok(())
-}
-
-// Adds spaces and a command, a line of this many bytes without the line feed that may end it.
-fn add_line<A: Allocator>(
-    lines: &mut Vec<u8, A>,
-    length: usize,
-    command: &[u8],
-) -> Result<(), AllocError> {
-    let words = command.strip_suffix(b"\n").unwrap_or(command);
-    for _ in words.len()..length {
-        lines.push(b' ')?;
-    }
-    lines.extend_from_slice(command)
 }
 
 // Runs a session with a line of 1,000 bytes, one of 1,001 and, at its end without a line feed, one of this many, in

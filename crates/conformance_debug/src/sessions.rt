@@ -1,7 +1,8 @@
 //! Lines and their answers.
-use crate::worked::{EVENTS, REPLACED, TRADED, day_in, follow};
+use crate::worked::{EVENTS, REPLACED, TRADED, add_line, day_in, follow};
 use debugger::Debugger;
 use itch_debug::{Next, answer_line};
+use std::alloc::Allocator;
 use std::test::Fail;
 use support::{same, same_bytes};
 
@@ -218,24 +219,35 @@ fn other_lines_are_no_command(rt: HostRuntime) -> Result<(), Fail> {
     follow(rt.alloc(), TRADED, 1000, OTHER, OTHER_ANSWERS)
 }
 
+// Hands a session a line of spaces and a command that has this many bytes, and compares what it answers.
+fn answer_long<A: Allocator + Copy>(
+    alloc: A,
+    debugger: &mut Debugger<'_, A>,
+    length: usize,
+    command: &[u8],
+    wanted: (Next, &[u8]),
+) -> Result<(), Fail> {
+    let mut line = Vec::new(alloc);
+    add_line(&mut line, length, command)?;
+    let mut answer = Vec::new(alloc);
+    let next = answer_line(alloc, &mut answer, debugger, &line)?;
+    same("whether it goes on", &(length, next), &(length, wanted.0))?;
+    same_bytes("the answer", &answer, wanted.1)
+}
+
 #[test]
 fn a_line_has_at_most_a_thousand_bytes(rt: HostRuntime) -> Result<(), Fail> {
     let alloc = rt.alloc();
     let day = day_in(alloc, TRADED)?;
     let mut debugger = Debugger::new(alloc, &day, 1000)?;
-    for (length, wanted) in [(1000, b"".as_slice()), (1001, b"? command\n".as_slice())] {
-        let line = Vec::from_elem(alloc, b' ', length)?;
-        let mut answer = Vec::new(alloc);
-        answer_line(alloc, &mut answer, &mut debugger, &line)?;
-        same_bytes("spaces", &answer, wanted)?;
+    let refused = (Next::Going, b"? command\n".as_slice());
+    for (length, command, wanted) in [
+        (1000, b"".as_slice(), (Next::Going, b"".as_slice())),
+        (1001, b"", refused),
+        (1000, b"quit", (Next::Over, b"")),
+        (1001, b"quit", refused),
+    ] {
+        answer_long(alloc, &mut debugger, length, command, wanted)?;
     }
-    let mut line = Vec::from_elem(alloc, b' ', 996)?;
-    line.extend_from_slice(b"quit")?;
-    let mut answer = Vec::new(alloc);
-    let next = answer_line(alloc, &mut answer, &mut debugger, &line)?;
-    same("quit after spaces", &next, &Next::Over)?;
-    same_bytes("quit answers nothing", &answer, b"")?;
-    line.push(b' ')?;
-    let next = answer_line(alloc, &mut answer, &mut debugger, &line)?;
-    same("quit in a long line", &next, &Next::Going)
+    Ok(())
 }

@@ -5,7 +5,7 @@ use binaryfile::Day;
 use debugger::Debugger;
 use itch_debug::{Next, answer_line};
 use itch_text::assemble;
-use std::alloc::Allocator;
+use std::alloc::{AllocError, Allocator};
 use std::test::Fail;
 use support::{day_of, same, same_bytes};
 
@@ -58,4 +58,17 @@ pub fn follow<A: Allocator + Copy>(
         same("a line that isn't `quit`", &next, &Next::Going)?;
     }
     same_bytes("the answers", &answers, wanted.as_bytes())
+}
+
+/// Adds spaces and a command, a line of this many bytes without the line feed that may end it.
+pub fn add_line<A: Allocator>(
+    lines: &mut Vec<u8, A>,
+    length: usize,
+    command: &[u8],
+) -> Result<(), AllocError> {
+    let words = command.strip_suffix(b"\n").unwrap_or(command);
+    for _ in words.len()..length {
+        lines.push(b' ')?;
+    }
+    lines.extend_from_slice(command)
 }
