@@ -98,9 +98,9 @@ fn show_three<R: Wait, A: Allocator + Copy>(
     requires { AreInStep day.now.payloads board.now machine.old writer.old }
 {
     let mut screen = writer.screen(rt, board);
-    for _ in 0..3u32 {
-        show_next(rt, day, machine, board, writer)?;
-    }
+    show_next(rt, day, machine, board, writer)?;
+    show_next(rt, day, machine, board, writer)?;
+    show_next(rt, day, machine, board, writer)?;
     Ok((screen.read(rt, board), machine.top(1).to_words(3)))
 }
 
