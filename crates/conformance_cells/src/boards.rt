@@ -87,7 +87,8 @@ fn screens_stand_at_what_they_have_seen(rt: HostRuntime) -> Result<(), Fail> {
     screens_stand(&rt, &day, &mut machine, &board, &mut writer)
 }
 
-// What a screen reads of a cell after the first three messages of its stock, and the words of the best bid and ask then.
+// What a screen reads of a cell after the first three messages of its stock, and the words of the best bid and ask
+// then.
 fn show_three<R: Wait, A: Allocator + Copy>(
     rt: &R,
     day: &Day<A>,
@@ -166,8 +167,8 @@ fn a_board_without_memory_is_none(rt: HostRuntime) -> Result<(), Fail> {
     same("some growths", &(growths > 10 && growths <= 40), &true)
 }
 
-// Publishes the third message of a bid that is deleted, which takes no memory, and lets screens be made, read and joined,
-// all without memory.
+// Publishes the third message of a bid that is deleted, which takes no memory, and lets screens be made, read and
+// joined, all without memory.
 fn show_without_memory<'h, R: Wait>(
     rt: &R,
     heap: &'h Refusing<Global>,

@@ -1,5 +1,5 @@
-//! Files of any bytes as days, limits, growths that are refused, and devices that fail. The expected values are worked out
-//! by hand from the rules in docs/FORMATS.md.
+//! Files of any bytes as days, limits, growths that are refused, and devices that fail. The expected values are worked
+//! out by hand from the rules in docs/FORMATS.md.
 #![tactic(auto)]
 
 #[cfg(test)]

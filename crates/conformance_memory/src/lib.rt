@@ -1,4 +1,5 @@
-//! The memory that the plain machine takes: steps and lists with each of their growths refused, and steps that take none.
+//! The memory that the plain machine takes: steps and lists with each of their growths refused, and steps that take
+//! none.
 #![tactic(auto)]
 
 #[cfg(test)]

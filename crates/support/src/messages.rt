@@ -1,5 +1,5 @@
-//! Messages by their fields. Each has tracking number and time 0, and the bodies are those of Nasdaq TotalView-ITCH 5.0,
-//! "Message Formats".
+//! Messages by their fields. Each has tracking number and time 0, and the bodies are those of Nasdaq TotalView-ITCH
+//! 5.0, "Message Formats".
 use itch_layouts::{
     Add, AddMpid, Broken, Cancel, Collar, Cross, Delete, Directory, Execute, ExecutePrice, Head,
     Imbalance, Msg, Nanos, NonCrossTrade, Operational, Participant, Regsho, Replace, Retail,
