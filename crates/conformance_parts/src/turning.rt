@@ -75,25 +75,32 @@ fn take<A: Allocator + Copy>(
     same(case, &answer, &wanted)
 }
 
+// Worker 1 of two does all of its messages of the two stocks.
+fn do_messages<A: Allocator + Copy>(runner: &mut Runner<A>, day: &Day<A>) -> Result<(), Fail>
+    requires { day.now.payloads ≡ runner.old.day }
+{
+    let unlisted = Outcome::Refused(Fault::NoDirectory);
+    let unknown = Outcome::Refused(Fault::ReferenceUnknown);
+    take("turn 1", runner, day, turned(1, Outcome::Applied, 0))?;
+    take("turn 2", runner, day, turned(3, Outcome::Applied, 0))?;
+    take("turn 3", runner, day, turned(5, Outcome::Applied, 0))?;
+    take("turn 4", runner, day, turned(6, unlisted, 1))?;
+    take("turn 5", runner, day, turned(7, unknown, 0))?;
+    take(
+        "a turn of a worker that has done all of its messages",
+        runner,
+        day,
+        None,
+    )?;
+    take("its next one", runner, day, None)
+}
+
 #[test]
 fn a_worker_does_its_messages_in_order(rt: HostRuntime) -> Result<(), Fail> {
     let day = two_stocks(rt.alloc())?;
     let parts = parts_of(&rt, rt.alloc(), &day, 2)?;
     let mut runner = runner_of(rt.alloc(), &parts, 1)?;
-    let unlisted = Outcome::Refused(Fault::NoDirectory);
-    let unknown = Outcome::Refused(Fault::ReferenceUnknown);
-    take("turn 1", &mut runner, &day, turned(1, Outcome::Applied, 0))?;
-    take("turn 2", &mut runner, &day, turned(3, Outcome::Applied, 0))?;
-    take("turn 3", &mut runner, &day, turned(5, Outcome::Applied, 0))?;
-    take("turn 4", &mut runner, &day, turned(6, unlisted, 1))?;
-    take("turn 5", &mut runner, &day, turned(7, unknown, 0))?;
-    take(
-        "a turn of a worker that has done all of its messages",
-        &mut runner,
-        &day,
-        None,
-    )?;
-    take("its next one", &mut runner, &day, None)?;
+    do_messages(&mut runner, &day)?;
     let places = (runner.place_of(1), runner.place_of(3));
     same("its stocks", &places, &(Some(0), Some(1)))?;
     let others = (runner.place_of(2), runner.place_of(5));
@@ -253,8 +260,35 @@ fn lead<A: Allocator + Copy>(
     Ok(())
 }
 
-// Takes the last of these turns under a refusal, after the earlier ones. Where it is refused, the worker says what it
-// said before, and takes the turn with memory.
+// Takes a worker's turn under a refusal, after earlier ones. Where it is refused, the worker says what it said before,
+// and takes the turn with memory.
+fn turn_under<'h>(
+    heap: &'h Refusing<Global>,
+    runner: &mut Runner<&'h Refusing<Global>>,
+    day: &Day<&'h Refusing<Global>>,
+    earlier: &[After],
+    wanted: After,
+    refusal: Refusal,
+) -> Result<Tried, Fail>
+    requires { day.now.payloads ≡ runner.old.day }
+{
+    lead(runner, day, earlier)?;
+    let before = said_by(heap, runner)?;
+    heap.restart(refusal);
+    let mut answer = runner.turn(day);
+    let tried = heap.tried(answer.is_err());
+    if tried.refused {
+        same("a refused turn", &said_by(heap, runner)?, &before)?;
+        answer = runner.turn(day);
+    }
+    let (turned, next, [one, two, three]) = wanted;
+    same("a turn", &answer, &Ok(turned))?;
+    let after = (0, 7, next, [Some(one), Some(two), Some(three)]);
+    same("after a turn", &said_by(heap, runner)?, &after)?;
+    Ok(tried)
+}
+
+// Takes the last of these turns of the only worker of the two stocks under a refusal.
 fn try_turn<R: Threads + Sync>(
     rt: &R,
     heap: &Refusing<Global>,
@@ -267,20 +301,7 @@ fn try_turn<R: Threads + Sync>(
     let day = two_stocks(heap)?;
     let parts = parts_of(rt, heap, &day, 1)?;
     let mut runner = runner_of(heap, &parts, 0)?;
-    lead(&mut runner, &day, earlier)?;
-    let before = said_by(heap, &runner)?;
-    heap.restart(refusal);
-    let mut answer = runner.turn(&day);
-    let tried = heap.tried(answer.is_err());
-    if tried.refused {
-        same("a refused turn", &said_by(heap, &runner)?, &before)?;
-        answer = runner.turn(&day);
-    }
-    let (turned, next, [one, two, three]) = *wanted;
-    same("a turn", &answer, &Ok(turned))?;
-    let after = (0, 7, next, [Some(one), Some(two), Some(three)]);
-    same("after a turn", &said_by(heap, &runner)?, &after)?;
-    Ok(tried)
+    turn_under(heap, &mut runner, &day, earlier, *wanted, refusal)
 }
 
 // Only the two orders need memory.
