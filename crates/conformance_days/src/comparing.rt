@@ -5,6 +5,9 @@ use std::test::Fail;
 use stock_machine::Stock;
 use support::{same, same_list};
 
+// The low references of which it is asked whether they are spent. On a day at random there are no others.
+const LOW: u64 = 40;
+
 /// Hands the plain machine the next payload, and answers what became of it.
 pub fn step<A: Allocator + Copy>(plain: &mut Plain<A>, payload: &[u8]) -> Result<Outcome, Fail> {
     if plain.steps() == u32::MAX {
@@ -62,6 +65,25 @@ fn same_orders<A: Allocator + Copy>(
     )
 }
 
+// The spent references, of few low ones, of those that live, and of the greatest one.
+fn same_spent<A: Allocator + Copy>(
+    alloc: A,
+    plain: &Plain<A>,
+    stock: &Stock<A>,
+) -> Result<(), Fail> {
+    let locate = stock.locate();
+    for reference in 0..=LOW {
+        let found = (reference, stock.spent(reference));
+        same("a spent reference", &found, &(reference, plain.spent(locate, reference)))?;
+    }
+    for order in &plain.orders(alloc, locate)? {
+        let found = (stock.spent(order.reference), plain.spent(locate, order.reference));
+        same("the reference of an order", &found, &(true, true))?;
+    }
+    let greatest = stock.spent(u64::MAX);
+    same("the greatest reference", &greatest, &plain.spent(locate, u64::MAX))
+}
+
 /// Compares all that the machine of a stock says with what the plain machine says of that stock.
 pub fn same_stock<A: Allocator + Copy>(
     alloc: A,
@@ -71,7 +93,8 @@ pub fn same_stock<A: Allocator + Copy>(
     same_known(plain, stock)?;
     same_levels(alloc, plain, stock, Side::Buy)?;
     same_levels(alloc, plain, stock, Side::Sell)?;
-    same_orders(alloc, plain, stock)
+    same_orders(alloc, plain, stock)?;
+    same_spent(alloc, plain, stock)
 }
 
 // All that a copy of the machine of a stock says.

@@ -12,11 +12,14 @@ const KINDS: [u8; 22] = *b"SRHYLVWKJhAFECXDUPQBIN";
 // How often each outcome occurs at least over all days at random.
 const LEAST: u64 = 20;
 
-/// How many messages were applied, by type, how many were refused, by the fault's number, and how many passed.
+/// How many messages were applied, by type, how many were refused, by the fault's number from 1 to 12, and how many
+/// passed.
 #[derive(Drop)]
 pub struct Tally {
     applied: [u64; 256],
-    refused: [u64; 12],
+    refused: [u64; 13],
+    // Faults of a number that has no place in `refused`.
+    strange: u64,
     passed: u64,
 }
 
@@ -29,7 +32,8 @@ impl Tally {
     /// No messages.
     pub const NONE: Tally = Tally {
         applied: [0; 256],
-        refused: [0; 12],
+        refused: [0; 13],
+        strange: 0,
         passed: 0,
     };
 
@@ -39,8 +43,9 @@ impl Tally {
             Outcome::Applied => count(&mut self.applied[usize::from(kind)]),
             Outcome::Passed => count(&mut self.passed),
             Outcome::Refused(fault) => {
-                if let Some(times) = self.refused.get_mut(usize::from(fault.number())) {
-                    count(times);
+                match self.refused.get_mut(usize::from(fault.number())) {
+                    Some(times) => count(times),
+                    None => count(&mut self.strange),
                 }
             }
         }
@@ -70,6 +75,9 @@ impl Tally {
             if *count < LEAST {
                 return Err(Fail::new(format_args!("fault {number} occurs {count} times")));
             }
+        }
+        if self.strange > 0 {
+            return Err(Fail::new(format_args!("{} faults aren't counted", self.strange)));
         }
         if self.passed < LEAST {
             return Err(Fail::new(format_args!("{} messages pass", self.passed)));

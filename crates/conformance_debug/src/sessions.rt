@@ -1,5 +1,5 @@
 //! Lines and their answers.
-use crate::worked::{EVENTS, REPLACED, TRADED, add_line, day_in, follow};
+use crate::worked::{EVENTS, REPLACED, SPENT, TRADED, add_line, day_in, follow};
 use debugger::Debugger;
 use itch_debug::{Next, answer_line};
 use std::alloc::Allocator;
@@ -37,6 +37,20 @@ const TOUR_ANSWERS: &str = "at 5 applied\n\
 fn a_session_shows_the_stock_at_each_position(rt: HostRuntime) -> Result<(), Fail> {
     for every in [1, 2, 3, 7, 1000] {
         follow(rt.alloc(), TRADED, every, TOUR, TOUR_ANSWERS)?;
+    }
+    Ok(())
+}
+
+#[test]
+fn a_session_refuses_spent_references(rt: HostRuntime) -> Result<(), Fail> {
+    for every in [1, 3, 1000] {
+        follow(
+            rt.alloc(),
+            SPENT,
+            every,
+            "goto 15\ngoto 5\ngoto 11\n",
+            "at 15 applied\nat 5 refused F12\nat 11 refused F12\n",
+        )?;
     }
     Ok(())
 }

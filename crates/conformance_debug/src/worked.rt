@@ -26,6 +26,24 @@ pub const REPLACED: &str =
      replace locate=1 tracking=0 time=2 reference=1 new_reference=1 shares=50 price=1490000\n\
      replace locate=1 tracking=0 time=3 reference=1 new_reference=2 shares=50 price=1490000\n";
 
+/// References that are asked for again, after their orders have gone.
+pub const SPENT: &str =
+    "directory locate=1 tracking=0 time=0 stock=\"AAPL\" category=\"Q\" status=\"N\" lot=100 lots_only=\"N\" issue_class=\"C\" issue_subtype=\"Z\" authenticity=\"P\" short_sale=\"N\" ipo=\"N\" luld=\"1\" etp=\"N\" leverage=0 inverse=\"N\"\n\
+     add locate=1 tracking=0 time=1 reference=1 side=\"B\" shares=100 stock=\"AAPL\" price=1500000\n\
+     replace locate=1 tracking=0 time=2 reference=1 new_reference=1 shares=50 price=1490000\n\
+     replace locate=1 tracking=0 time=3 reference=1 new_reference=2 shares=50 price=1490000\n\
+     add locate=1 tracking=0 time=4 reference=1 side=\"B\" shares=10 stock=\"AAPL\" price=100\n\
+     add locate=1 tracking=0 time=5 reference=2 side=\"B\" shares=10 stock=\"AAPL\" price=100\n\
+     replace locate=1 tracking=0 time=6 reference=2 new_reference=1 shares=0 price=100\n\
+     add locate=1 tracking=0 time=7 reference=1 side=\"B\" shares=0 stock=\"AAPL\" price=100\n\
+     replace locate=1 tracking=0 time=8 reference=2 new_reference=3 shares=0 price=100\n\
+     replace locate=1 tracking=0 time=9 reference=2 new_reference=3 shares=10 price=1490000\n\
+     add locate=1 tracking=0 time=10 reference=2 side=\"B\" shares=10 stock=\"AAPL\" price=100\n\
+     directory locate=2 tracking=0 time=11 stock=\"MSFT\" category=\"Q\" status=\"N\" lot=100 lots_only=\"N\" issue_class=\"C\" issue_subtype=\"Z\" authenticity=\"P\" short_sale=\"N\" ipo=\"N\" luld=\"1\" etp=\"N\" leverage=0 inverse=\"N\"\n\
+     add locate=2 tracking=0 time=12 reference=1 side=\"B\" shares=10 stock=\"MSFT\" price=100\n\
+     trade locate=1 tracking=0 time=13 reference=4 side=\"B\" shares=1 stock=\"AAPL\" price=100 match_no=8\n\
+     add locate=1 tracking=0 time=14 reference=4 side=\"B\" shares=10 stock=\"AAPL\" price=100\n";
+
 /// Four events at times 10, 30, 20 and 40.
 pub const EVENTS: &str = "system locate=0 tracking=0 time=10 event=\"O\"\n\
      system locate=0 tracking=0 time=30 event=\"S\"\n\

@@ -9,14 +9,17 @@ use support::{AAPL, add_entry, day_of, same, same_list};
 // How many orders are added and deleted, one after another. With the directory message there are 60,001 messages.
 const ORDERS: u64 = 30_000;
 
-// Places, and there how many messages the stock has taken, and the shares of its best bid: after the directory message
-// each even message adds an order, and each odd one deletes it.
-const SHOWN: [(u32, u32, u64); 5] = [
-    (0, 0, 0),
-    (1, 1, 0),
-    (2, 2, 10),
-    (30_001, 30_001, 0),
-    (60_000, 60_000, 10),
+// A place, and there how many messages the stock has taken, the shares of its best bid, and whether the references of the
+// first and of the last order are spent.
+type Place = (u32, u32, u64, bool, bool);
+
+// After the directory message each even message adds an order, and each odd one deletes it.
+const SHOWN: [Place; 5] = [
+    (0, 0, 0, false, false),
+    (1, 1, 0, false, false),
+    (2, 2, 10, true, false),
+    (30_001, 30_001, 0, true, false),
+    (60_000, 60_000, 10, true, true),
 ];
 
 // The bytes of the day.
@@ -35,19 +38,20 @@ fn shown_at<A: Allocator + Copy>(
     alloc: A,
     debugger: &mut Debugger<'_, A>,
     place: u32,
-) -> Result<(u32, u32, u64), DebugFault> {
+) -> Result<Place, DebugFault> {
     debugger.goto(alloc, place)?;
     let stock = debugger.stock(alloc, 1)?;
-    Ok((place, stock.steps(), stock.top().bid_shares))
+    let spent = (stock.spent(1), stock.spent(ORDERS));
+    Ok((place, stock.steps(), stock.top().bid_shares, spent.0, spent.1))
 }
 
 // What a debugger shows of the stock at each of the places.
 fn shown_along<A: Allocator + Copy>(
     alloc: A,
     debugger: &mut Debugger<'_, A>,
-) -> Result<Vec<(u32, u32, u64), A>, DebugFault> {
+) -> Result<Vec<Place, A>, DebugFault> {
     let mut list = Vec::new(alloc);
-    for (place, _, _) in SHOWN {
+    for (place, _, _, _, _) in SHOWN {
         let shown = shown_at(alloc, debugger, place)?;
         if list.push(shown).is_err() {
             return Err(DebugFault::Memory);

@@ -7,24 +7,39 @@ use checkpoints::{StockIndex, Track};
 use refusing::{Refusal, Refusing, Tried, refuse_any, refuse_each};
 use std::alloc::{AllocError, Allocator, Global};
 use std::test::Fail;
+use stock_machine::Stock;
 use support::{same, same_list};
 
-// The shares at the tour's bid after each number of its messages.
-const BID_SHARES: [u64; 8] = [0, 0, 100, 60, 60, 50, 50, 0];
+// The shares at the tour's bid after each number of its messages, and whether the bid's reference is spent.
+const BIDS: [(u64, bool); 8] = [
+    (0, false),
+    (0, false),
+    (100, true),
+    (60, true),
+    (60, true),
+    (50, true),
+    (50, true),
+    (0, true),
+];
 
-// The shares at the best bid after each number of messages, by a track.
-fn shares_along<A: Allocator + Copy>(
+// The shares at the best bid of a stock, and whether the tour's reference is spent.
+fn bid_of<A: Allocator + Copy>(stock: &Stock<A>) -> (u64, bool) {
+    (stock.top().bid_shares, stock.spent(1))
+}
+
+// The bid after each number of messages, by a track.
+fn bids_along<A: Allocator + Copy>(
     alloc: A,
     day: &Day<A>,
     track: &Track<'_, A>,
-) -> Result<Vec<u64, A>, AllocError>
+) -> Result<Vec<(u64, bool), A>, AllocError>
     requires { track.now.day ≡ day.now.payloads }
 {
-    let mut shares = Vec::new(alloc);
+    let mut bids = Vec::new(alloc);
     for n in 0..=day.len() {
-        shares.push(track.at(alloc, n)?.top().bid_shares)?;
+        bids.push(bid_of(&track.at(alloc, n)?))?;
     }
-    Ok(shares)
+    Ok(bids)
 }
 
 // A way to make a track.
@@ -63,8 +78,8 @@ fn same_places<A: Allocator + Copy>(
 ) -> Result<(), Fail>
     requires { track.now.day ≡ day.now.payloads }
 {
-    let shares = shares_along(alloc, day, track)?;
-    same_list("the places of a track", &shares, &BID_SHARES)
+    let bids = bids_along(alloc, day, track)?;
+    same_list("the places of a track", &bids, &BIDS)
 }
 
 #[test]
@@ -110,12 +125,12 @@ fn go_under<'h>(
     }
     heap.restart(refusal);
     let found = match track.at(heap, n) {
-        Ok(stock) => Some(stock.top().bid_shares),
+        Ok(stock) => Some(bid_of(&stock)),
         Err(AllocError) => None,
     };
     let tried = heap.tried(found.is_none());
     if !tried.refused {
-        let wanted = BID_SHARES.get(n as usize).copied();
+        let wanted = BIDS.get(n as usize).copied();
         same("a place", &(n, found), &(n, wanted))?;
     }
     same_places(heap, day, &track)?;

@@ -25,6 +25,13 @@ fn same_stocks<A: Allocator + Copy>(
     )?;
     let orders = found.orders(alloc, locate)?;
     same_list("the orders", &orders, &wanted.orders(alloc, locate)?)?;
+    for reference in 0..=9u64 {
+        same(
+            "a spent reference",
+            &(reference, found.spent(locate, reference)),
+            &(reference, wanted.spent(locate, reference)),
+        )?;
+    }
     for side in [Side::Buy, Side::Sell] {
         let levels = found.levels(alloc, locate, side)?;
         same_list("the levels", &levels, &wanted.levels(alloc, locate, side)?)?;
@@ -49,14 +56,19 @@ fn same_machines<A: Allocator + Copy>(
     same_stocks(alloc, found, wanted, last.unwrap_or(0).saturating_add(1))
 }
 
-// Two machines have the same orders of the stock of locate code 1 under each reference that a test names.
+// Two machines have the same orders of the stock of locate code 1 under each reference that a test names, and the same
+// of these references are spent.
 fn same_references<A: Allocator + Copy>(found: &Plain<A>, wanted: &Plain<A>) -> Result<(), Fail> {
     for reference in 0..=1_100u64 {
         let order = wanted.order(1, reference);
         same(
-            "an order",
-            &(reference, found.order(1, reference)),
-            &(reference, order),
+            "an order, and whether its reference is spent",
+            &(
+                reference,
+                found.order(1, reference),
+                found.spent(1, reference),
+            ),
+            &(reference, order, wanted.spent(1, reference)),
         )?;
     }
     Ok(())

@@ -51,7 +51,7 @@ fn rowless_messages() -> [Msg; 16] {
 }
 
 // Messages that are refused after all these, and their faults.
-fn refused_messages() -> [(Msg, Fault); 13] {
+fn refused_messages() -> [(Msg, Fault); 15] {
     let unlisted = Ticker { locate: 3, ..AAPL };
     let other = Ticker { locate: 1, ..MSFT };
     [
@@ -63,6 +63,8 @@ fn refused_messages() -> [(Msg, Fault); 13] {
         (AAPL.delete(1), Fault::ReferenceUnknown),
         (AAPL.replace(3, 3, 1, 1), Fault::ReferenceInUse),
         (AAPL.add_mpid(3, b'B', 1, 1), Fault::ReferenceInUse),
+        (AAPL.add(1, b'B', 1, 1), Fault::ReferenceSpent),
+        (AAPL.replace(3, 2, 1, 1), Fault::ReferenceSpent),
         (AAPL.trade(b'Z', 1, 1, 1), Fault::BadSide),
         (AAPL.add(1, b'B', 0, 1), Fault::ZeroShares),
         (unlisted.add(1, b'B', 1, 1), Fault::NoDirectory),
@@ -126,6 +128,7 @@ fn steps_without_a_new_row_take_no_memory(rt: HostRuntime) -> Result<(), Fail> {
     refuse_all(rt.alloc(), &mut machine)?;
     let known = known_of(&machine, 1);
     let orders = (machine.order(1, 1), machine.order(1, 2));
+    let spent = (machine.spent(1, 1), machine.spent(1, 4));
     let found = (
         known.event,
         known.status.regsho,
@@ -135,7 +138,7 @@ fn steps_without_a_new_row_take_no_memory(rt: HostRuntime) -> Result<(), Fail> {
     let wanted = (Some(b'O'), Some(b'1'), 0, 0);
     same(
         "what is known, and growths",
-        &(found, orders, heap.asked()),
-        &(wanted, (None, None), 0),
+        &(found, orders, spent, heap.asked()),
+        &(wanted, (None, None), (true, false), 0),
     )
 }

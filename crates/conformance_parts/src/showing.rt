@@ -13,8 +13,9 @@ pub struct Shown {
     top: Top,
     totals: Totals,
     status: Status,
-    // The first three orders, and the first two levels of each side.
+    // The first three orders, whether the reference of the first is spent, and the first two levels of each side.
     orders: [Option<Order>; 3],
+    spent: bool,
     bids: [Option<Level>; 2],
     asks: [Option<Level>; 2],
 }
@@ -35,6 +36,7 @@ pub fn shown_by<A: Allocator + Copy>(alloc: A, stock: &Stock<A>) -> Result<Shown
             orders.get(1).copied(),
             orders.get(2).copied(),
         ],
+        spent: orders.first().is_some_and(|order| stock.spent(order.reference)),
         bids: [bids.get(0).copied(), bids.get(1).copied()],
         asks: [asks.get(0).copied(), asks.get(1).copied()],
     })
@@ -81,6 +83,7 @@ pub fn stock_with(
             regsho: None,
         },
         orders: [bid, ask, None],
+        spent: bid.is_some(),
         bids: [bids, None],
         asks: [asks, None],
     }

@@ -35,7 +35,20 @@ fn same_orders<A: Allocator + Copy>(
     Ok(())
 }
 
-/// Compares what two machines say: the locate code, the steps, the top, the totals, the status and all lists.
+// Two machines have the same spent references, of those that a test names.
+fn same_spent<A: Allocator + Copy>(found: &Stock<A>, wanted: &Stock<A>) -> Result<(), Fail> {
+    for reference in 0..=1_100u64 {
+        same(
+            "a spent reference",
+            &(reference, found.spent(reference)),
+            &(reference, wanted.spent(reference)),
+        )?;
+    }
+    Ok(())
+}
+
+/// Compares what two machines say: the locate code, the steps, the top, the totals, the status, all lists, and the spent
+/// references that a test names.
 pub fn same_machines<A: Allocator + Copy>(
     alloc: A,
     found: &Stock<A>,
@@ -54,7 +67,8 @@ pub fn same_machines<A: Allocator + Copy>(
     same("the status", &found.status(), &wanted.status())?;
     same_levels(alloc, found, wanted, Side::Buy)?;
     same_levels(alloc, found, wanted, Side::Sell)?;
-    same_orders(alloc, found, wanted)
+    same_orders(alloc, found, wanted)?;
+    same_spent(found, wanted)
 }
 
 /// Compares what two machines answer for each reference and each price that a test names, whether there are orders or

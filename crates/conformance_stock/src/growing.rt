@@ -106,13 +106,15 @@ fn a_step_without_memory_changes_nothing(rt: HostRuntime) -> Result<(), Fail> {
     Ok(())
 }
 
-// The directory message, and others that add two bids and a trade.
-fn two_bids() -> [Msg; 4] {
+// The directory message, and others that add two bids and a trade, and a bid that goes again.
+fn two_bids() -> [Msg; 6] {
     [
         AAPL.directory(),
         AAPL.add(1, b'B', 10, 100),
         AAPL.add(2, b'B', 10, 200),
         AAPL.trade(b'B', 1, 1, 3),
+        AAPL.add(4, b'B', 10, 300),
+        AAPL.delete(4),
     ]
 }
 
@@ -291,7 +293,7 @@ fn a_list_or_a_copy_without_memory_is_none(rt: HostRuntime) -> Result<(), Fail> 
 }
 
 // Messages that need no new row, after two bids and a trade, with their outcomes.
-fn without_a_new_row() -> [(Msg, Outcome); 21] {
+fn without_a_new_row() -> [(Msg, Outcome); 23] {
     [
         (AAPL.directory(), Outcome::Applied),
         (AAPL.participant(), Outcome::Applied),
@@ -310,6 +312,14 @@ fn without_a_new_row() -> [(Msg, Outcome); 21] {
         (
             AAPL.replace(1, 2, 1, 1),
             Outcome::Refused(Fault::ReferenceInUse),
+        ),
+        (
+            AAPL.add(4, b'B', 1, 1),
+            Outcome::Refused(Fault::ReferenceSpent),
+        ),
+        (
+            AAPL.replace(1, 4, 1, 1),
+            Outcome::Refused(Fault::ReferenceSpent),
         ),
         (AAPL.trade(b'Z', 1, 1, 1), Outcome::Refused(Fault::BadSide)),
         (AAPL.trading(b'H', *b"T1  "), Outcome::Applied),
@@ -343,12 +353,19 @@ fn steps_without_a_new_row_take_no_memory(rt: HostRuntime) -> Result<(), Fail> {
     same(
         "the trades, the state and the steps",
         &(stock.totals().trades, stock.status().regsho, stock.steps()),
-        &(0, Some(b'1'), 25),
+        &(0, Some(b'1'), 29),
     )?;
     let level = stock.level(Side::Buy, 200);
+    let spent = (stock.spent(2), stock.spent(3), stock.spent(4));
     same(
-        "the orders, and the growths",
-        &(stock.top().bid_shares, level, stock.order(2), heap.asked()),
-        &(0, 0, None, 0),
+        "the orders, the spent references, and the growths",
+        &(
+            stock.top().bid_shares,
+            level,
+            stock.order(2),
+            spent,
+            heap.asked(),
+        ),
+        &(0, 0, None, (true, false, true), 0),
     )
 }

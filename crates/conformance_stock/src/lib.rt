@@ -7,3 +7,5 @@ mod comparing;
 mod growing;
 #[cfg(test)]
 mod own;
+#[cfg(test)]
+mod spent;

@@ -9,6 +9,8 @@ mod orders;
 #[cfg(test)]
 mod parts;
 #[cfg(test)]
+mod spent;
+#[cfg(test)]
 mod stocks;
 #[cfg(test)]
 mod trades;

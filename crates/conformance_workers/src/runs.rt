@@ -9,7 +9,9 @@ use std::sync::Wait;
 use std::test::Fail;
 use std::thread::Threads;
 use stock_workers::{FreeGate, Replayed, RunFault, run};
-use support::{crossed_book, day_with, same, same_list, system, two_stocks};
+use support::{
+    ASKED, crossed_book, day_with, same, same_list, spent_references, spent_up_to, system, two_stocks,
+};
 use top_cell::{Board, Reading};
 
 /// A day, replayed on a new board.
@@ -106,6 +108,29 @@ fn screens_read_the_last_message_after_a_run(rt: HostRuntime) -> Result<(), Fail
         &found,
         &(crossed, crossed),
     )
+}
+
+// Compares what becomes of the messages of a day on which references are asked for again, and which of them are spent at
+// its end.
+fn same_spent<A: Allocator + Copy>(replayed: &Replayed<A>) -> Result<(), Fail> {
+    let wanted = spent_references().map(|line| line.outcome);
+    same_list("the outcomes", &replayed.outcomes, &wanted)?;
+    same("how many stocks", &replayed.stocks.len(), &2)?;
+    for (stock, last) in replayed.stocks.iter().zip([4, 1]) {
+        let spent = ASKED.map(|reference| stock.spent(reference));
+        same("the spent references", &spent, &spent_up_to(last))?;
+    }
+    Ok(())
+}
+
+#[test]
+fn spent_references_are_the_same_for_each_number_of_workers(rt: HostRuntime) -> Result<(), Fail> {
+    let alloc = rt.alloc();
+    let day = day_with(alloc, &spent_references().map(|line| line.msg))?;
+    for workers in [1, 2, 3, 64] {
+        same_spent(&replayed(&rt, &alloc, &day, workers)?)?;
+    }
+    Ok(())
 }
 
 #[test]

@@ -14,6 +14,8 @@ pub struct Said {
     pub status: Status,
     /// The order under reference 7.
     pub order: Option<Order>,
+    /// Whether that reference is spent.
+    pub spent: bool,
     /// The shares of bids at the price of the best.
     pub level: u64,
     pub orders: (usize, Option<Order>),
@@ -42,6 +44,7 @@ pub fn said_by<A: Allocator + Copy>(alloc: A, stock: &Stock<A>) -> Option<Said> 
         totals: stock.totals(),
         status: stock.status(),
         order: stock.order(7),
+        spent: stock.spent(7),
         level: stock.level(Side::Buy, top.bid_price),
         orders: (orders.len(), orders.first().copied()),
         bids: levels_of(alloc, stock, Side::Buy)?,
@@ -49,8 +52,8 @@ pub fn said_by<A: Allocator + Copy>(alloc: A, stock: &Stock<A>) -> Option<Said> 
     })
 }
 
-/// What a machine says after so many messages, of which the first is the stock's directory message, where order 7 is
-/// the only one, a bid of these shares, and where there is none if these are 0.
+/// What a machine says after so many messages, of which the first is the stock's directory message and the second adds
+/// order 7, where this one is a bid of these shares, and where there is none if these are 0.
 pub fn with_bid(stock: Ticker, steps: u32, price: u32, shares: u32) -> Said {
     let order = Order {
         reference: 7,
@@ -86,6 +89,7 @@ pub fn with_bid(stock: Ticker, steps: u32, price: u32, shares: u32) -> Said {
             regsho: None,
         },
         order,
+        spent: steps >= 2,
         level: level.shares,
         orders: (count, order),
         bids: (count, if has_bid { Some(level) } else { None }),

@@ -14,7 +14,7 @@ use Rattle.itch_table.specs.declared.outcome.Fault.{Fault}
 use Rattle.itch_table.specs.declared.order.OrderKey.{OrderKey}
 use Rattle.itch_table.specs.declared.order.OrderRow.{OrderRow}
 use Rattle.itch_table.specs.World.{World, key, key_cmp, is_under, order_of, orders_of, empty_world, stock_row}
-use Rattle.itch_table.specs.Table.{step, step_shape, checks, effect, first_fault, result_of, with_order, without_order, less_shares, with_less, order_row, with_trade, set_trading, set_regsho}
+use Rattle.itch_table.specs.Table.{step, step_shape, checks, effect, first_fault, result_of, with_order, with_spent, without_order, less_shares, with_less, order_row, with_trade, set_trading, set_regsho}
 use Rattle.itch_table.specs.Trades.{broken_at}
 use Rattle.itch_table.specs.declared.status.StockRow.{StockRow}
 use Rattle.itch_table.specs.declared.status.Trading.{Trading as TradingState}
@@ -82,8 +82,8 @@ effect_few (System head m) w = record { orders = omega arith; trades = omega ari
 effect_few (Directory head m) w = record { orders = omega arith; trades = omega arith }
 effect_few (Trading head m) w = trading_few (stock_row w head.locate) w head.locate _
 effect_few (Regsho head m) w = regsho_few (stock_row w head.locate) w head.locate m.action
-effect_few (Add head m) w = record { orders = with_order_few w head.locate m.reference _; trades = omega arith }
-effect_few (AddMpid head m) w = record { orders = with_order_few w head.locate m.reference _; trades = omega arith }
+effect_few (Add head m) w = record { orders = with_order_few (with_spent w head.locate m.reference) head.locate m.reference _; trades = omega arith }
+effect_few (AddMpid head m) w = record { orders = with_order_few (with_spent w head.locate m.reference) head.locate m.reference _; trades = omega arith }
 effect_few (Execute head m) w = executed_few w head.locate m.reference m.shares _
 effect_few (ExecutePrice head m) w = executed_few w head.locate m.reference m.shares _
 effect_few (Cancel head m) w =
@@ -91,7 +91,7 @@ effect_few (Cancel head m) w =
     record { orders = less.0; trades = omega (arith, ap length less.1) }
 effect_few (Delete head m) w = record { orders = omega (arith, without_order_few w head.locate m.reference); trades = omega arith }
 effect_few (Replace head m) w = record {
-  orders = omega (arith, without_order_few w head.locate m.reference, with_order_few (without_order w head.locate m.reference) head.locate m.new_reference (record (order_row w head.locate m.reference) { shares = m.shares; price = m.price }));
+  orders = omega (arith, without_order_few w head.locate m.reference, with_order_few (with_spent (without_order w head.locate m.reference) head.locate m.new_reference) head.locate m.new_reference (record (order_row w head.locate m.reference) { shares = m.shares; price = m.price }));
   trades = omega arith;
 }
 effect_few (Trade head m) w = traded_few w w head.locate _ (omega arith) refl

@@ -20,7 +20,7 @@ use Rattle.itch_table.specs.declared.status.Trading.{Trading as TradingState}
 use Rattle.itch_table.specs.declared.trades.TradeRow.{TradeRow}
 use Rattle.itch_table.specs.Parts.{part_of_message, part_of_shape}
 use Rattle.itch_table.specs.Projection.{only, OthersStay}
-use Rattle.itch_table.specs.Table.{step_shape, checks, effect, first_fault, result_of, with_order, without_order, less_shares, with_less, order_row, with_trade, with_stock, set_trading, set_regsho}
+use Rattle.itch_table.specs.Table.{step_shape, checks, effect, first_fault, result_of, with_order, with_new_order, with_spent, without_order, less_shares, with_less, order_row, with_trade, with_stock, set_trading, set_regsho}
 use Rattle.itch_table.specs.Trades.{broken_at}
 use Rattle.itch_table.specs.World.{World, is_under, key, stock_row}
 use Rattle.itch_table.proofs.Keys.{key_total, key_exact}
@@ -38,12 +38,19 @@ other_code h l apart = elim (h == l) as (λ (b : Bool). (h == l) ≡ b → b ≡
 with_order-other : (w : World) (h l reference : ℕ) (row : OrderRow) → (h == l) ≡ false → only l (with_order w h reference row) ≡ only l w
 unfolding only
 with_order-other w h l reference row apart =
-    same_world _ _ (dropped-insert key_total key_exact (is_under l) w.orders (key h reference) row apart) refl refl refl
+    same_world _ _ (dropped-insert key_total key_exact (is_under l) w.orders (key h reference) row apart) refl refl refl refl
+
+with_spent-other : (w : World) (h l reference : ℕ) → (h == l) ≡ false → only l (with_spent w h reference) ≡ only l w
+unfolding only
+with_spent-other w h l reference apart = same_world _ _ refl (dropped-insert key_total key_exact (is_under l) w.spent (key h reference) tt apart) refl refl refl
+
+with_new_order-other : (w : World) (h l reference : ℕ) (row : OrderRow) → (h == l) ≡ false → only l (with_new_order w h reference row) ≡ only l w
+with_new_order-other w h l reference row apart = with_order-other (with_spent w h reference) h l reference row apart ∙ with_spent-other w h l reference apart
 
 without_order-other : (w : World) (h l reference : ℕ) → (h == l) ≡ false → only l (without_order w h reference) ≡ only l w
 unfolding only
 without_order-other w h l reference apart =
-    same_world _ _ (dropped-remove key_total key_exact (is_under l) w.orders (key h reference) apart) refl refl refl
+    same_world _ _ (dropped-remove key_total key_exact (is_under l) w.orders (key h reference) apart) refl refl refl refl
 
 less_shares-other : (w : World) (h l reference : ℕ) (row : OrderRow) (shares : ℕ) → (h == l) ≡ false → only l (less_shares w h reference row shares) ≡ only l w
 less_shares-other w h l reference row shares apart =
@@ -59,14 +66,14 @@ with_trade-other : (w : World) (h l : ℕ) (trade : TradeRow) → (h == l) ≡ f
 unfolding only
 with_trade-other w h l trade apart =
     let under : ℕ × TradeRow → Bool = λ row. row.0 == l in
-    same_world _ _ refl
+    same_world _ _ refl refl
     (filter-append under w.trades ((h, trade) ∷ []) ∙ ap (λ (b : Bool). filter under w.trades ++ cond b ((h, trade) ∷ []) []) apart ∙ append-nil (filter under w.trades))
     refl refl
 
 with_stock-other : (w : World) (h l : ℕ) (row : StockRow) → (h == l) ≡ false → only l (with_stock w h row) ≡ only l w
 unfolding only
 with_stock-other w h l row apart =
-    same_world _ _ refl refl (dropped-insert nat_cmp_total nat_cmp-IsAntisymmetric (λ code. code == l) w.stocks h row apart) refl
+    same_world _ _ refl refl refl (dropped-insert nat_cmp_total nat_cmp-IsAntisymmetric (λ code. code == l) w.stocks h row apart) refl
 
 set_trading-other : (o : Option StockRow) (w : World) (h l : ℕ) (state : TradingState) → (h == l) ≡ false → only l (set_trading o w h state) ≡ only l w
 set_trading-other None w h l state apart = refl
@@ -82,7 +89,7 @@ broken_dropped h l match_no (row ∷ rows) apart = grind (arith, common_steps, n
 
 broken-other : (w : World) (h l match_no : ℕ) → (h == l) ≡ false → only l (broken w h match_no) ≡ only l w
 unfolding only
-broken-other w h l match_no apart = same_world _ _ refl (broken_dropped h l match_no w.trades apart) refl refl
+broken-other w h l match_no apart = same_world _ _ refl refl (broken_dropped h l match_no w.trades apart) refl refl
 
 event-other : (w : World) (l : ℕ) (event : Option ℕ) → only l (record w { event = event }) ≡ only l w
 unfolding only
@@ -93,8 +100,8 @@ effect-other (System head m) w l apart = event-other w l (Some m.event)
 effect-other (Directory head m) w l apart = with_stock-other w head.locate l _ (other_code head.locate l apart)
 effect-other (Trading head m) w l apart = set_trading-other (stock_row w head.locate) w head.locate l _ (other_code head.locate l apart)
 effect-other (Regsho head m) w l apart = set_regsho-other (stock_row w head.locate) w head.locate l m.action (other_code head.locate l apart)
-effect-other (Add head m) w l apart = with_order-other w head.locate l m.reference _ (other_code head.locate l apart)
-effect-other (AddMpid head m) w l apart = with_order-other w head.locate l m.reference _ (other_code head.locate l apart)
+effect-other (Add head m) w l apart = with_new_order-other w head.locate l m.reference _ (other_code head.locate l apart)
+effect-other (AddMpid head m) w l apart = with_new_order-other w head.locate l m.reference _ (other_code head.locate l apart)
 effect-other (Execute head m) w l apart =
     let other = other_code head.locate l apart in
     with_trade-other (with_less w head.locate m.reference m.shares) head.locate l _ other
@@ -107,7 +114,7 @@ effect-other (Cancel head m) w l apart = less_shares-other w head.locate l m.ref
 effect-other (Delete head m) w l apart = without_order-other w head.locate l m.reference (other_code head.locate l apart)
 effect-other (Replace head m) w l apart =
     let other = other_code head.locate l apart in
-    with_order-other (without_order w head.locate m.reference) head.locate l m.new_reference _ other ∙ without_order-other w head.locate l m.reference other
+    with_new_order-other (without_order w head.locate m.reference) head.locate l m.new_reference _ other ∙ without_order-other w head.locate l m.reference other
 effect-other (Trade head m) w l apart = with_trade-other w head.locate l _ (other_code head.locate l apart)
 effect-other (Cross head m) w l apart = with_trade-other w head.locate l _ (other_code head.locate l apart)
 effect-other (Broken head m) w l apart = broken-other w head.locate l m.match_no (other_code head.locate l apart)

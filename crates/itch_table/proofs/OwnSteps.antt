@@ -11,7 +11,7 @@ use Rattle.itch_table.specs.Parts.{part_of_message, part_of_shape}
 use Rattle.itch_table.specs.Projection.{only, StepsAreOwn}
 use Rattle.itch_table.specs.Table.{step_shape, checks, effect, first_fault, result_of}
 use Rattle.itch_table.specs.World.{World}
-use Rattle.itch_table.proofs.OneStock.{live-only, stock_row-only, unbroken-only}
+use Rattle.itch_table.proofs.OneStock.{live-only, spent-only, stock_row-only, unbroken-only}
 use Rattle.itch_table.proofs.OwnEffects.{effect-only}
 
 -- the checks find the same
@@ -26,13 +26,13 @@ checks-only (Regsho head m) w l e = let same : head.locate ≡ l = cc in rw (sam
 checks-only (Participant head m) w l e = let same : head.locate ≡ l = cc in rw (same, stock_row-only w l)
 checks-only (Collar head m) w l e = let same : head.locate ≡ l = cc in rw (same, stock_row-only w l)
 checks-only (Operational head m) w l e = let same : head.locate ≡ l = cc in rw (same, stock_row-only w l)
-checks-only (Add head m) w l e = let same : head.locate ≡ l = cc in rw (same, stock_row-only w l, live-only w l m.reference)
-checks-only (AddMpid head m) w l e = let same : head.locate ≡ l = cc in rw (same, stock_row-only w l, live-only w l m.reference)
+checks-only (Add head m) w l e = let same : head.locate ≡ l = cc in rw (same, stock_row-only w l, live-only w l m.reference, spent-only w l m.reference)
+checks-only (AddMpid head m) w l e = let same : head.locate ≡ l = cc in rw (same, stock_row-only w l, live-only w l m.reference, spent-only w l m.reference)
 checks-only (Execute head m) w l e = let same : head.locate ≡ l = cc in rw (same, stock_row-only w l, live-only w l m.reference)
 checks-only (ExecutePrice head m) w l e = let same : head.locate ≡ l = cc in rw (same, stock_row-only w l, live-only w l m.reference)
 checks-only (Cancel head m) w l e = let same : head.locate ≡ l = cc in rw (same, stock_row-only w l, live-only w l m.reference)
 checks-only (Delete head m) w l e = let same : head.locate ≡ l = cc in rw (same, stock_row-only w l, live-only w l m.reference)
-checks-only (Replace head m) w l e = let same : head.locate ≡ l = cc in rw (same, stock_row-only w l, live-only w l m.reference, live-only w l m.new_reference)
+checks-only (Replace head m) w l e = let same : head.locate ≡ l = cc in rw (same, stock_row-only w l, live-only w l m.reference, live-only w l m.new_reference, spent-only w l m.new_reference)
 checks-only (Trade head m) w l e = let same : head.locate ≡ l = cc in rw (same, stock_row-only w l)
 checks-only (Cross head m) w l e = let same : head.locate ≡ l = cc in rw (same, stock_row-only w l)
 checks-only (Broken head m) w l e = let same : head.locate ≡ l = cc in rw (same, stock_row-only w l, unbroken-only w l m.match_no)

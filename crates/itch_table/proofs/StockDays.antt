@@ -42,7 +42,8 @@ none_past locate = refl
 
 pub only-empty : (locate : ℕ) → only locate empty_world ≡ empty_world
 unfolding only
-only-empty locate = same_world _ _ (kept-empty key_total key_exact _) refl (kept-empty nat_cmp_total nat_cmp-IsAntisymmetric _) refl
+only-empty locate =
+    same_world _ _ (kept-empty key_total key_exact _) (kept-empty key_total key_exact _) refl (kept-empty nat_cmp_total nat_cmp-IsAntisymmetric _) refl
 
 -- a stock's own message, on its rows alone
 pub own_next : (day : List (List ℕ)) (locate n : ℕ) → part (get_or day n []) ≡ Locate locate

@@ -13,10 +13,12 @@ use Rattle.itch_table.specs.Table.{step}
 use Rattle.itch_table.specs.Parts.{part}
 use Rattle.itch_table.specs.After.{after, outcome}
 
--- the rows of one stock: its orders, its trades and what is known of it, without the event, which is of no stock
+-- the rows of one stock: its orders, the references that they have had, its trades and what is known of it, without
+-- the event, which is of no stock
 unfoldable pub only : ℕ → World → World
 only locate w = record {
   orders = maps.retain_keys w.orders (is_under locate);
+  spent = maps.retain_keys w.spent (is_under locate);
   trades = filter (λ row. row.0 == locate) w.trades;
   stocks = maps.retain_keys w.stocks (λ code. code == locate);
   event = None;

@@ -7,7 +7,7 @@ ghost use Rattle.itch_table.specs.Held.{Holds, HoldsPart};
 ghost use Rattle.itch_table.specs.Machine.{found_unless, named_order};
 ghost use Rattle.itch_table.specs.Parts.{part_of_message};
 ghost use Rattle.itch_table.specs.Trades.{is_unbroken};
-ghost use Rattle.itch_table.specs.Table.{are_left, checks, first_fault, has_left, has_shares, has_side, is_live, is_new, is_printable, listed, names_stock, refuse_unless, same_stock};
+ghost use Rattle.itch_table.specs.Table.{are_left, checks, first_fault, has_left, has_shares, has_side, is_live, is_new, is_printable, is_unspent, listed, names_stock, refuse_unless, same_stock};
 
 use crate::order::OrderRow;
 use crate::outcome::Fault;
@@ -67,6 +67,14 @@ fn is_new<S: Store>(store: &S, locate: u16, reference: u64) -> Result<(), Fault>
 {
     let found = store.order(locate, reference);
     refuse_unless(found.is_none(), Fault::ReferenceInUse)
+}
+
+// No order has had the reference.
+fn is_unspent<S: Store>(store: &S, locate: u16, reference: u64) -> Result<(), Fault>
+    requires { Holds (S.held store.now) locate }
+    ensures { result_err result ≡ is_unspent (S.held store.now).world locate reference }
+{
+    refuse_unless(!store.spent(locate, reference), Fault::ReferenceSpent)
 }
 
 // An order lives under the reference.
@@ -139,11 +147,12 @@ fn check_add<S: Store>(
     requires { Holds (S.held store.now) locate }
     ensures { let w = (S.held store.now).world in
         result_err result ≡ first_fault (listed w locate ∷ names_stock w locate stock.now ∷ has_side side
-        ∷ has_shares shares ∷ is_new w locate reference ∷ []) }
+        ∷ has_shares shares ∷ is_new w locate reference ∷ is_unspent w locate reference ∷ []) }
 {
     check_side(store, locate, stock, side)?;
     has_shares(shares)?;
-    is_new(store, locate, reference)
+    is_new(store, locate, reference)?;
+    is_unspent(store, locate, reference)
 }
 
 // The checks of a message that takes shares off an order, which find that order.
@@ -203,6 +212,7 @@ fn check_replace<S: Store>(store: &S, head: &Head, replace: &Replace) -> Result<
     listed(store, head.locate)?;
     is_live(store, head.locate, replace.reference)?;
     is_new(store, head.locate, replace.new_reference)?;
+    is_unspent(store, head.locate, replace.new_reference)?;
     has_shares(replace.shares)
 }
 

@@ -1,6 +1,6 @@
 //! The plain machine.
 ghost use Rattle.std.specs.Prelude.{◌≡◌, ◌+◌, ◌-◌, ◌<◌, ◌^◌, ℕ, List, length, IfOk, OnOk, OnErr};
-ghost use Rattle.itch_table.specs.World.{empty_world, locates, order, orders_of, status, totals};
+ghost use Rattle.itch_table.specs.World.{empty_world, is_spent, locates, order, orders_of, status, totals};
 ghost use Rattle.itch_table.specs.Levels.{levels, top};
 ghost use Rattle.itch_table.specs.Table.{step};
 ghost use Rattle.itch_table.specs.Held.{all_stocks};
@@ -11,6 +11,7 @@ use crate::order::{Level, Order, Side, Top};
 use crate::outcome::Outcome;
 use crate::rows::Rows;
 use crate::status::{Status, Totals};
+use crate::store::Store;
 use std::alloc::{AllocError, Allocator};
 use std::marker::Model;
 
@@ -69,6 +70,13 @@ impl<A: Allocator + Copy> Plain<A> {
         ensures { result ≡ order self.now.world locate reference }
     {
         self.rows.live_order(locate, reference)
+    }
+
+    /// Whether an order has had a reference under a locate code, so that no later one may take it. This is of this project.
+    pub fn spent(&self, locate: u16, reference: u64) -> bool
+        ensures { result ≡ is_spent self.now.world locate reference }
+    {
+        self.rows.spent(locate, reference)
     }
 
     /// What is known of a stock beside its book.

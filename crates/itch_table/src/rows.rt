@@ -1,25 +1,27 @@
 //! The rows of all stocks.
-ghost use Rattle.std.specs.Prelude.{◌≡◌, ◌<◌, ◌^◌, ℕ, Some, IsSome, length, map, filter, IfOk, OnOk, OnErr};
+ghost use Rattle.std.specs.Prelude.{◌≡◌, ◌<◌, ◌^◌, ℕ, false, Some, IsSome, length, map, filter, IfOk, OnOk, OnErr};
 ghost use Rattle.std.specs.List.{list_any};
 ghost use Rattle.std.specs.BTreeMap.{IsOrdered, keys};
 ghost use Rattle.std.specs.Ordering.{nat_cmp};
 ghost use Rattle.std.specs.FinMap as maps;
-ghost use Rattle.itch_table.specs.World.{empty_world, is_under, live, locates, totals};
-ghost use Rattle.itch_table.specs.Table.{with_order, without_order};
+ghost use Rattle.itch_table.specs.World.{empty_world, is_spent, is_under, key, live, locates, totals};
+ghost use Rattle.itch_table.specs.Table.{with_new_order, with_order, with_spent, without_order};
 
 use crate::order::{OrderKey, OrderRow};
 use crate::status::{StockRow, Totals};
 use crate::store::Store;
 use crate::trades::{TradeRow, break_trades, has_unbroken, totals_under};
 use std::alloc::{AllocError, Allocator};
-use std::collections::BTreeMap;
+use std::collections::{BTreeMap, BTreeSet};
 use std::collections::btree_map::Range;
 use std::marker::Model;
 
-/// The live orders of all stocks, the trades, what is known of each stock, and the last event.
+/// The live orders of all stocks, the references that they have had, the trades, what is known of each stock, and the
+/// last event.
 #[derive(Drop)]
 pub(crate) struct Rows<A: Allocator> {
     orders: BTreeMap<OrderKey, OrderRow, A>,
+    spent: BTreeSet<OrderKey, A>,
     trades: Vec<(u16, TradeRow), A>,
     stocks: BTreeMap<u16, StockRow, A>,
     event: Option<u8>,
@@ -29,6 +31,7 @@ impl<A: Allocator> Model for Rows<A> {
     ghost use Rattle.std.specs.FinMap as maps;
     ghost use Rattle.itch_table.specs.CodedWorld.{coded_world};
     ghost use Rattle.itch_table.specs.World.{World};
+    ghost use Rattle.itch_table.specs.KeySets.{set_of};
 
     ghost Value = { World };
 
@@ -36,6 +39,7 @@ impl<A: Allocator> Model for Rows<A> {
 
     ghost view = { λ r. record {
       orders = maps.from_entries r.orders.entries;
+      spent = set_of r.spent.keys;
       trades = r.trades.items;
       stocks = maps.from_entries r.stocks.entries;
       event = r.event;
@@ -49,6 +53,7 @@ impl<A: Allocator + Copy> Rows<A> {
     {
         Rows {
             orders: BTreeMap::new(alloc),
+            spent: BTreeSet::new(alloc),
             trades: Vec::new(alloc),
             stocks: BTreeMap::new(alloc),
             event: None,
@@ -70,6 +75,46 @@ impl<A: Allocator + Copy> Rows<A> {
         match self.orders.insert(OrderKey { locate, reference }, row) {
             Ok(_) => Ok(()),
             Err(_) => Err(AllocError),
+        }
+    }
+
+    // Spends a reference that isn't spent yet.
+    fn spend(&mut self, locate: u16, reference: u64) -> Result<(), AllocError>
+        ensures ok { OnOk result (self.new ≡ with_spent self.old locate reference) }
+        ensures err { OnErr result (self.new ≡ self.old) }
+    {
+        match self.spent.insert(OrderKey { locate, reference }) {
+            Ok(_) => Ok(()),
+            Err(_) => Err(AllocError),
+        }
+    }
+
+    // Takes back that a reference is spent.
+    fn unspend(&mut self, locate: u16, reference: u64)
+        ensures { self.new ≡
+            record self.old { spent = maps.remove self.old.spent (key locate reference) } }
+    {
+        self.spent.remove(&OrderKey { locate, reference });
+    }
+
+    // Adds an order under a reference that no order of the stock has had.
+    fn set_new_order(
+        &mut self,
+        locate: u16,
+        reference: u64,
+        row: OrderRow,
+    ) -> Result<(), AllocError>
+        requires { is_spent self.old locate reference ≡ false }
+        ensures ok { OnOk result (self.new ≡ with_new_order self.old locate reference row) }
+        ensures err { OnErr result (self.new ≡ self.old) }
+    {
+        self.spend(locate, reference)?;
+        match self.set_order(locate, reference, row) {
+            Ok(()) => Ok(()),
+            Err(error) => {
+                self.unspend(locate, reference);
+                Err(error)
+            }
         }
     }
 
@@ -136,6 +181,10 @@ impl<A: Allocator + Copy> Store for Rows<A> {
         self.orders.get(&OrderKey { locate, reference }).copied()
     }
 
+    fn spent(&self, locate: u16, reference: u64) -> bool {
+        self.spent.contains(&OrderKey { locate, reference })
+    }
+
     fn has_unbroken(&self, locate: u16, match_no: u64) -> bool {
         has_unbroken(&self.trades, locate, match_no)
     }
@@ -158,7 +207,7 @@ impl<A: Allocator + Copy> Store for Rows<A> {
     }
 
     fn add_order(&mut self, locate: u16, reference: u64, row: OrderRow) -> Result<(), AllocError> {
-        self.set_order(locate, reference, row)
+        self.set_new_order(locate, reference, row)
     }
 
     fn reduce_order(&mut self, locate: u16, reference: u64, row: OrderRow, shares: u32) {
@@ -191,7 +240,7 @@ impl<A: Allocator + Copy> Store for Rows<A> {
             price,
             ..row
         };
-        self.set_order(locate, new, placed)?;
+        self.set_new_order(locate, new, placed)?;
         self.unset_order(locate, old);
         Ok(())
     }

@@ -1,10 +1,10 @@
 //! Rows that the table can be followed over.
-ghost use Rattle.std.specs.Prelude.{◌≡◌, ◌≤◌, ◌<◌, Some, None, map, IsSome, OnOk, OnErr};
+ghost use Rattle.std.specs.Prelude.{◌≡◌, ◌≤◌, ◌<◌, false, Some, None, map, IsSome, OnOk, OnErr};
 ghost use Rattle.std.specs.List.{list_any};
 ghost use Rattle.std.specs.Option.{option_copied};
-ghost use Rattle.itch_table.specs.World.{live, stock_row};
+ghost use Rattle.itch_table.specs.World.{is_spent, live, stock_row};
 ghost use Rattle.itch_table.specs.Held.{Held, Holds, on_world};
-ghost use Rattle.itch_table.specs.Table.{less_shares, with_order, with_replaced, with_stock, with_trade, without_order};
+ghost use Rattle.itch_table.specs.Table.{less_shares, with_new_order, with_replaced, with_stock, with_trade, without_order};
 ghost use Rattle.itch_table.specs.Trades.{broken_at, is_unbroken};
 
 use crate::order::OrderRow;
@@ -33,6 +33,11 @@ pub trait Store {
         requires { Holds (held self.now) locate }
         ensures { result ≡ live (held self.now).world locate reference };
 
+    /// Whether an order of a stock has had a reference.
+    fn spent(&self, locate: u16, reference: u64) -> bool
+        requires { Holds (held self.now) locate }
+        ensures { result ≡ is_spent (held self.now).world locate reference };
+
     /// Whether a stock has an unbroken trade with this match number.
     fn has_unbroken(&self, locate: u16, match_no: u64) -> bool
         requires { Holds (held self.now) locate }
@@ -57,14 +62,15 @@ pub trait Store {
         requires known { IsSome (stock_row (held self.old).world locate) }
         ensures { held self.new ≡ on_world (λ w. with_stock w locate row) (held self.old) };
 
-    /// Adds an order under a new reference.
+    /// Adds an order under a reference that no order of the stock has had.
     fn add_order(&mut self, locate: u16, reference: u64, row: OrderRow) -> Result<(), AllocError>
         requires here { Holds (held self.old) locate }
         requires new { live (held self.old).world locate reference ≡ None }
+        requires unspent { is_spent (held self.old).world locate reference ≡ false }
         requires some { 0 < row.shares }
         requires room { has_room self.old }
         ensures ok { OnOk result (
-            held self.new ≡ on_world (λ w. with_order w locate reference row) (held self.old)) }
+            held self.new ≡ on_world (λ w. with_new_order w locate reference row) (held self.old)) }
         ensures err { OnErr result (held self.new ≡ held self.old) };
 
     /// Takes shares off an order, given with its row, which a check has found. The order is gone where none are left.
@@ -80,7 +86,8 @@ pub trait Store {
         requires live { IsSome (live (held self.old).world locate reference) }
         ensures { held self.new ≡ on_world (λ w. without_order w locate reference) (held self.old) };
 
-    /// Puts an order under a new reference in the place of one that is gone then, with its side and attribution.
+    /// Puts an order under a reference that no order of the stock has had in the place of one that is gone then, with
+    /// its side and attribution.
     fn replace_order(
         &mut self,
         locate: u16,
@@ -92,6 +99,7 @@ pub trait Store {
         requires here { Holds (held self.old) locate }
         requires live { IsSome (live (held self.old).world locate old) }
         requires new { live (held self.old).world locate new ≡ None }
+        requires unspent { is_spent (held self.old).world locate new ≡ false }
         requires some { 0 < shares }
         ensures ok { OnOk result (
             held self.new ≡ on_world (λ w. with_replaced w locate old new shares price) (held self.old)) }

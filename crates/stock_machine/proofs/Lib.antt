@@ -6,3 +6,4 @@ pub mod OwnRows
 pub mod Places
 pub mod Ranges
 pub mod TradesAt
+pub mod SpentLists

@@ -4,8 +4,8 @@ use Rattle.std.specs.Ordering.{nat_cmp}
 use Rattle.std.specs.FinMap as maps
 use Rattle.std.specs.FinMap.{FinMap}
 use Rattle.itch_table.specs.Held.{Held, one_stock}
+use Rattle.itch_table.specs.KeySets.{KeySet}
 use Rattle.itch_table.specs.World.{World, key, key_cmp}
-use Rattle.itch_table.specs.declared.order.OrderRow.{OrderRow}
 use Rattle.itch_table.specs.declared.status.StockRow.{StockRow}
 use Rattle.itch_table.specs.declared.trades.TradeRow.{TradeRow}
 use Rattle.order_book.specs.Orders.{Orders}
@@ -15,9 +15,9 @@ pub record StockRows : Type 0 where
   pub locate : ℕ
   pub world : World
 
--- a book's orders under their locate code
-abbrev pub keyed : ℕ → Orders → FinMap key_cmp OrderRow
-keyed locate orders = maps.from_sorted (map (λ e. (key locate e.0, e.1)) (maps.entries orders))
+-- what stands under references, under their locate code
+abbrev pub keyed : {X : Type 0} → ℕ → FinMap nat_cmp X → FinMap key_cmp X
+keyed locate rows = maps.from_sorted (map (λ e. (key locate e.0, e.1)) (maps.entries rows))
 
 -- what is known of the stock, under its locate code
 abbrev pub stocks_of : ℕ → Option StockRow → FinMap nat_cmp StockRow
@@ -28,12 +28,13 @@ stocks_of locate (Some row) = maps.insert maps.empty locate row
 abbrev pub trades_at : ℕ → List TradeRow → List (ℕ × TradeRow)
 trades_at locate trades = map (λ t. (locate, t)) trades
 
--- the rows that a stock's orders, its trades and what is known of it stand for
-abbrev pub stock_rows : ℕ → Orders → List TradeRow → Option StockRow → StockRows
-stock_rows locate orders trades known = record {
+-- the rows that a stock's orders, the references that they have had, its trades and what is known of it stand for
+abbrev pub stock_rows : ℕ → Orders → KeySet nat_cmp → List TradeRow → Option StockRow → StockRows
+stock_rows locate orders spent trades known = record {
   locate = locate;
   world = record {
     orders = keyed locate orders;
+    spent = keyed locate spent;
     trades = trades_at locate trades;
     stocks = stocks_of locate known;
     event = None;

@@ -2,6 +2,7 @@
 #![tactic(auto)]
 
 mod rows;
+mod spent;
 mod stock;
 mod trades;
 

@@ -1,19 +1,21 @@
 //! The rows of one stock.
 ghost use Rattle.std.specs.Prelude.{◌≡◌, ◌<◌, ◌^◌, Some, None, IfOk, length};
-ghost use Rattle.itch_table.specs.World.{empty_world, order, orders_of, status, totals};
+ghost use Rattle.itch_table.specs.World.{empty_world, is_spent, order, orders_of, status, totals};
 ghost use Rattle.itch_table.specs.Levels.{levels, shares_at, top};
 
+use crate::spent::SpentReferences;
 use crate::trades::Trades;
 use itch_table::{Level, Order, OrderRow, Side, Status, StockRow, Store, Top, Totals, TradeRow};
 use order_book::Book;
 use std::alloc::{AllocError, Allocator};
 use std::marker::Model;
 
-/// A stock's live orders, its trades, and what is known of it.
+/// A stock's live orders, the references that they have had, its trades, and what is known of it.
 #[derive(Drop)]
 pub(crate) struct Rows<A: Allocator> {
     locate: u16,
     book: Book<A>,
+    spent: SpentReferences<A>,
     trades: Trades<A>,
     known: Option<StockRow>,
 }
@@ -27,7 +29,7 @@ impl<A: Allocator> Model for Rows<A> {
 
     ghost coded = { Prim.hlevel (codes, coded_world) };
 
-    ghost view = { λ r. stock_rows r.locate r.book r.trades r.known };
+    ghost view = { λ r. stock_rows r.locate r.book r.spent r.trades r.known };
 }
 
 impl<A: Allocator + Copy> Rows<A> {
@@ -39,6 +41,7 @@ impl<A: Allocator + Copy> Rows<A> {
         Rows {
             locate,
             book: Book::new(alloc),
+            spent: SpentReferences::new(alloc),
             trades: Trades::new(alloc),
             known: None,
         }
@@ -56,6 +59,13 @@ impl<A: Allocator + Copy> Rows<A> {
         ensures { result ≡ order self.now.world self.now.locate reference }
     {
         self.book.order(reference)
+    }
+
+    /// Whether an order has had a reference.
+    pub fn is_spent(&self, reference: u64) -> bool
+        ensures { result ≡ is_spent self.now.world self.now.locate reference }
+    {
+        self.spent.contains(reference)
     }
 
     /// The shares of a side's orders at a price.
@@ -107,10 +117,12 @@ impl<A: Allocator + Copy> Rows<A> {
         ensures { IfOk result (λ rows. rows ≡ self.now) }
     {
         let book = self.book.copy(alloc)?;
+        let spent = self.spent.copy(alloc)?;
         let trades = self.trades.copy(alloc)?;
         Ok(Rows {
             locate: self.locate,
             book,
+            spent,
             trades,
             known: self.known,
         })
@@ -132,6 +144,10 @@ impl<A: Allocator + Copy> Store for Rows<A> {
         self.book.row(reference)
     }
 
+    fn spent(&self, _locate: u16, reference: u64) -> bool {
+        self.spent.contains(reference)
+    }
+
     fn has_unbroken(&self, _locate: u16, match_no: u64) -> bool {
         self.trades.has_unbroken(match_no)
     }
@@ -148,7 +164,14 @@ impl<A: Allocator + Copy> Store for Rows<A> {
     }
 
     fn add_order(&mut self, _locate: u16, reference: u64, row: OrderRow) -> Result<(), AllocError> {
-        self.book.add(row.under(reference))
+        self.spent.insert(reference)?;
+        match self.book.add(row.under(reference)) {
+            Ok(()) => Ok(()),
+            Err(error) => {
+                self.spent.remove(reference);
+                Err(error)
+            }
+        }
     }
 
     fn reduce_order(&mut self, _locate: u16, reference: u64, _row: OrderRow, shares: u32) {
@@ -167,7 +190,14 @@ impl<A: Allocator + Copy> Store for Rows<A> {
         shares: u32,
         price: u32,
     ) -> Result<(), AllocError> {
-        self.book.replace(old, new, shares, price)
+        self.spent.insert(new)?;
+        match self.book.replace(old, new, shares, price) {
+            Ok(()) => Ok(()),
+            Err(error) => {
+                self.spent.remove(new);
+                Err(error)
+            }
+        }
     }
 
     fn add_trade(&mut self, _locate: u16, trade: TradeRow) -> Result<(), AllocError> {

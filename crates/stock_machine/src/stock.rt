@@ -1,7 +1,7 @@
 //! The machine of one stock.
 ghost use Rattle.std.specs.Prelude.{◌≡◌, ◌+◌, ◌-◌, ◌<◌, ◌^◌, IfOk, OnOk, OnErr, length};
 ghost use Rattle.itch_table.specs.declared.outcome.Part.{Part};
-ghost use Rattle.itch_table.specs.World.{empty_world, order, orders_of, status, totals};
+ghost use Rattle.itch_table.specs.World.{empty_world, is_spent, order, orders_of, status, totals};
 ghost use Rattle.itch_table.specs.Held.{one_stock};
 ghost use Rattle.itch_table.specs.Levels.{levels, shares_at, top};
 ghost use Rattle.itch_table.specs.Machine.{MayGrow};
@@ -74,6 +74,13 @@ impl<A: Allocator + Copy> Stock<A> {
         ensures { result ≡ order self.now.world self.now.locate reference }
     {
         self.rows.live_order(reference)
+    }
+
+    /// Whether an order of the stock has had a reference, so that no later one may take it. This is of this project.
+    pub fn spent(&self, reference: u64) -> bool
+        ensures { result ≡ is_spent self.now.world self.now.locate reference }
+    {
+        self.rows.is_spent(reference)
     }
 
     /// The shares of a side's orders at a price, in 1/10,000 of a currency unit; 0 where there are none.

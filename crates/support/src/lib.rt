@@ -11,6 +11,7 @@ mod growing;
 mod machine;
 mod messages;
 mod script;
+mod spending;
 mod worked;
 
 pub use comparing::{same, same_bytes, same_list};
@@ -20,4 +21,5 @@ pub use growing::{GROWING, Growing};
 pub use machine::{Known, known_of, take};
 pub use messages::{AAPL, MSFT, Ticker, head, payload_of, system};
 pub use script::{Line, follow};
+pub use spending::{ASKED, Spending, spent_references, spent_up_to};
 pub use worked::{AMPLE, DIGITS, FILE, REPORT, STORED_RUN, TEXT};

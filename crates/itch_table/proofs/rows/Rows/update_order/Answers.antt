@@ -1,6 +1,7 @@
 use Rattle.std.proofs.Common.{rules, ◌≡◌, None, ap, sym, ◌∙◌}
 use mathlib.Core.Bool.{false≢true}
 use Rattle.std.specs.FinMap as maps
+use Rattle.itch_table.specs.KeySets.{set_of}
 use Rattle.itch_table.specs.World.{World, live, key}
 use Rattle.itch_table.proofs.Keys.{key_total, key_exact}
 use Rattle.itch_table.proofs.MapViews.{view_insert, get_view}
@@ -13,7 +14,7 @@ returns g c =
     let row = c.args.row in
     elim c.match-get_mut.branch [
       | in-Some w ↦ rw (w.self-inside-is, ← c.self.view_is) (
-          ap (λ m. record { orders = m; trades = inside.trades.items; stocks = maps.from_entries inside.stocks.entries; event = inside.event })
+          ap (λ m. record { orders = m; spent = set_of inside.spent.keys; trades = inside.trades.items; stocks = maps.from_entries inside.stocks.entries; event = inside.event })
           (view_insert key_total key_exact inside.orders.entries (c.get_mut.follows.lender row).entries (key c.args.locate c.args.reference) row (((c.get_mut.follows.holds row).3 (search rules)).0))
           )
       | in_default w ↦

@@ -3,6 +3,7 @@ use Rattle.std.specs.Cmp.{nat_cmp_total}
 use mathlib.Core.Bool.{false≢true}
 use Rattle.std.specs.FinMap as maps
 use Rattle.std.specs.FinMap.{nat_cmp-IsAntisymmetric}
+use Rattle.itch_table.specs.KeySets.{set_of}
 use Rattle.itch_table.specs.Held.{all_stocks}
 use Rattle.itch_table.specs.World.{World, stock_row}
 use Rattle.itch_table.proofs.MapViews.{view_insert, get_view}
@@ -15,7 +16,7 @@ returns g c =
     let row = c.args.row in
     elim c.match-get_mut.branch [
       | in-Some w ↦ rw (w.self-inside-is, ← c.self.view_is) (
-          ap (λ m. all_stocks (record { orders = maps.from_entries inside.orders.entries; trades = inside.trades.items; stocks = m; event = inside.event }))
+          ap (λ m. all_stocks (record { orders = maps.from_entries inside.orders.entries; spent = set_of inside.spent.keys; trades = inside.trades.items; stocks = m; event = inside.event }))
           (view_insert nat_cmp_total nat_cmp-IsAntisymmetric inside.stocks.entries (c.get_mut.follows.lender row).entries c.args.locate row (((c.get_mut.follows.holds row).3 (search rules)).0))
           )
       | in_default w ↦

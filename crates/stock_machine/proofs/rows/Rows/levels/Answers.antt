@@ -10,5 +10,5 @@ use Rattle.stock_machine.proofs.rows.Rows.levels.Goals as goal
 pub returns : goal.returns
 returns g c =
     let i = c.self.inside in
-    let is = sym (orders_own i.locate i.book i.trades i.known) ∙ ap (λ (o : StockRows). orders_of o.world o.locate) c.self.view_is in
+    let is = sym (orders_own i.locate i.book i.spent i.trades i.known) ∙ ap (λ (o : StockRows). orders_of o.world o.locate) c.self.view_is in
     subst (λ (orders : List Order). IfOk c.levels.result (λ list. list.items ≡ levels orders c.args.side)) is c.levels.ensures

@@ -7,5 +7,5 @@ use Rattle.stock_machine.proofs.rows.Rows.live_order.Goals as goal
 pub returns : goal.returns
 returns g c =
     let i = c.self.inside in
-    c.order.ensures ∙ sym (order_own i.locate i.book i.trades i.known c.args.reference)
+    c.order.ensures ∙ sym (order_own i.locate i.book i.spent i.trades i.known c.args.reference)
     ∙ ap (λ (o : StockRows). order o.world o.locate c.args.reference) c.self.view_is

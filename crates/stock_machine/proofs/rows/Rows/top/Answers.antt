@@ -9,5 +9,5 @@ use Rattle.stock_machine.proofs.rows.Rows.top.Goals as goal
 pub returns : goal.returns
 returns g c =
     let i = c.self.inside in
-    let is = sym (orders_own i.locate i.book i.trades i.known) ∙ ap (λ (o : StockRows). orders_of o.world o.locate) c.self.view_is in
+    let is = sym (orders_own i.locate i.book i.spent i.trades i.known) ∙ ap (λ (o : StockRows). orders_of o.world o.locate) c.self.view_is in
     c.top.ensures ∙ ap (λ (orders : List Order). top orders) is

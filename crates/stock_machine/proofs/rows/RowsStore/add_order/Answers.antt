@@ -1,14 +1,14 @@
 use Rattle.std.proofs.Common.{◌≡◌, Option, ap, sym, ◌∙◌, arith}
 use Rattle.std.specs.Option.{option_map}
 use Rattle.std.specs.FinMap as maps
-use Rattle.std.proofs.lemmas.Result.{on_ok_weaker}
 use Rattle.itch_table.specs.declared.order.Order.{Order}
 use Rattle.itch_table.specs.declared.order.OrderRow.{OrderRow}
 use Rattle.itch_table.specs.World.{order_under}
 use Rattle.order_book.specs.Orders.{added, order_in}
 use Rattle.stock_machine.specs.StockRows.{StockRows}
 use Rattle.stock_machine.proofs.Keyed.{live_keyed, len_keyed}
-use Rattle.stock_machine.proofs.Owned.{held_insert}
+use Rattle.stock_machine.proofs.Owned.{held_insert, held_taken_back}
+use Rattle.stock_machine.proofs.OwnRows.{spent_own}
 use Rattle.stock_machine.proofs.rows.RowsStore.add_order.Goals as goal
 
 pub add-requires-clause-new : goal.add-requires-clause-new
@@ -21,10 +21,20 @@ add-requires-clause-new g c =
 pub add-requires-clause-few : goal.add-requires-clause-few
 add-requires-clause-few g c = omega (arith, len_keyed c.self.inside.locate c.self.inside.book, ap (λ (o : StockRows). maps.len o.world.orders) c.self.view_is, c.requires.room.orders)
 
-pub returns-clause-ok : goal.returns-clause-ok
-returns-clause-ok g c =
+pub returns-in-Ok-clause-ok : goal.returns-in-Ok-clause-ok
+returns-in-Ok-clause-ok g c =
     let here : c.args._locate ≡ c.args.self.now.locate = c.requires.here in
     let i = c.self.inside in
-    on_ok_weaker c.add.result (λ is. rw (here, ← c.self.view_is) (
-    held_insert i.locate i.book i.trades i.known c.args.reference c.args.row _ (is ∙ ap (λ (order : Order). added i.book order) c.under.ensures)
-    )) c.add.ensures.ok
+    rw (here, ← c.self.view_is) (
+    held_insert i.locate i.book i.spent i.trades i.known c.args.reference c.args.row _ _
+    (c.in-Ok.ensures.ok ∙ ap (λ (order : Order). added i.book order) c.under.ensures) c.in_ok-insert.ensures.ok
+    )
+
+pub returns-in-Err-clause-err : goal.returns-in-Err-clause-err
+returns-in-Err-clause-err g c =
+    let here : c.args._locate ≡ c.args.self.now.locate = c.requires.here in
+    let i = c.self.inside in
+    let unspent = sym (spent_own i.locate i.book i.spent i.trades i.known c.args.reference) ∙ (rw (here, ← c.self.view_is) at c.requires.unspent) in
+    rw (← c.self.view_is) (
+    held_taken_back i.locate i.book i.spent i.trades i.known c.args.reference _ _ _ unspent c.in-Err.ensures.err c.in_ok-insert.ensures.ok c.remove.ensures
+    )

@@ -15,5 +15,5 @@ returns-clause-ok g c =
     let here : c.args._locate ≡ c.args.self.now.locate = c.requires.here in
     let i = c.self.inside in
     on_ok_weaker c.push.result (λ is. rw (here, ← c.self.view_is) (
-    held_push i.locate i.book i.trades i.known c.args.trade _ is
+    held_push i.locate i.book i.spent i.trades i.known c.args.trade _ is
     )) c.push.ensures.ok

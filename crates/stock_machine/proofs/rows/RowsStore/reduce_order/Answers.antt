@@ -20,5 +20,5 @@ returns g c =
     let i = c.self.inside in
     let there : maps.get i.book c.args.reference ≡ Some c.args._row = sym (live_keyed i.locate c.args.reference i.book) ∙ (rw (here, ← c.self.view_is) at c.requires.live) in
     rw (here, ← c.self.view_is) (
-    held_reduce i.locate i.book i.trades i.known c.args.reference c.args.shares c.args._row _ (ap (λ (o : Option OrderRow). unwrap_or o no_order) there) c.reduce.ensures
+    held_reduce i.locate i.book i.spent i.trades i.known c.args.reference c.args.shares c.args._row _ (ap (λ (o : Option OrderRow). unwrap_or o no_order) there) c.reduce.ensures
     )

@@ -14,4 +14,4 @@ pub returns : goal.returns
 returns g c =
     let here : c.args._locate ≡ c.args.self.now.locate = c.requires.here in
     let i = c.self.inside in
-    rw (here, ← c.self.view_is) (held_remove i.locate i.book i.trades i.known c.args.reference _ c.remove.ensures.gone)
+    rw (here, ← c.self.view_is) (held_remove i.locate i.book i.spent i.trades i.known c.args.reference _ c.remove.ensures.gone)

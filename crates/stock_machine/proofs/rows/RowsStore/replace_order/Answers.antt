@@ -1,11 +1,10 @@
 use Rattle.std.proofs.Common.{◌≡◌, Option, ap, sym, ◌∙◌}
 use Rattle.std.specs.Option.{option_map}
-use Rattle.std.proofs.lemmas.Result.{on_ok_weaker}
 use Rattle.itch_table.specs.declared.order.OrderRow.{OrderRow}
 use Rattle.itch_table.specs.World.{order_under}
 use Rattle.stock_machine.proofs.Keyed.{live_keyed}
-use Rattle.stock_machine.proofs.Owned.{held_replace}
-use Rattle.stock_machine.proofs.OwnRows.{some_mapped}
+use Rattle.stock_machine.proofs.Owned.{held_replace, held_taken_back}
+use Rattle.stock_machine.proofs.OwnRows.{some_mapped, spent_own}
 use Rattle.stock_machine.proofs.rows.RowsStore.replace_order.Goals as goal
 
 pub replace-requires-clause-live : goal.replace-requires-clause-live
@@ -19,10 +18,19 @@ replace-requires-clause-new g c =
     let i = c.self.inside in
     ap (λ (o : Option OrderRow). option_map (order_under c.args.new) o) (sym (live_keyed i.locate c.args.new i.book) ∙ (rw (here, ← c.self.view_is) at c.requires.new))
 
-pub returns-clause-ok : goal.returns-clause-ok
-returns-clause-ok g c =
+pub returns-in-Ok-clause-ok : goal.returns-in-Ok-clause-ok
+returns-in-Ok-clause-ok g c =
     let here : c.args._locate ≡ c.args.self.now.locate = c.requires.here in
     let i = c.self.inside in
-    on_ok_weaker c.replace.result (λ is. rw (here, ← c.self.view_is) (
-    held_replace i.locate i.book i.trades i.known c.args.old c.args.new c.args.shares c.args.price _ is
-    )) c.replace.ensures.ok
+    rw (here, ← c.self.view_is) (
+    held_replace i.locate i.book i.spent i.trades i.known c.args.old c.args.new c.args.shares c.args.price _ _ c.in-Ok.ensures.ok c.in_ok-insert.ensures.ok
+    )
+
+pub returns-in-Err-clause-err : goal.returns-in-Err-clause-err
+returns-in-Err-clause-err g c =
+    let here : c.args._locate ≡ c.args.self.now.locate = c.requires.here in
+    let i = c.self.inside in
+    let unspent = sym (spent_own i.locate i.book i.spent i.trades i.known c.args.new) ∙ (rw (here, ← c.self.view_is) at c.requires.unspent) in
+    rw (← c.self.view_is) (
+    held_taken_back i.locate i.book i.spent i.trades i.known c.args.new _ _ _ unspent c.in-Err.ensures.err c.in_ok-insert.ensures.ok c.remove.ensures
+    )

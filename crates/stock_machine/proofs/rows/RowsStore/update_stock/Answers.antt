@@ -6,4 +6,4 @@ pub returns : goal.returns
 returns g c =
     let here : c.args._locate ≡ c.args.self.now.locate = c.requires.here in
     let i = c.self.inside in
-    rw (here, ← c.self.view_is) (held_stock i.locate i.book i.trades i.known c.args.row)
+    rw (here, ← c.self.view_is) (held_stock i.locate i.book i.spent i.trades i.known c.args.row)
