@@ -20,9 +20,9 @@ copies_of day locate distance =
     (range_with_len 0 (length (numbers_of day locate) / distance + 1))
 
 -- how many of a stock's messages lie from one copy to the next: the greater of what is asked for and the least
--- number that leaves at most 64 copies, the first among them
+-- number that leaves at most 48 copies, the first among them
 abbrev pub distance_of : ℕ → ℕ → ℕ
-distance_of every count = max every (count / 64 + 1)
+distance_of every count = max every (count / 48 + 1)
 
 -- the numbers in the list of a locate code, none where there is no list
 abbrev pub listed : List (List ℕ) → ℕ → List ℕ

@@ -14,7 +14,7 @@ use stock_machine::Stock;
 ///
 /// The stock's messages are kept by their numbers, four bytes each, and a copy of its machine after every so many of
 /// them, so that fewer than so many are stepped to any place. The copies lie as many messages apart as is asked for, or
-/// further where that would make more than 64, the first among them. It is seen as the day and the stock's locate code.
+/// further where that would make more than 48, the first among them. It is seen as the day and the stock's locate code.
 /// All is of this project.
 #[derive(Drop)]
 pub struct Track<'d, A: Allocator> {
@@ -36,7 +36,7 @@ impl<'d, A: Allocator> Model for Track<'d, A> {
 }
 
 // The most copies of a machine, the first among them.
-const MOST_COPIES: usize = 64;
+const MOST_COPIES: usize = 48;
 
 // How many messages lie from one copy to the next, where a stock has messages with these numbers.
 fn distance_of(every: u32, numbers: &[u32]) -> usize
@@ -45,8 +45,8 @@ fn distance_of(every: u32, numbers: &[u32]) -> usize
     (every as usize).max(numbers.len() / MOST_COPIES + 1)
 }
 
-// A stock's machine before its first message, and after every so many of its messages. Each is stepped from a
-// copy of the one before.
+// A stock's machine before its first message, and after every so many of its messages: copies of one that goes along
+// them, so that each takes no more memory than it needs.
 fn copies_of<A: Allocator + Copy>(
     alloc: A,
     day: &Day<A>,
@@ -59,17 +59,12 @@ fn copies_of<A: Allocator + Copy>(
     ensures { IfOk result (λ copies. copies.items ≡ copies_of day.now.payloads locate distance) }
 {
     let mut copies = Vec::new(alloc);
-    copies.push(Stock::new(alloc, locate))?;
+    let mut stock = Stock::new(alloc, locate);
+    copies.push(stock.copy(alloc)?)?;
     for last in 0..numbers.len() / distance {
-        let mut stock = copies[last].copy(alloc)?;
-        advance(
-            &mut stock,
-            day,
-            numbers,
-            last * distance,
-            (last + 1) * distance,
-        )?;
-        copies.push(stock)?;
+        let (from, to) = (last * distance, (last + 1) * distance);
+        advance(&mut stock, day, numbers, from, to)?;
+        copies.push(stock.copy(alloc)?)?;
     }
     Ok(copies)
 }

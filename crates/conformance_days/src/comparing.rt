@@ -74,14 +74,25 @@ fn same_spent<A: Allocator + Copy>(
     let locate = stock.locate();
     for reference in 0..=LOW {
         let found = (reference, stock.spent(reference));
-        same("a spent reference", &found, &(reference, plain.spent(locate, reference)))?;
+        same(
+            "a spent reference",
+            &found,
+            &(reference, plain.spent(locate, reference)),
+        )?;
     }
     for order in &plain.orders(alloc, locate)? {
-        let found = (stock.spent(order.reference), plain.spent(locate, order.reference));
+        let found = (
+            stock.spent(order.reference),
+            plain.spent(locate, order.reference),
+        );
         same("the reference of an order", &found, &(true, true))?;
     }
     let greatest = stock.spent(u64::MAX);
-    same("the greatest reference", &greatest, &plain.spent(locate, u64::MAX))
+    same(
+        "the greatest reference",
+        &greatest,
+        &plain.spent(locate, u64::MAX),
+    )
 }
 
 /// Compares all that the machine of a stock says with what the plain machine says of that stock.

@@ -42,7 +42,13 @@ fn shown_at<A: Allocator + Copy>(
     debugger.goto(alloc, place)?;
     let stock = debugger.stock(alloc, 1)?;
     let spent = (stock.spent(1), stock.spent(ORDERS));
-    Ok((place, stock.steps(), stock.top().bid_shares, spent.0, spent.1))
+    Ok((
+        place,
+        stock.steps(),
+        stock.top().bid_shares,
+        spent.0,
+        spent.1,
+    ))
 }
 
 // What a debugger shows of the stock at each of the places.

@@ -36,7 +36,9 @@ pub fn shown_by<A: Allocator + Copy>(alloc: A, stock: &Stock<A>) -> Result<Shown
             orders.get(1).copied(),
             orders.get(2).copied(),
         ],
-        spent: orders.first().is_some_and(|order| stock.spent(order.reference)),
+        spent: orders
+            .first()
+            .is_some_and(|order| stock.spent(order.reference)),
         bids: [bids.get(0).copied(), bids.get(1).copied()],
         asks: [asks.get(0).copied(), asks.get(1).copied()],
     })

@@ -25,7 +25,11 @@ fn spend<A: Allocator + Copy>(
     let wanted = spent_up_to(last);
     same(
         "the spent references after a message",
-        &(stock.steps(), spent_of(stock), spent_of(&stock.copy(alloc)?)),
+        &(
+            stock.steps(),
+            spent_of(stock),
+            spent_of(&stock.copy(alloc)?),
+        ),
         &(stock.steps(), wanted, wanted),
     )
 }

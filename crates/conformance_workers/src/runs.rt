@@ -10,7 +10,8 @@ use std::test::Fail;
 use std::thread::Threads;
 use stock_workers::{FreeGate, Replayed, RunFault, run};
 use support::{
-    ASKED, crossed_book, day_with, same, same_list, spent_references, spent_up_to, system, two_stocks,
+    ASKED, crossed_book, day_with, same, same_list, spent_references, spent_up_to, system,
+    two_stocks,
 };
 use top_cell::{Board, Reading};
 

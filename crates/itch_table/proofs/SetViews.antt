@@ -6,7 +6,7 @@ use Rattle.std.specs.BTreeMap.{is_at}
 use Rattle.std.specs.List.{list_any}
 use Rattle.std.specs.Option.{is_some}
 use Rattle.std.specs.Cmp.{IsTotalOrder, eq_by_cmp_equiv}
-use Rattle.std.specs.FinMap.{FinMap, contains_key, get, insert, remove, get-empty, get-insert, get-remove, get_tied, same_map, IsAntisymmetric}
+use Rattle.std.specs.FinMap.{contains_key, get, remove, get-empty, get-insert, get-remove, get_tied, same_map, IsAntisymmetric}
 use Rattle.itch_table.specs.KeySets.{KeySet, set_of, with_key}
 use Rattle.itch_table.proofs.MapViews.{tied}
 

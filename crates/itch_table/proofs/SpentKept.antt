@@ -1,9 +1,9 @@
 -- The references that orders have had, along the messages of a day.
-use Rattle.std.proofs.Common.{◌≡◌, ◌==◌, ◌≤◌, ◌+◌, ◌-◌, ℕ, zero, suc, List, [], ◌∷◌, Option, Some, None, Bool, true, false, cond, refl, ap, sym, ◌∙◌, subst, arith}
+use Rattle.std.proofs.Common.{◌≡◌, ◌==◌, ◌+◌, ◌-◌, ℕ, zero, suc, List, [], ◌∷◌, Option, Some, None, Bool, true, false, cond, refl, ap, sym, ◌∙◌, subst, arith}
 use Rattle.std.specs.Prelude.{is_some, slice_index_or}
 use Rattle.std.specs.Option.{IsSome}
 use Rattle.std.specs.Ordering.{eq_by_cmp}
-use Rattle.std.specs.FinMap.{FinMap, contains_key, get, insert, remove, get-empty, get-insert, get-remove, get_tied}
+use Rattle.std.specs.FinMap.{contains_key, get, insert, get-empty, get-insert, get-remove, get_tied}
 use Rattle.std.proofs.lemmas.Grind.{common_steps}
 use Rattle.itch_layouts.specs.Shapes.{shape_of}
 use Rattle.itch_layouts.specs.declared.message.Msg.{Msg}
@@ -19,8 +19,8 @@ use Rattle.itch_table.specs.declared.status.Trading.{Trading as TradingState}
 use Rattle.itch_table.specs.declared.trades.TradeRow.{TradeRow}
 use Rattle.itch_table.specs.After.{after}
 use Rattle.itch_table.specs.Spent.{LiveIsSpent, SpentStays, StepsKeepSpent}
-use Rattle.itch_table.specs.Table.{step, step_shape, checks, effect, first_fault, is_printable, listed, refuse_unless, result_of, with_new_order, with_order, without_order, less_shares, with_less, order_row, with_trade, set_trading, set_regsho}
-use Rattle.itch_table.specs.World.{World, is_spent, key, key_cmp, live, stock_row}
+use Rattle.itch_table.specs.Table.{step, step_shape, checks, effect, first_fault, is_printable, listed, refuse_unless, result_of, with_new_order, with_order, without_order, less_shares, with_trade, set_trading, set_regsho}
+use Rattle.itch_table.specs.World.{World, key, key_cmp, live, stock_row}
 use Rattle.itch_table.proofs.Keys.{key_total}
 use Rattle.itch_table.proofs.MapViews.{tied}
 use Rattle.itch_table.proofs.SetViews.{contains_with}
@@ -55,9 +55,9 @@ less_keeps : (w : World) (l r : ℕ) (row : OrderRow) (shares : ℕ) → IsSome 
 less_keeps w l r row shares lives = elim (row.shares == shares) as (λ (b : Bool). Keeps w (less_by b)) [
   | true ↦ removed_keeps w l r
   | false ↦ record {
-      spent = λ k h. h;
-      live = λ all k some. at all k some (eq_by_cmp key_cmp k (key l r)) refl;
-    }
+    spent = λ k h. h;
+    live = λ all k some. at all k some (eq_by_cmp key_cmp k (key l r)) refl;
+  }
 ]
   where
     less : OrderRow

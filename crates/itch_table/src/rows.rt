@@ -12,8 +12,8 @@ use crate::status::{StockRow, Totals};
 use crate::store::Store;
 use crate::trades::{TradeRow, break_trades, has_unbroken, totals_under};
 use std::alloc::{AllocError, Allocator};
-use std::collections::{BTreeMap, BTreeSet};
 use std::collections::btree_map::Range;
+use std::collections::{BTreeMap, BTreeSet};
 use std::marker::Model;
 
 /// The live orders of all stocks, the references that they have had, the trades, what is known of each stock, and the

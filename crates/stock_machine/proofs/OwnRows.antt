@@ -4,7 +4,7 @@ use Rattle.std.specs.Prelude.{filter}
 use Rattle.std.specs.Option.{option_map, is_some, IsSome}
 use Rattle.std.specs.Ordering.{nat_cmp}
 use Rattle.std.specs.Cmp.{nat_cmp_total}
-use Rattle.std.specs.FinMap.{FinMap, contains_key, get, insert, empty, entries, get-insert, get-empty, same_map, nat_cmp-IsAntisymmetric}
+use Rattle.std.specs.FinMap.{contains_key, get, insert, empty, entries, get-insert, get-empty, same_map, nat_cmp-IsAntisymmetric}
 use Rattle.std.proofs.lemmas.Grind.{common_steps}
 use Rattle.std.proofs.lemmas.Bool.Decides.{nat_tests}
 use Rattle.itch_table.specs.KeySets.{KeySet}

@@ -7,7 +7,7 @@ use Rattle.std.specs.FinMap.{FinMap, contains_key, insert, remove, nat_cmp-IsAnt
 use Rattle.itch_table.specs.KeySets.{KeySet, with_key}
 use Rattle.itch_table.specs.World.{World, key, key_cmp}
 use Rattle.itch_table.specs.Held.{Held, one_stock, on_world}
-use Rattle.itch_table.specs.Table.{less_shares, order_row, with_new_order, with_order, without_order, with_replaced, with_stock, with_trade, no_order}
+use Rattle.itch_table.specs.Table.{less_shares, order_row, with_new_order, without_order, with_replaced, with_stock, with_trade, no_order}
 use Rattle.itch_table.specs.Trades.{broken_at}
 use Rattle.itch_table.specs.declared.order.OrderRow.{OrderRow}
 use Rattle.itch_table.specs.declared.status.StockRow.{StockRow}

@@ -1,4 +1,4 @@
-use Rattle.std.proofs.Common.{◌≡◌, ◌<◌, ◌%◌, ◌+◌, ◌∷◌, [], ℕ, List, length, drop, map, take, get_or, ap, sym, subst, ◌∙◌, arith}
+use Rattle.std.proofs.Common.{◌≡◌, ◌<◌, ◌%◌, ◌+◌, [], ℕ, length, drop, map, take, get_or, ap, sym, subst, ◌∙◌, arith}
 use Rattle.std.proofs.lemmas.List.{drop_more, get_or-map, length-drop, length-map, length-replicate, length-set, take_all}
 use Rattle.std.proofs.lemmas.Nat.{mod_below}
 use Rattle.day_core.proofs.StocksByWorker.{ByOwner, all_given, given, none_given, not_empty}

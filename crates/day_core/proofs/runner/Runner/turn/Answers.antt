@@ -1,6 +1,8 @@
-use Rattle.std.proofs.Common.{◌≡◌, ◌+◌, List, ℕ, length, sym, ap, subst, ◌∙◌, arith, true}
+use Rattle.std.proofs.Common.{◌≡◌, ◌+◌, List, ℕ, length, set, sym, ap, subst, ◌∙◌, arith, true}
+use Rattle.std.proofs.lemmas.List.{length-map, set-get_or}
+use Rattle.stock_machine.specs.StockRows.{StockMachine}
 use Rattle.day_core.specs.Owners.{is_own, own_locates, part_at}
-use Rattle.day_core.specs.Workers.{IsTurned, WorkerState}
+use Rattle.day_core.specs.Workers.{IsRunner, IsTurned, WorkerState, machine_at, state_in}
 use Rattle.day_core.proofs.Running.{next_own, next_within, runner_after, step_few, step_own, stock_stepped, turned_is}
 use Rattle.day_core.proofs.runner.Runner.turn.Goals as goal
 
@@ -23,6 +25,12 @@ message_of-place-requires-clause-own g c =
       subst (λ (day : List (List ℕ)). is_own inside.parts.value.workers inside.worker (part_at day c.index-message.result.now) ≡ true) (sym same) own,
     )
 
+pub index_mut-requires : goal.index_mut-requires
+index_mut-requires g c =
+    let inside = c.self.inside in
+    let runner = c.self.invariant in
+    omega (arith, c.message_of-place.ensures.within, ap length runner.stocks_are, length-map inside.places (machine_at (state_in inside.parts.value inside.worker inside.done)))
+
 pub step-requires-clause-own : goal.step-requires-clause-own
 step-requires-clause-own g c =
     let same = c.requires ∙ ap (λ (s : WorkerState). s.day) (sym c.self.view_is) in
@@ -34,6 +42,15 @@ step-requires-clause-few g c =
     let same = c.requires ∙ ap (λ (s : WorkerState). s.day) (sym c.self.view_is) in
     let found = c.message_of-place.ensures in
     step_few _ _ _ _ c.self.invariant _ (omega arith) c.index-message.ensures _ same _ c.index_mut.result.now found.within found.stock c.index_mut.ensures.value (omega (arith, c.type_inv.message))
+
+-- after an error the machine at the place is the one that was there
+pub invariant_of-self : goal.invariant_of-self
+invariant_of-self g c =
+    let inside = c.self.inside in
+    let place = c.message_of-place.result.1 in
+    let same : set inside.stocks.items place c.step.new.self ≡ inside.stocks.items =
+    ap (set inside.stocks.items place) (c.in_err-outcome.ensures.err ∙ c.index_mut.ensures.value) ∙ set-get_or inside.stocks.items place c.index_mut.result.now in
+    subst (λ (stocks : List StockMachine). IsRunner (state_in inside.parts.value inside.worker inside.done) inside.own.items inside.places stocks) (sym same) c.self.invariant
 
 pub invariant_of-self-2 : goal.invariant_of-self-2
 invariant_of-self-2 g c =

@@ -1,5 +1,4 @@
 use Rattle.std.proofs.Common.{◌∙◌, ap, List, ℕ, ◌++◌}
-use Rattle.std.specs.List.{All}
 use Rattle.std.specs.Ordering.{nat_cmp}
 use Rattle.itch_table.specs.KeySets.{set_of, with_key}
 use Rattle.stock_machine.proofs.SpentLists.{other, rise}
