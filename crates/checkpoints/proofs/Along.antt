@@ -174,10 +174,10 @@ module _ (day : List (List ℕ)) (locate : ℕ) where
     copies_made last copies all are = are ∙ ap (λ (n : ℕ). map copy (range_with_len 0 (n + 1))) all
 
     module _ (last : ℕ) (copies : List StockMachine) (are : copies ≡ map copy (range_with_len 0 (last + 1))) where
-      pub copies_len : length copies ≡ last + 1
+      copies_len : length copies ≡ last + 1
       copies_len = ap length are ∙ length-map-range_with_len copy 0 (last + 1)
 
-      pub copies_at : (k : ℕ) (d : StockMachine) → k ≤ last → get_or copies k d ≡ copy k
+      copies_at : (k : ℕ) (d : StockMachine) → k ≤ last → get_or copies k d ≡ copy k
       copies_at k d le =
           ap (λ (ms : List StockMachine). get_or ms k d) are
           ∙ get_or-map-range_with_len copy 0 (last + 1) k k d (omega (arith, le)) (omega arith)

@@ -1,6 +1,7 @@
 //! A day, message by message, through the plain machine and through a machine for each of its stocks.
 use crate::comparing::{same_stocks, step};
 use binaryfile::Day;
+use itch_layouts::{Msg, Shape, read_msg};
 use itch_table::{Outcome, Part, Plain, part};
 use std::alloc::{AllocError, Allocator};
 use std::test::Fail;
@@ -40,6 +41,34 @@ fn take<A: Allocator + Copy>(
     }
 }
 
+// The stock and the reference of a payload that names a reference for a new order.
+fn named_by(payload: &[u8]) -> Option<(u16, u64)> {
+    match read_msg(payload) {
+        Shape::Known(Msg::Add(head, m)) => Some((head.locate, m.reference)),
+        Shape::Known(Msg::AddMpid(head, m)) => Some((head.locate, m.reference)),
+        Shape::Known(Msg::Replace(head, m)) => Some((head.locate, m.new_reference)),
+        _ => None,
+    }
+}
+
+// Compares which of the references that a day names for new orders are spent.
+fn same_named<A: Allocator + Copy>(
+    day: &Day<A>,
+    plain: &Plain<A>,
+    stocks: &[Stock<A>],
+) -> Result<(), Fail> {
+    for (locate, reference) in day.payloads().filter_map(|payload| named_by(payload)) {
+        for stock in stocks {
+            if stock.locate() == locate {
+                let found = (locate, reference, stock.spent(reference));
+                let wanted = (locate, reference, plain.spent(locate, reference));
+                same("a reference that the day names", &found, &wanted)?;
+            }
+        }
+    }
+    Ok(())
+}
+
 /// Leads all machines through a day and compares them after each message of a day of at most 100, and after every
 /// hundredth of a longer one. Answers how many stocks have messages.
 pub fn compare<A: Allocator + Copy>(alloc: A, day: &Day<A>) -> Result<usize, Fail> {
@@ -58,5 +87,6 @@ pub fn compare<A: Allocator + Copy>(alloc: A, day: &Day<A>) -> Result<usize, Fai
         }
     }
     same_stocks(alloc, &plain, &stocks, messages)?;
+    same_named(day, &plain, &stocks)?;
     Ok(stocks.len())
 }

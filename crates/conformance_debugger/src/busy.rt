@@ -9,8 +9,8 @@ use support::{AAPL, add_entry, day_of, same, same_list};
 // How many orders are added and deleted, one after another. With the directory message there are 60,001 messages.
 const ORDERS: u64 = 30_000;
 
-// A place, and there how many messages the stock has taken, the shares of its best bid, and whether the references of the
-// first and of the last order are spent.
+// A place, and there how many messages the stock has taken, the shares of its best bid, and whether the references of
+// the first and of the last order are spent.
 type Place = (u32, u32, u64, bool, bool);
 
 // After the directory message each even message adds an order, and each odd one deletes it.

@@ -30,8 +30,8 @@ pub enum Answer {
     Place(usize),
     /// The breakpoint that was removed.
     Removed(Option<Break>),
-    /// A stock's best bid and ask, its totals and its trading state.
-    Shown(Top, Totals, Option<u8>),
+    /// A stock's best bid and ask, its totals, its trading state, and whether reference 1 is spent.
+    Shown(Top, Totals, Option<u8>, bool),
 }
 
 // The answer of a move by a number.
@@ -42,7 +42,7 @@ fn moved<A: Allocator>(debugger: &Debugger<'_, A>) -> Answer {
 // What is shown of a stock.
 fn shown<A: Allocator + Copy>(stock: &Stock<A>) -> Answer {
     let state = stock.status().trading.map(|trading| trading.state);
-    Answer::Shown(stock.top(), stock.totals(), state)
+    Answer::Shown(stock.top(), stock.totals(), state, stock.spent(1))
 }
 
 impl Call {

@@ -29,7 +29,7 @@ const fn halted(
         notional,
         unprinted: 0,
     };
-    Ok(Answer::Shown(top, totals, Some(b'H')))
+    Ok(Answer::Shown(top, totals, Some(b'H'), true))
 }
 
 // The stock before its first message.
@@ -42,6 +42,7 @@ const NOTHING: Answer = Answer::Shown(
     },
     Totals::NONE,
     None,
+    false,
 );
 
 #[test]

@@ -71,6 +71,7 @@ const AT_3: Answer = Answer::Shown(
         unprinted: 0,
     },
     None,
+    true,
 );
 
 // Makes a call of a new debugger under a refusal. Where it is refused, it leaves the debugger as it was, its stock too,

@@ -13,9 +13,10 @@ pub struct Shown {
     top: Top,
     totals: Totals,
     status: Status,
-    // The first three orders, whether the reference of the first is spent, and the first two levels of each side.
+    // The first three orders, how many of the references of the tests' days are spent, and the first two levels of
+    // each side.
     orders: [Option<Order>; 3],
-    spent: bool,
+    spent: usize,
     bids: [Option<Level>; 2],
     asks: [Option<Level>; 2],
 }
@@ -36,9 +37,10 @@ pub fn shown_by<A: Allocator + Copy>(alloc: A, stock: &Stock<A>) -> Result<Shown
             orders.get(1).copied(),
             orders.get(2).copied(),
         ],
-        spent: orders
-            .first()
-            .is_some_and(|order| stock.spent(order.reference)),
+        spent: [1, 2, 7]
+            .iter()
+            .filter(|reference| stock.spent(**reference))
+            .count(),
         bids: [bids.get(0).copied(), bids.get(1).copied()],
         asks: [asks.get(0).copied(), asks.get(1).copied()],
     })
@@ -59,7 +61,7 @@ const NO_LEVEL: Level = Level {
 };
 
 /// What the machine of a stock says after so many of its messages, without trades, where it has this directory row and
-/// these orders. An ask comes only beside a bid of a lower reference.
+/// these orders. An ask comes only beside a bid of a lower reference. The second message adds the first order.
 pub fn stock_with(
     locate: u16,
     steps: u32,
@@ -69,6 +71,11 @@ pub fn stock_with(
 ) -> Shown {
     let bids = bid.map(level_of);
     let asks = ask.map(level_of);
+    let spent = match ask {
+        Some(_) => 2,
+        None if directory.is_some() && steps >= 2 => 1,
+        None => 0,
+    };
     Shown {
         locate,
         steps,
@@ -85,7 +92,7 @@ pub fn stock_with(
             regsho: None,
         },
         orders: [bid, ask, None],
-        spent: bid.is_some(),
+        spent,
         bids: [bids, None],
         asks: [asks, None],
     }

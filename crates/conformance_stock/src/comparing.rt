@@ -47,8 +47,8 @@ fn same_spent<A: Allocator + Copy>(found: &Stock<A>, wanted: &Stock<A>) -> Resul
     Ok(())
 }
 
-/// Compares what two machines say: the locate code, the steps, the top, the totals, the status, all lists, and the spent
-/// references that a test names.
+/// Compares what two machines say: the locate code, the steps, the top, the totals, the status, all lists, and the
+/// spent references that a test names.
 pub fn same_machines<A: Allocator + Copy>(
     alloc: A,
     found: &Stock<A>,

@@ -106,6 +106,64 @@ fn a_step_without_memory_changes_nothing(rt: HostRuntime) -> Result<(), Fail> {
     Ok(())
 }
 
+// The message that takes a reference lower than all before it: a new order, or a replacement of the one before.
+fn falling_message(kind: Growing, reference: u64) -> Msg {
+    match kind {
+        Growing::Replace => AAPL.replace(reference.saturating_add(1), reference, 10, 300),
+        _ => AAPL.add(reference, b'B', 10, 100),
+    }
+}
+
+// A machine that has taken references from 1,000 down to above this one.
+fn fallen_to<A: Allocator + Copy>(
+    alloc: A,
+    kind: Growing,
+    reference: u64,
+) -> Result<Stock<A>, Fail> {
+    let mut stock = after(alloc, &[AAPL.directory(), AAPL.add(1_000, b'B', 10, 100)])?;
+    for earlier in (reference..1_000).rev() {
+        if earlier > reference {
+            let msg = falling_message(kind, earlier);
+            take_message(alloc, &mut stock, &msg, Outcome::Applied)?;
+        }
+    }
+    Ok(stock)
+}
+
+// Hands a machine a message with a falling reference under a refusal.
+fn try_falling(
+    heap: &Refusing<Global>,
+    kind: Growing,
+    reference: u64,
+    refusal: Refusal,
+) -> Result<Tried, Fail> {
+    let payload = payload_of(heap, &falling_message(kind, reference))?;
+    let mut stock = fallen_to(heap, kind, reference)?;
+    let mut twin = fallen_to(heap, kind, reference)?;
+    take_under(heap, &mut stock, &mut twin, &payload, refusal)
+}
+
+// References that don't rise stand in trees, which grow by other steps than lists.
+#[test]
+fn a_falling_reference_without_memory_changes_nothing(rt: HostRuntime) -> Result<(), Fail> {
+    let heap = Refusing::new(rt.alloc(), Refusal::Never);
+    for kind in [Growing::Add, Growing::Replace] {
+        let mut growths = 0u64;
+        for reference in 970..1_000u64 {
+            let more = refuse_any(|refusal: Refusal| -> Result<Tried, Fail> {
+                try_falling(&heap, kind, reference, refusal)
+            })?;
+            growths = growths.saturating_add(more);
+        }
+        same(
+            "that messages needed memory",
+            &(kind, growths > 2),
+            &(kind, true),
+        )?;
+    }
+    Ok(())
+}
+
 // The directory message, and others that add two bids and a trade, and a bid that goes again.
 fn two_bids() -> [Msg; 6] {
     [

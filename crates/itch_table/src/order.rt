@@ -20,7 +20,7 @@ pub enum Side {
 /// Nasdaq TotalView-ITCH 5.0, "Add Order Message".
 #[derive(Debug, Clone, Copy, PartialEq, Eq)]
 pub struct Order {
-    /// Its reference, which is its own among the live orders of its stock.
+    /// Its reference, which no other order of its stock has on the day.
     pub reference: u64,
     /// Its side of the book.
     pub side: Side,

@@ -72,7 +72,8 @@ impl<A: Allocator + Copy> Plain<A> {
         self.rows.live_order(locate, reference)
     }
 
-    /// Whether an order has had a reference under a locate code, so that no later one may take it. This is of this project.
+    /// Whether an order has had a reference under a locate code, so that no later one may take it. This is of this
+    /// project.
     pub fn spent(&self, locate: u16, reference: u64) -> bool
         ensures { result ≡ is_spent self.now.world locate reference }
     {

@@ -78,7 +78,7 @@ impl<A: Allocator + Copy> Rows<A> {
         }
     }
 
-    // Spends a reference that isn't spent yet.
+    // Spends a reference.
     fn spend(&mut self, locate: u16, reference: u64) -> Result<(), AllocError>
         ensures ok { OnOk result (self.new ≡ with_spent self.old locate reference) }
         ensures err { OnErr result (self.new ≡ self.old) }

@@ -1,5 +1,5 @@
 -- The references that a stock's orders have had, in their two parts.
-use Rattle.std.proofs.Common.{◌≡◌, ◌≢◌, ℕ, ◌+◌, ◌-◌, ◌<◌, ◌≤◌, ◌==◌, ◌||◌, not, List, [], ◌∷◌, ◌++◌, get_or, length, length-append, zero, suc, subst, cond, Bool, true, false, refl, ap, sym, ◌∙◌, arith, inl, inr}
+use Rattle.std.proofs.Common.{◌≡◌, ◌≢◌, ℕ, ◌+◌, ◌-◌, ◌<◌, ◌≤◌, ◌==◌, ◌||◌, not, List, [], ◌∷◌, ◌++◌, get_or, length, zero, suc, subst, cond, Bool, true, false, refl, ap, sym, ◌∙◌, arith, inl, inr}
 use Rattle.std.specs.Prelude.{filter}
 use Rattle.std.specs.Ordering.{nat_cmp}
 use Rattle.std.specs.Cmp.{nat_cmp_total, eq_by_cmp_equiv}
@@ -14,8 +14,7 @@ use Rattle.std.specs.BTreeSet.{BTreeSet, IsFromIterResult, IsOrdered}
 use Rattle.std.proofs.lemmas.Bool.{cases_lt, eqb-true}
 use Rattle.std.proofs.lemmas.Bool.Decides.{nat_tests}
 use Rattle.std.proofs.lemmas.Grind.{common_steps}
-use Rattle.std.proofs.lemmas.List.{get_or_default, get_or_push, map-append}
-use Rattle.std.proofs.Math.ListN.{get_or-append}
+use Rattle.std.proofs.lemmas.List.{get_or_default, map-append}
 use Rattle.std.proofs.lemmas.List.Elements.{All-tail}
 use Rattle.std.proofs.lemmas.Map.Lookups.{btree_set_from_contains, exact_unsigned}
 use Rattle.std.proofs.lemmas.List.Folds.{list_any-append, list_any_at, list_any_none}
@@ -99,17 +98,6 @@ pub all_below_by_last : (n : ℕ) (ns : List ℕ) → IsStrictlyIncreasing ns �
 all_below_by_last n ns rises last k d lt =
     let up = rises_to ns rises k (length ns - 1) (omega arith) (omega arith) in
     omega (arith, get_or_default ns k d 0 lt)
-
--- a number more, above all
-pub rises_pushed : (d : ℕ) (ds : List ℕ) → IsStrictlyIncreasing ds → All (λ x. x < d) ds → IsStrictlyIncreasing (ds ++ d ∷ [])
-rises_pushed d ds rises h k lt =
-    let long : k + 1 < length ds + 1 = omega (arith, lt, length-append ds (d ∷ [])) in
-    elim (cases_lt (k + 1) (length ds)) [
-      | inl within ↦ rw (get_or-append ds (d ∷ []) 0 k (omega arith), get_or-append ds (d ∷ []) 0 (k + 1) within) (rises k within)
-      | inr end ↦
-          let last : length ds ≡ k + 1 = omega arith in
-          rw (get_or-append ds (d ∷ []) 0 k (omega arith), get_or_push ds d 0 (k + 1) last) (h k 0 (omega arith))
-    ]
 
 -- ---- changes
 
