@@ -155,7 +155,7 @@ fn a_board_without_memory_is_none(rt: HostRuntime) -> Result<(), Fail> {
     let growths = refuse_each(|refusal: Refusal| -> Result<Tried, Fail> {
         try_board(&heap, refusal)
     })?;
-    same("some growths", &(growths > 10 && growths <= 40), &true)
+    same("some growths", &(growths > 6 && growths <= 40), &true)
 }
 
 // Publishes the third message of a bid that is deleted, shows the fourth by single steps, neither of which takes memory,
