@@ -158,8 +158,8 @@ fn a_board_without_memory_is_none(rt: HostRuntime) -> Result<(), Fail> {
     same("some growths", &(growths > 6 && growths <= 40), &true)
 }
 
-// Publishes the third message of a bid that is deleted, shows the fourth by single steps, neither of which takes memory,
-// and lets screens be made, read, glanced at and joined, all without memory.
+// Publishes the third message of a bid that is deleted, shows the fourth by single steps, neither of which takes
+// memory, and lets screens be made, read, glanced at and joined, all without memory.
 fn show_without_memory<'h, R: Wait>(
     rt: &R,
     heap: &'h Refusing<Global>,

@@ -87,10 +87,7 @@ fn compare_all<A: Allocator + Copy>(
 
 /// Compares a debugger with the plain machine after each message of a day of at most 100, and after every hundredth of
 /// a longer one; each place is reached from an earlier one and from a later one.
-pub fn compare_places<A: Allocator + Copy>(
-    alloc: A,
-    day: &Day<A>,
-) -> Result<(), Fail> {
+pub fn compare_places<A: Allocator + Copy>(alloc: A, day: &Day<A>) -> Result<(), Fail> {
     let locates = locates(alloc, day)?;
     for distance in DISTANCES {
         if distance == 0 {

@@ -54,10 +54,7 @@ fn breakpoints() -> Result<[Break; 4], Fail> {
 }
 
 // Steps a debugger through a day, and lets breakpoints stop along it.
-fn compare_moves<A: Allocator + Copy>(
-    alloc: A,
-    day: &Day<A>,
-) -> Result<(), Fail> {
+fn compare_moves<A: Allocator + Copy>(alloc: A, day: &Day<A>) -> Result<(), Fail> {
     let locates = locates(alloc, day)?;
     compare_walk(alloc, day, &locates)?;
     for breakpoint in breakpoints()? {

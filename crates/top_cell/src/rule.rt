@@ -57,8 +57,7 @@ impl TableRule<(), View, u16> for CellRule {
 /// The count and the four words of a stock, as all threads see them. They are told the stock's locate code.
 pub type Words = Shared<(), View, u16, CellRule>;
 
-/// A cell with its memory. The proofs of the calls on it ask how much room an allocator takes, which is known of a
-/// reference to one.
+/// A cell with its memory, which it frees by a reference to its board's allocator.
 pub type Cell<'a, A> = Table<(), View, u16, CellRule, &'a A>;
 
 /// What a writer or a screen holds of its cell.

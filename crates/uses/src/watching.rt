@@ -163,7 +163,10 @@ mod tests {
         let first = screen.read(&rt, &board);
         run(&rt, alloc, &day, &board, writers, 2, &Counter::new())?;
         let frame = next_frame(&board, &mut screen, first);
-        assert_eq!(rt; (first.message, frame.message, frame.bid_price), (0, 3, 1_010_000));
+        assert_eq!(rt;
+            (first.message, frame.message, frame.bid_price),
+            (0, 3, 1_010_000)
+        );
         Ok(())
     }
 

@@ -1,5 +1,5 @@
-//! Reader ends: a screen with an open try of four words loads the count and closes the try. Where the count is still the
-//! one at which the try began, the screen stands at the number of its words.
+//! Reader ends: a screen with an open try of four words loads the count and closes the try. Where the count is still
+//! the one at which the try began, the screen stands at the number of its words.
 use crate::rule::View;
 use atomic_table::Play;
 
