@@ -10,4 +10,6 @@ mod boards;
 #[cfg(test)]
 mod cells;
 #[cfg(test)]
+mod changes;
+#[cfg(test)]
 mod threads;

@@ -5,15 +5,13 @@ ghost use Rattle.conformance_cells.specs.Showing.{AreInStep};
 use binaryfile::Day;
 use itch_table::Plain;
 use std::alloc::{AllocError, Allocator};
-use std::sync::Wait;
 use top_cell::{Board, TopWriter};
 
 /// Takes the next message of a day, and shows the best bid and ask of the writer's stock after it. The answer is
 /// whether there was one.
 ///
 /// An error says that memory was refused: the machine and the cell are then as they were.
-pub fn show_next<R: Wait, A: Allocator + Copy>(
-    rt: &R,
+pub fn show_next<A: Allocator + Copy>(
     day: &Day<A>,
     machine: &mut Plain<A>,
     board: &Board<'_, A>,
@@ -32,7 +30,7 @@ pub fn show_next<R: Wait, A: Allocator + Copy>(
         return Ok(false);
     }
     machine.step(day.payload(message + 1))?;
-    writer.publish(rt, board, message + 1, machine.top(writer.locate()));
+    writer.publish(board, message + 1, machine.top(writer.locate()));
     Ok(true)
 }
 
@@ -40,8 +38,7 @@ pub fn show_next<R: Wait, A: Allocator + Copy>(
 ///
 /// Screens of the stock may read the board meanwhile, each in a thread of its own. An error says that memory was
 /// refused; the cell then shows the last message that was taken.
-pub fn show_rest<R: Wait, A: Allocator + Copy>(
-    rt: &R,
+pub fn show_rest<A: Allocator + Copy>(
     day: &Day<A>,
     mut machine: Plain<A>,
     board: &Board<'_, A>,
@@ -51,7 +48,7 @@ pub fn show_rest<R: Wait, A: Allocator + Copy>(
     ensures { IfOk result (λ shown. shown ≡ record writer { message = length day.now.payloads }) }
 {
     for _ in machine.steps()..day.len() {
-        show_next(rt, day, &mut machine, board, &mut writer)?;
+        show_next(day, &mut machine, board, &mut writer)?;
     }
     Ok(writer)
 }

@@ -82,19 +82,45 @@ fn crossed_readings() -> [Reading; 4] {
     ]
 }
 
-// Reads until the last of these readings is there, which may come after each number of messages. The answer is how
+// How a screen looks at its cell.
+#[derive(Clone, Copy)]
+enum Looking {
+    Reads,
+    Glances,
+}
+
+// What a screen sees, if it sees something.
+fn look<R: Wait, A: Allocator>(
+    rt: &R,
+    board: &Board<'_, A>,
+    screen: &mut Screen,
+    looking: Looking,
+) -> Option<Reading>
+    requires { IsOn board.now screen.old.place }
+    ensures { screen.new.place ≡ screen.old.place }
+{
+    match looking {
+        Looking::Reads => Some(screen.read(rt, board)),
+        Looking::Glances => screen.glance(board, 2).ok(),
+    }
+}
+
+// Looks until the last of these readings is there, which may come after each number of messages. The answer is how
 // many messages were seen, or the first reading that isn't one of them or that comes after a later one.
 fn watch<R: Wait, A: Allocator>(
     rt: &R,
     board: &Board<'_, A>,
     mut screen: Screen,
+    looking: Looking,
     readings: &[Reading],
 ) -> Result<u32, Reading>
     requires { IsOn board.now screen.place }
 {
     let mut seen = 0;
     for _ in 0..u32::MAX {
-        let reading = screen.read(rt, board);
+        let Some(reading) = look(rt, board, &mut screen, looking) else {
+            continue;
+        };
         if reading.message < seen || readings.get(reading.message as usize) != Some(&reading) {
             return Err(reading);
         }
@@ -112,6 +138,7 @@ fn watch_both<R: Threads + Wait + Sync>(
     board: &Board<'_, Global>,
     first: Screen,
     second: Screen,
+    looking: Looking,
     readings: &[Reading],
 ) -> (Result<u32, Reading>, Result<u32, Reading>)
     requires first { IsOn board.now first.place }
@@ -121,10 +148,10 @@ fn watch_both<R: Threads + Wait + Sync>(
         rt,
         || -> Result<u32, Reading>
             requires { IsOn board.now first.place }
-        { watch(rt, board, first, readings) },
+        { watch(rt, board, first, looking, readings) },
         || -> Result<u32, Reading>
             requires { IsOn board.now second.place }
-        { watch(rt, board, second, readings) },
+        { watch(rt, board, second, looking, readings) },
     )
 }
 
@@ -133,21 +160,22 @@ fn show_and_watch<R: Threads + Wait + Sync>(
     rt: &R,
     alloc: Global,
     day: &Day<Global>,
+    looking: Looking,
     readings: &[Reading],
 ) -> Result<(), Fail> {
-    let (board, mut writer, machine) = only_cell(rt, &alloc, day)?;
+    let (board, mut writer, machine) = only_cell(&alloc, day)?;
     let board = &board;
-    let mut last = writer.screen(rt, board);
-    let first = writer.screen(rt, board);
-    let second = last.split(rt, board);
+    let mut last = writer.screen(board);
+    let first = writer.screen(board);
+    let second = last.split(board);
     let (shown, (one, other)) = join(
         rt,
         || -> Result<TopWriter, AllocError>
             requires { AreInStep day.now.payloads board.now machine writer }
-        { show_rest(rt, day, machine, board, writer) },
+        { show_rest(day, machine, board, writer) },
         || -> (Result<u32, Reading>, Result<u32, Reading>)
             requires { IsOn board.now first.place × IsOn board.now second.place }
-        { watch_both(rt, board, first, second, readings) },
+        { watch_both(rt, board, first, second, looking, readings) },
     );
     same("the writer", &shown?.message(), &day.len())?;
     same("the first screen", &one, &Ok(day.len()))?;
@@ -160,13 +188,28 @@ fn show_and_watch<R: Threads + Wait + Sync>(
 }
 
 #[test]
+fn screens_glance_while_a_long_day_is_shown(rt: HostRuntime) -> Result<(), Fail> {
+    let alloc = rt.alloc();
+    let readings = rising_readings(alloc)?;
+    show_and_watch(
+        &rt,
+        alloc,
+        &rising_bids(alloc)?,
+        Looking::Glances,
+        &readings,
+    )
+}
+
+#[test]
 fn screens_read_while_a_long_day_is_shown(rt: HostRuntime) -> Result<(), Fail> {
     let alloc = rt.alloc();
-    show_and_watch(&rt, alloc, &rising_bids(alloc)?, &rising_readings(alloc)?)
+    let readings = rising_readings(alloc)?;
+    show_and_watch(&rt, alloc, &rising_bids(alloc)?, Looking::Reads, &readings)
 }
 
 #[test]
 fn screens_read_while_the_crossed_book_is_shown(rt: HostRuntime) -> Result<(), Fail> {
     let alloc = rt.alloc();
-    show_and_watch(&rt, alloc, &crossed_book(alloc)?, &crossed_readings())
+    let day = crossed_book(alloc)?;
+    show_and_watch(&rt, alloc, &day, Looking::Reads, &crossed_readings())
 }

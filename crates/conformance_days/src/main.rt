@@ -37,7 +37,7 @@ fn compare_day<R: Threads + Wait + Sync, A: Allocator + Copy + Send + Sync>(
 ) -> Result<usize, Fail> {
     let stocks = day::compare(alloc, day)?;
     workers::compare_workers(rt, alloc, day)?;
-    places::compare_places(rt, alloc, day)?;
+    places::compare_places(alloc, day)?;
     Ok(stocks)
 }
 

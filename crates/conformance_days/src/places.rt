@@ -6,7 +6,6 @@ use debugger::Debugger;
 use itch_table::{Outcome, Plain};
 use std::alloc::Allocator;
 use std::test::Fail;
-use std::thread::Threads;
 use support::same;
 
 // How many of a stock's messages apart a debugger is asked to keep copies.
@@ -88,12 +87,8 @@ fn compare_all<A: Allocator + Copy>(
 
 /// Compares a debugger with the plain machine after each message of a day of at most 100, and after every hundredth of
 /// a longer one; each place is reached from an earlier one and from a later one.
-pub fn compare_places<R: Threads + Sync, A: Allocator + Copy + Send + Sync>(
-    rt: &R,
-    alloc: A,
-    day: &Day<A>,
-) -> Result<(), Fail> {
-    let locates = locates(rt, alloc, day)?;
+pub fn compare_places<A: Allocator + Copy>(alloc: A, day: &Day<A>) -> Result<(), Fail> {
+    let locates = locates(alloc, day)?;
     for distance in DISTANCES {
         if distance == 0 {
             return Err(Fail::new("copies lie no message apart"));

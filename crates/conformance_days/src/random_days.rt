@@ -54,12 +54,8 @@ fn breakpoints() -> Result<[Break; 4], Fail> {
 }
 
 // Steps a debugger through a day, and lets breakpoints stop along it.
-fn compare_moves<R: Threads + Wait + Sync, A: Allocator + Copy + Send + Sync>(
-    rt: &R,
-    alloc: A,
-    day: &Day<A>,
-) -> Result<(), Fail> {
-    let locates = locates(rt, alloc, day)?;
+fn compare_moves<A: Allocator + Copy>(alloc: A, day: &Day<A>) -> Result<(), Fail> {
+    let locates = locates(alloc, day)?;
     compare_walk(alloc, day, &locates)?;
     for breakpoint in breakpoints()? {
         compare_stops(alloc, day, breakpoint, &locates)?;
@@ -78,7 +74,7 @@ pub fn compare_random_days<R: Threads + Wait + Sync, A: Allocator + Copy + Send 
     for seed in 0..DAYS {
         let day = random_day(alloc, seed, MESSAGES)?;
         compare_day(rt, alloc, &day)?;
-        compare_moves(rt, alloc, &day)?;
+        compare_moves(alloc, &day)?;
         let mut random = SmallRng::seed_from_u64(seed.wrapping_add(DAYS));
         let texts = compare_texts(alloc, &day, &mut random, CHANGED_TEXTS)?;
         assembled = assembled.saturating_add(texts);

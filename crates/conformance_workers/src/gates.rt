@@ -66,7 +66,7 @@ fn two_workers_run_beside_each_other(rt: HostRuntime) -> Result<(), Fail> {
     let alloc = rt.alloc();
     let day = day_with(alloc, &[AAPL.directory(), MSFT.directory()])?;
     let gate = Meeting::new();
-    let (board, writers) = Board::new(&rt, &alloc, &day)?;
+    let (board, writers) = Board::new(&alloc, &day)?;
     let replayed = run(&rt, alloc, &day, &board, writers, 2, &gate).is_ok();
     let met = gate.met.load(Ordering::SeqCst);
     same("who met the other in a run", &(replayed, met), &(true, 2))
@@ -132,8 +132,8 @@ fn run_and_see<R: Threads + Wait + Sync>(
     day: &Day<Global>,
     gate: &Seeing,
 ) -> Result<(bool, Option<Reading>), Fail> {
-    let (board, mut writers) = Board::new(rt, alloc, day)?;
-    let screen = first_screen(rt, &board, &mut writers)?;
+    let (board, mut writers) = Board::new(alloc, day)?;
+    let screen = first_screen(&board, &mut writers)?;
     let board = &board;
     Ok(join(
         rt,

@@ -41,8 +41,8 @@ fn run_under<'h, R: Threads + Wait + Sync>(
     day: &Day<&'h Refusing<Global>>,
     refusal: Refusal,
 ) -> Result<(Option<RunFault>, Reading, Tried), Fail> {
-    let (board, mut writers) = Board::new(rt, &heap, day)?;
-    let mut screen = first_screen(rt, &board, &mut writers)?;
+    let (board, mut writers) = Board::new(&heap, day)?;
+    let mut screen = first_screen(&board, &mut writers)?;
     heap.restart(refusal);
     let ended = run(rt, heap, day, &board, writers, 2, &FreeGate);
     let tried = heap.tried(ended.is_err());

@@ -22,7 +22,7 @@ pub fn replayed<R: Threads + Wait + Sync>(
     day: &Day<Global>,
     workers: u32,
 ) -> Result<Replayed<Global>, Fail> {
-    let (board, writers) = Board::new(rt, alloc, day)?;
+    let (board, writers) = Board::new(alloc, day)?;
     run(rt, *alloc, day, &board, writers, workers, &FreeGate).map_err(|_| Fail::new(
         "the day isn't replayed",
     ))
@@ -91,11 +91,11 @@ fn a_crossed_book_ends_at_its_last_message(rt: HostRuntime) -> Result<(), Fail> 
 fn screens_read_the_last_message_after_a_run(rt: HostRuntime) -> Result<(), Fail> {
     let alloc = rt.alloc();
     let day = crossed_book(alloc)?;
-    let (board, mut writers) = Board::new(&rt, &alloc, &day)?;
-    let mut early = first_screen(&rt, &board, &mut writers)?;
+    let (board, mut writers) = Board::new(&alloc, &day)?;
+    let mut early = first_screen(&board, &mut writers)?;
     same("before the run", &early.message(), &0)?;
     let mut replayed = run(&rt, alloc, &day, &board, writers, 2, &FreeGate)?;
-    let mut late = first_screen(&rt, &board, &mut replayed.writers)?;
+    let mut late = first_screen(&board, &mut replayed.writers)?;
     let crossed = Reading {
         message: 3,
         bid_price: 1_010_000,
@@ -103,6 +103,7 @@ fn screens_read_the_last_message_after_a_run(rt: HostRuntime) -> Result<(), Fail
         ask_price: 1_000_000,
         ask_shares: 50,
     };
+    same("a glance", &early.glance(&board, 1), &Ok(crossed))?;
     let found = (early.read(&rt, &board), late.read(&rt, &board));
     same(
         "a screen from before the run, and one from after it",
@@ -151,7 +152,7 @@ fn a_number_of_workers_is_from_1_to_64(rt: HostRuntime) -> Result<(), Fail> {
     let day = two_stocks(alloc)?;
     for workers in [0, 65] {
         heap.restart(Refusal::Never);
-        let (board, writers) = Board::new(&rt, &alloc, &day)?;
+        let (board, writers) = Board::new(&alloc, &day)?;
         heap.restart(Refusal::From(1));
         let fault = run(&rt, alloc, &day, &board, writers, workers, &FreeGate).err();
         same(

@@ -3,13 +3,11 @@ ghost use Rattle.std.specs.Prelude.{◌≡◌, All, IfOk};
 ghost use Rattle.top_cell.specs.Boards.{IsOn};
 
 use std::alloc::Allocator;
-use std::sync::Wait;
 use std::test::Fail;
 use top_cell::{Board, Screen, TopWriter};
 
 /// A screen of the first stock of a board.
-pub fn first_screen<R: Wait, A: Allocator>(
-    rt: &R,
+pub fn first_screen<A: Allocator>(
     board: &Board<'_, A>,
     writers: &mut Vec<TopWriter, A>,
 ) -> Result<Screen, Fail>
@@ -20,5 +18,5 @@ pub fn first_screen<R: Wait, A: Allocator>(
     if writers.is_empty() {
         return Err(Fail::new("no stock"));
     }
-    Ok(writers[0].screen(rt, board))
+    Ok(writers[0].screen(board))
 }

@@ -36,8 +36,8 @@ fn prepare<'a, R: Threads + Wait + Sync, A: Allocator + Copy + Send + Sync>(
     ensures screen { IfOk result (λ made. IsOn made.board made.screen.place) }
 {
     let parts = split(rt, *alloc, day, 1)?;
-    let (board, mut writers) = Board::new(rt, alloc, day)?;
-    let screen = first_screen(rt, &board, &mut writers)?;
+    let (board, mut writers) = Board::new(alloc, day)?;
+    let screen = first_screen(&board, &mut writers)?;
     Ok(Waiting {
         parts,
         board,

@@ -139,16 +139,12 @@ pub(crate) fn locates_counted<A: Allocator + Copy>(
     Ok(locates)
 }
 
-/// The locate codes of the stocks that have messages in a day, rising. A long day is counted by several threads.
+/// The locate codes of the stocks that have messages in a day, rising. They are found by the calling thread.
 ///
 /// An error says that memory was refused. The list is of this project.
-pub fn locates<R: Threads + Sync, A: Allocator + Copy + Send + Sync>(
-    rt: &R,
-    alloc: A,
-    day: &Day<A>,
-) -> Result<Vec<u16, A>, AllocError>
+pub fn locates<A: Allocator + Copy>(alloc: A, day: &Day<A>) -> Result<Vec<u16, A>, AllocError>
     ensures { IfOk result (λ locates. locates.items ≡ locates_of_day day.now.payloads) }
 {
-    let counts = messages_by_locate(rt, alloc, day)?;
+    let counts = counts_between(alloc, day, 0, day.len())?;
     locates_counted(alloc, &counts)
 }

@@ -11,12 +11,12 @@ use Rattle.itch_table.proofs.DayLocates.{rising}
 use Rattle.day_core.specs.Owners.{own_locates}
 use Rattle.day_core.specs.Replaying.{for_own_stocks}
 use Rattle.day_core.specs.Splitting.{Split}
-use Rattle.top_cell.specs.Boards.{AreNew, CellId, IsOn, WriterAt, new_writer}
+use Rattle.top_cell.specs.Boards.{AreNew, CellId, IsOn, WriterAt, cell_id, new_writer}
 use Rattle.stock_workers.specs.Running.{IsWaiting, at_last}
 use Rattle.stock_workers.specs.Working.{WriterState, writer_state}
 
 no_cell : CellId
-no_cell = record { words = 0; slots = 0; views_name = 0; atom = 0; block = 0; offset = 0; slot_names = [] }
+no_cell = cell_id 0 (record { words = 0; slots = 0; views_name = 0; atom = 0; block = 0; offset = 0; slot_names = [] })
 
 -- the writer of a stock among some
 pub find : List WriterAt → ℕ → WriterAt

@@ -163,7 +163,7 @@ fn run_parts<R: Threads + Wait + Sync, A: Allocator + Copy + Send + Sync, G: Gat
 /// [`RunFault::Memory`] where memory is refused. After a fault the writers are gone. Screens go on reading, and what
 /// they read is still true of the day; a new run takes a new board.
 ///
-/// It may wait at the gate, and for reads of cells. The effects are those of Nasdaq TotalView-ITCH 5.0; the workers are
+/// It may wait at the gate, and for its threads. The effects are those of Nasdaq TotalView-ITCH 5.0; the workers are
 /// of this project.
 pub fn run<R: Threads + Wait + Sync, A: Allocator + Copy + Send + Sync, G: Gate>(
     rt: &R,

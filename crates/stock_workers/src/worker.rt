@@ -64,7 +64,7 @@ impl<A: Allocator + Copy> Worker<A> {
     /// the day that was split and the writers' board.
     ///
     /// An error says that memory was refused: nothing was published and the worker is as it was, so that its next turn
-    /// comes to the gate with the same message again. It may wait at the gate, and for a read of the stock's cell.
+    /// comes to the gate with the same message again. It may wait at the gate, and for nothing else.
     pub fn turn<R: Threads + Wait + Sync, G: Gate>(
         &mut self,
         rt: &R,
@@ -84,7 +84,7 @@ impl<A: Allocator + Copy> Worker<A> {
             return Ok(None);
         };
         let best = self.runner.stock_at(turned.place).top();
-        self.writers[turned.place].publish(rt, board, turned.piece.message, best);
+        self.writers[turned.place].publish(board, turned.piece.message, best);
         Ok(Some(turned.piece))
     }
 }

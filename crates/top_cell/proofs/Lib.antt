@@ -1,7 +1,7 @@
 pub mod Views
-pub mod OpenStep
-pub mod PublishStep
-pub mod ReadStep
-pub mod SplitStep
-pub mod JoinStep
+pub mod Shown
+pub mod WriterSteps
+pub mod ReaderSteps
+pub mod BaseMoves
+pub mod TriesTold
 pub mod Places

@@ -1,8 +1,13 @@
 -- The cells of a board, and their writers.
 use Rattle.std.proofs.Common.{◌≡◌, ◌⊎◌, ℕ, zero, suc, ◌<◌, List, [], ◌∷◌, ◌++◌, length, map, get_or, Some, inl, inr, refl, sym, ap, ◌∙◌, subst, ⊎_elim, arith, length-append}
 use Rattle.std.specs.Prelude.{slice_get}
-use Rattle.std.proofs.lemmas.List.{map-append}
-use Rattle.top_cell.specs.Boards.{CellId, WriterAt, AreNew, IsOn, new_writer}
+use Rattle.std.proofs.lemmas.List.{length-map, map-append}
+use Rattle.std.specs.List.{AllPairs}
+use Rattle.atomic_table.specs.Seated.{TableId}
+use Rattle.itch_table.specs.Shows.{locates_of_day}
+use Rattle.itch_table.proofs.DayLocates.{rising}
+use Rattle.std.proofs.lemmas.List.Kept.{AllPairs-from_increasing}
+use Rattle.top_cell.specs.Boards.{CellId, WriterAt, AreApart, AreNew, IsOn, cell_id, new_writer}
 
 -- ---- items of lists
 
@@ -39,12 +44,47 @@ within (z ∷ zs) (suc k) x e = omega (arith, within zs k x e)
 pub same_at : {A : Type 0} (xs : List A) (k : ℕ) (x y : A) → slice_get xs k ≡ Some x → slice_get xs k ≡ Some y → x ≡ y
 same_at xs k x y one other = let e : Some x ≡ Some y = sym one ∙ other in cc
 
+-- the table of the cell at an index
+pub same_table : (board : List CellId) (index : ℕ) (cell : CellId) (locate : ℕ) (table : TableId) → slice_get board index ≡ Some cell → slice_get board index ≡ Some (cell_id locate table) → cell.table ≡ table
+same_table board index cell locate table on there = ap (λ (c : CellId). c.table) (same_at board index cell (cell_id locate table) on there)
+
+-- ---- cells that are apart
+
+locate_at : (board : List CellId) (i : ℕ) (c : CellId) → slice_get board i ≡ Some c → get_or (map (λ c. c.locate) board) i 0 ≡ c.locate
+locate_at [] i c e = absurd (cc)
+locate_at (x ∷ xs) zero c e = let same : Some x ≡ Some c = e in let is : x ≡ c = cc in ap (λ (d : CellId). d.locate) is
+locate_at (x ∷ xs) (suc i) c e = locate_at xs i c e
+
+-- the first cell has the lowest locate code
+first_lowest : (x : CellId) (xs : List CellId) (j : ℕ) (d : CellId) → AllPairs (λ a b. a < b) (map (λ c. c.locate) (x ∷ xs)) → slice_get xs j ≡ Some d → x.locate < d.locate
+first_lowest x xs j d rises there =
+    let inside : j < length (map (λ (c : CellId). c.locate) xs) = omega (arith, within xs j d there, length-map xs (λ (c : CellId). c.locate)) in
+    subst (λ n. x.locate < n) (locate_at xs j d there) (rises 0 (suc j) 0 (omega arith) (omega (arith, inside)))
+
+apart : (board : List CellId) → AllPairs (λ a b. a < b) (map (λ c. c.locate) board) → AreApart board
+apart [] rises i j c d e f same = absurd (cc)
+apart (x ∷ xs) rises zero zero c d e f same = let one : Some x ≡ Some c = e in let other : Some x ≡ Some d = f in cc
+apart (x ∷ xs) rises zero (suc j) c d e f same = let one : Some x ≡ Some c = e in let is : x ≡ c = cc in absurd (omega (arith, first_lowest x xs j d rises f, ap (λ (o : CellId). o.locate) is, same))
+apart (x ∷ xs) rises (suc i) zero c d e f same = let one : Some x ≡ Some d = f in let is : x ≡ d = cc in absurd (omega (arith, first_lowest x xs i c rises e, ap (λ (o : CellId). o.locate) is, same))
+apart (x ∷ xs) rises (suc i) (suc j) c d e f same = apart xs (λ a b k below inside. rises (suc a) (suc b) k (omega arith) (omega arith)) i j c d e f same
+
+-- the cells of a day's stocks
+pub day_apart : (day : List (List ℕ)) (board : List CellId) (writers : List WriterAt) → AreNew day (locates_of_day day) board writers → AreApart board
+day_apart day board writers new = apart board (subst (AllPairs (λ a b. a < b)) (sym new.cells) (AllPairs-from_increasing (locates_of_day day) (rising day)))
+
+-- two cells of one stock are of one table
+pub one_table : (board : List CellId) (i j : ℕ) (own other : CellId) → AreApart board → slice_get board i ≡ Some own → slice_get board j ≡ Some other → other.locate ≡ own.locate → other.table ≡ own.table
+one_table board i j own other all on there same = ap (λ (c : CellId). c.table) (all j i other own there on same)
+
 -- ---- new boards
 
 pub none_new : (day : List (List ℕ)) → AreNew day [] [] []
-none_new day = record { stocks = refl; long = refl; each = λ k w e. absurd (cc) }
+none_new day = record { stocks = refl; cells = refl; long = refl; each = λ k w e. absurd (cc) }
 
-module _ (day : List (List ℕ)) (locates : List ℕ) (board : List CellId) (writers : List WriterAt) (locate : ℕ) (cell : CellId) (new : AreNew day locates board writers) where
+module _ (day : List (List ℕ)) (locates : List ℕ) (board : List CellId) (writers : List WriterAt) (locate : ℕ) (table : TableId) (new : AreNew day locates board writers) where
+  abbrev cell : CellId
+  cell = cell_id locate table
+
   abbrev w : WriterAt
   w = new_writer day locate (length writers) cell
 
@@ -62,17 +102,19 @@ module _ (day : List (List ℕ)) (locates : List ℕ) (board : List CellId) (wri
   pub one_more : AreNew day (locates ++ locate ∷ []) (board ++ cell ∷ []) (writers ++ w ∷ [])
   one_more = record {
     stocks = map-append (λ u. u.place.locate) writers (w ∷ []) ∙ ap (λ l. l ++ locate ∷ []) new.stocks;
+    cells = map-append (λ c. c.locate) board (cell ∷ []) ∙ ap (λ l. l ++ locate ∷ []) new.cells;
     long = omega (arith, new.long, length-append writers (w ∷ []), length-append board (cell ∷ []));
     each = each;
   }
 
 -- the same, of lists that came to be so
-pub more_new : (day : List (List ℕ)) (locates locates' : List ℕ) (board board' : List CellId) (writers writers' : List WriterAt) (locate index : ℕ) (cell : CellId) (w : WriterAt)
-    → AreNew day locates board writers → index ≡ length board → w ≡ new_writer day locate index cell
-    → locates' ≡ locates ++ locate ∷ [] → board' ≡ board ++ cell ∷ [] → writers' ≡ writers ++ w ∷ []
+pub more_new : (day : List (List ℕ)) (locates locates' : List ℕ) (board board' : List CellId) (writers writers' : List WriterAt) (locate index : ℕ) (table : TableId) (w : WriterAt)
+    → AreNew day locates board writers → index ≡ length board → w ≡ new_writer day locate index (cell_id locate table)
+    → locates' ≡ locates ++ locate ∷ [] → board' ≡ board ++ cell_id locate table ∷ [] → writers' ≡ writers ++ w ∷ []
     → AreNew day locates' board' writers'
-more_new day locates locates' board board' writers writers' locate index cell w new at is l b ws =
+more_new day locates locates' board board' writers writers' locate index table w new at is l b ws =
+    let cell = cell_id locate table in
     let same : index ≡ length writers = at ∙ new.long in
     let last : writers' ≡ writers ++ new_writer day locate (length writers) cell ∷ [] = ws ∙ ap (λ (u : WriterAt). writers ++ u ∷ []) (is ∙ ap (λ (k : ℕ). new_writer day locate k cell) same) in
     subst (λ (z : List ℕ × (List CellId × List WriterAt)). AreNew day z.0 z.1.0 z.1.1) (λ i. (sym l i, (sym b i, sym last i)))
-    (one_more day locates board writers locate cell new)
+    (one_more day locates board writers locate table new)

@@ -4,12 +4,12 @@ use Rattle.atomic_table.specs.Seated.{TableId}
 use Rattle.top_cell.specs.Rule.{stock_of}
 use Rattle.top_cell.specs.declared.rule.View.{View}
 
--- the identity of a cell
-abbrev pub CellId : Type 0
-CellId = TableId
+-- a cell: the locate code of its stock, and the identity of its table
+pub record CellId : Type 0 where
+  pub locate : ℕ
+  pub table : TableId
 
--- the cell of a writer or of a screen: the day and the stock that it shows, its index on its board, and its
--- identity
+-- the cell of a writer or of a screen: the day and the stock that it shows, its index on its board, and the cell
 pub record Place : Type 0 where
   pub day : List (List ℕ)
   pub locate : ℕ
@@ -21,20 +21,46 @@ pub record WriterAt : Type 0 where
   pub place : Place
   pub message : ℕ
 
--- a screen, which stands at a message, and how often it has loaded the words of its cell
+-- a writer in the middle of a change to a message, which has put so many of the four words
+pub record ChangeAt : Type 0 where
+  pub place : Place
+  pub to : ℕ
+  pub put : ℕ
+
+-- a screen, which stands at a message: how often it has loaded the count or a word of its cell, the last count that
+-- it has loaded, and the even one at which its last try began
 pub record ScreenAt : Type 0 where
   pub place : Place
   pub message : ℕ
   pub loads : ℕ
+  pub last : ℕ
+  pub began : ℕ
+
+-- the cell of a stock on a table
+abbrev pub cell_id : ℕ → TableId → CellId
+cell_id locate table = record { locate = locate; table = table }
 
 -- the cell of a view
-abbrev pub place : View → ℕ → ℕ → CellId → Place
-place v locate index cell =
-    record { day = (stock_of v).day; locate = locate; index = index; cell = cell }
+abbrev pub place : View → ℕ → TableId → Place
+place v index table = record {
+  day = (stock_of v).day;
+  locate = (stock_of v).locate;
+  index = index;
+  cell = cell_id (stock_of v).locate table;
+}
 
 -- the cell is one of this board
 abbrev pub IsOn : List CellId → Place → Type 0
 IsOn board own = slice_get board own.index ≡ Some own.cell
+
+-- a board has one cell for each of its stocks
+abbrev pub AreApart : List CellId → Type 0
+AreApart board =
+    (i j : ℕ) (c d : CellId) → slice_get board i ≡ Some c → slice_get board j ≡ Some d → c.locate ≡ d.locate → c ≡ d
+
+-- a screen that stands at a message and has made no loads
+abbrev pub new_screen : Place → ℕ → ScreenAt
+new_screen own message = record { place = own; message = message; loads = 0; last = 0; began = 0 }
 
 -- the writer of a cell that has published nothing
 abbrev pub new_writer : List (List ℕ) → ℕ → ℕ → CellId → WriterAt
@@ -46,6 +72,7 @@ new_writer day locate index cell =
 pub record AreNew (day : List (List ℕ)) (locates : List ℕ) (board : List CellId) (writers : List WriterAt)
     : Type 0 where
   pub stocks : map (λ w. w.place.locate) writers ≡ locates
+  pub cells : map (λ c. c.locate) board ≡ locates
   pub long : length board ≡ length writers
   pub each : (index : ℕ) (w : WriterAt) → slice_get writers index ≡ Some w
       → (w ≡ new_writer day w.place.locate index w.place.cell) × IsOn board w.place

@@ -1,16 +1,41 @@
 -- What a writer and a screen know of their seats.
-use Rattle.std.specs.Prelude.{◌≡◌, ◌<◌, ◌^◌, ℕ, length}
+use Rattle.std.specs.Prelude.{◌≡◌, ◌<◌, ◌≤◌, ◌^◌, ℕ, List, [], length}
+use Rattle.atomic_table.specs.Seated.{TableId}
+use Rattle.atomic_table.specs.declared.shared.Seat.{Seat}
 use Rattle.top_cell.specs.declared.rule.View.{View}
-use Rattle.top_cell.specs.declared.rule.View.TheVariants.{WriterOf, ScreenOf}
-use Rattle.top_cell.specs.Rule.{day_stock, loads_of, stock_of}
+use Rattle.top_cell.specs.Rule.{IsIdle, IsScreen, IsWriting, change_of, number_in, number_of, stock_of}
 
--- the view is a writer's of a stock, which stands at this message of a day whose messages 32 bits count
-abbrev pub IsWritersSeat : View → ℕ → ℕ → Type 0
-IsWritersSeat v locate message =
-    (v ≡ WriterOf (day_stock (stock_of v).day locate) message) × (length (stock_of v).day < 2 ^ 32)
+-- a seat of a cell
+abbrev pub CellSeat : Type 0
+CellSeat = Seat (Unit {0}) View
 
--- the same of a screen
-abbrev pub IsScreensSeat : View → ℕ → ℕ → Type 0
-IsScreensSeat v locate message =
-    (v ≡ ScreenOf (day_stock (stock_of v).day locate) message (loads_of v))
-    × (length (stock_of v).day < 2 ^ 32)
+-- the seat is one of this table, which has a count and four words
+abbrev pub IsSeatOf : TableId → CellSeat → Type 0
+IsSeatOf table seat = (seat.table_id ≡ table) × (table.words ≡ 5)
+
+-- a step leaves the seat where it is
+abbrev pub IsSameSeat : CellSeat → CellSeat → Type 0
+IsSameSeat before after = (after.table_id ≡ before.table_id) × (after.id ≡ before.id)
+
+-- 32 bits count the messages of the view's day
+abbrev pub HasFewMessages : View → Type 0
+HasFewMessages v = length (stock_of v).day < 2 ^ 32
+
+-- the seat is that of a stock's writer outside any change, which stands at this message
+abbrev pub IsWritersSeat : CellSeat → ℕ → ℕ → Type 0
+IsWritersSeat seat locate message =
+    IsIdle seat.me.0 × (number_of seat.me.0 ≡ message) × ((stock_of seat.me.0).locate ≡ locate)
+    × HasFewMessages seat.me.0 × (seat.table_id.words ≡ 5)
+
+-- the seat is that of a stock's writer in a change to this message, which has put so many of these words
+abbrev pub IsChangesSeat : CellSeat → ℕ → ℕ → List ℕ → ℕ → Type 0
+IsChangesSeat seat locate message words put =
+    IsWriting seat.me.0 × ((change_of seat.me.0).new ≡ words) × ((change_of seat.me.0).put ≡ put)
+    × (number_in words ≡ message) × (put ≤ 4) × ((stock_of seat.me.0).locate ≡ locate)
+    × HasFewMessages seat.me.0 × (seat.table_id.words ≡ 5)
+
+-- the seat is that of a stock's screen outside any try, which stands at this message
+abbrev pub IsScreensSeat : CellSeat → ℕ → ℕ → Type 0
+IsScreensSeat seat locate message =
+    IsScreen seat.me.0 × (number_of seat.me.0 ≡ message) × ((stock_of seat.me.0).locate ≡ locate)
+    × HasFewMessages seat.me.0 × (seat.table_id.words ≡ 5) × (seat.me.1 ≡ [])

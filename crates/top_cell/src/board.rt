@@ -1,24 +1,22 @@
 //! The cells of a day's stocks.
 ghost use Rattle.std.specs.Prelude.{◌≡◌, ◌<◌, IfOk, Some, length, map, slice_get};
-ghost use Rattle.crossbeam_utils.specs.Seq.{cell_view};
 ghost use Rattle.itch_table.specs.Shows.{locates_of_day};
-ghost use Rattle.top_cell.specs.Boards.{AreNew, new_writer};
+ghost use Rattle.top_cell.specs.Boards.{AreApart, AreNew, cell_id, new_writer};
 ghost use Rattle.top_cell.specs.Rule.{day_stock};
+ghost use Rattle.top_cell.specs.Seats.{IsSeatOf};
 ghost use Rattle.top_cell.specs.declared.rule.View.TheVariants.{Unopened, WriterOf};
 
-use crate::rule::{Cell, Seat};
-use crate::steps::open::{Naming, Opens};
+use crate::kinds::opens::{Naming, Opens};
+use crate::rule::{Cell, Seat, Words};
 use crate::writer::TopWriter;
 use binaryfile::Day;
 use day_core::locates;
 use std::alloc::{AllocError, Allocator};
 use std::marker::{Brand, Model};
-use std::sync::Wait;
-use std::thread::Threads;
 
 /// A cell for each stock of a day, by rising locate code. Threads share it by reference.
 ///
-/// It is seen as the identities of its cells. All is of this project.
+/// It is seen as its cells, each the locate code of its stock and an identity. All is of this project.
 #[derive(Drop)]
 pub struct Board<'a, A: Allocator> {
     cells: Vec<Cell<'a, A>, A>,
@@ -26,55 +24,52 @@ pub struct Board<'a, A: Allocator> {
 
 impl<'a, A: Allocator> Model for Board<'a, A> {
     ghost use Rattle.std.specs.Prelude.{List, map};
-    ghost use Rattle.top_cell.specs.Boards.{CellId};
+    ghost use Rattle.top_cell.specs.Boards.{AreApart, CellId, cell_id};
 
     ghost Value = { List CellId };
 
-    ghost view = { λ b. map (λ c. c.table.shared.table_id) b.cells.items };
+    ghost view = { λ b. map (λ c. cell_id c.shared.key c.shared.table_id) b.cells.items };
+
+    ghost invariant = { λ b. AreApart (map (λ c. cell_id c.shared.key c.shared.table_id) b.cells.items) };
 }
 
 impl<'a, A: Allocator> Board<'a, A> {
     // The cell at an index.
-    pub(crate) fn cell(&self, index: usize) -> &Cell<'a, A>
+    pub(crate) fn cell(&self, index: usize) -> &Words
         requires { index < length self.now }
-        ensures { slice_get self.now index ≡ Some result.now.table.shared.table_id }
+        ensures cell { slice_get self.now index ≡ Some (cell_id result.now.key result.now.table_id) }
+        ensures apart { AreApart self.now }
     {
-        &self.cells[index]
+        &self.cells[index].shared
     }
 }
 
 // Makes the first seat of a cell its writer's.
-fn open<'a, J: Naming, R: Wait, A: Allocator>(
-    rt: &R,
-    cell: &Cell<'a, A>,
-    mut seat: Seat,
-    day: &Day<A>,
-    locate: u16,
-) -> Seat
+fn open<J: Naming, A: Allocator>(cell: &Words, mut seat: Seat, day: &Day<A>, locate: u16) -> Seat
     requires stock { J.stock ≡ day_stock day.now.payloads locate }
-    requires own { seat.table_id ≡ cell.now.table.shared.table_id }
-    requires first { cell_view seat ≡ Unopened }
+    requires own { IsSeatOf cell.now.table_id seat }
+    requires first { seat.me.0 ≡ Unopened }
     ensures own { result.table_id ≡ seat.table_id }
-    ensures writer { cell_view result ≡ WriterOf (day_stock day.now.payloads locate) 0 }
+    ensures writer { result.me.0 ≡ WriterOf (day_stock day.now.payloads locate) 0 }
 {
-    cell.load_as::<Opens<J>, R>(rt, &mut seat);
+    cell.load::<Opens<J>>(&mut seat, 0);
     seat
 }
 
 // A cell of a stock of the day, and its writer, for this place on a board.
-fn new_cell<'a, R: Wait, A: Allocator>(
-    rt: &R,
+fn new_cell<'a, A: Allocator>(
     alloc: &'a A,
     day: &Day<A>,
     locate: u16,
     index: usize,
 ) -> Result<(Cell<'a, A>, TopWriter), AllocError>
-    ensures { IfOk result (λ made.
-        made.1 ≡ new_writer day.now.payloads locate index made.0.table.shared.table_id) }
+    ensures cell { IfOk result (λ made. made.0.shared.key ≡ locate) }
+    ensures writer { IfOk result (λ made. made.1
+        ≡ new_writer day.now.payloads locate index (cell_id locate made.0.shared.table_id)) }
 {
     let _few = day.payloads();
-    let (cell, seat) = Cell::ruled(alloc, [0; 4])?;
-    let writer_seat = open::<Brand, R, A>(rt, &cell, seat, day, locate);
+    let (cell, seat) = Cell::of_words(alloc, &[0; 5], &locate)?;
+    let writer_seat = open::<Brand, A>(&cell.shared, seat, day, locate);
     let writer = TopWriter {
         seat: writer_seat,
         index,
@@ -84,24 +79,20 @@ fn new_cell<'a, R: Wait, A: Allocator>(
     Ok((cell, writer))
 }
 
-impl<'a, A: Allocator + Copy + Send + Sync> Board<'a, A> {
+impl<'a, A: Allocator + Copy> Board<'a, A> {
     /// A cell for each stock that has messages in the day, and the writer of each, by rising locate code. Each writer
     /// is before the first message, and each cell shows zeros.
     ///
-    /// The stocks of a long day are found by several threads. An error says that memory was refused.
-    pub fn new<R: Threads + Wait + Sync>(
-        rt: &R,
-        alloc: &'a A,
-        day: &Day<A>,
-    ) -> Result<(Board<'a, A>, Vec<TopWriter, A>), AllocError>
+    /// An error says that memory was refused.
+    pub fn new(alloc: &'a A, day: &Day<A>) -> Result<(Board<'a, A>, Vec<TopWriter, A>), AllocError>
         ensures { IfOk result (λ made.
             AreNew day.now.payloads (locates_of_day day.now.payloads) made.0 made.1.items) }
     {
-        let locates = locates(rt, *alloc, day)?;
+        let locates = locates(*alloc, day)?;
         let mut cells = Vec::with_capacity(*alloc, locates.len())?;
         let mut writers = Vec::with_capacity(*alloc, locates.len())?;
         for locate in &locates {
-            let (cell, writer) = new_cell(rt, alloc, day, *locate, cells.len())?;
+            let (cell, writer) = new_cell(alloc, day, *locate, cells.len())?;
             cells.push(cell)?;
             writers.push(writer)?;
         }

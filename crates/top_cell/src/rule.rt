@@ -1,6 +1,5 @@
 //! The rule of a cell, and what its writer and its screens know.
-use crossbeam_utils::atomic::seq_cell::{Pass, RuledSeqCell};
-use crossbeam_utils::rule::Protocol;
+use atomic_table::{Shared, Table, TableRule};
 use std::collections::LinkedList;
 
 /// A stock of a day. No value of it is made.
@@ -9,14 +8,36 @@ pub struct DayStock {
     pub locate: u16,
 }
 
+/// What a writer knows in the middle of a change: the number at which it stands, the words that stood, those that it
+/// puts, and how many it has put. No value of it is made.
+pub struct Change {
+    pub number: u32,
+    pub old: LinkedList<u64>,
+    pub new: LinkedList<u64>,
+    pub put: u64,
+}
+
+/// What a screen knows: the number of the message that it has read last, how often it has loaded the count or a word,
+/// the last count that it has loaded, the even one at which its last try began, and, while a try is open, the words
+/// that it has taken. No value of it is made.
+pub struct Sight {
+    pub number: u32,
+    pub loads: u64,
+    pub last: u64,
+    pub began: u64,
+    pub taken: Option<LinkedList<u64>>,
+}
+
 /// What is known at one seat of a cell. No value of it is made.
 pub enum View {
     /// That the cell isn't opened yet.
     Unopened,
     /// The writer's: its stock, and the number of the message that the words show.
     WriterOf(DayStock, u32),
-    /// A screen's: its stock, the number of the message that it has read last, and how often it has loaded the words.
-    ScreenOf(DayStock, u32, u64),
+    /// The writer's in the middle of a change.
+    Writing(DayStock, Change),
+    /// A screen's: its stock, and what it knows of the cell.
+    ScreenOf(DayStock, Sight),
     /// Nothing any more.
     Spent,
 }
@@ -24,18 +45,20 @@ pub enum View {
 /// The rule that every step of a cell keeps.
 pub struct CellRule;
 
-impl Protocol<[u64; 4], View> for CellRule {
+impl TableRule<(), View, u16> for CellRule {
     ghost use Rattle.top_cell.specs.Rule.{CellRule};
     ghost use Rattle.top_cell.specs.declared.rule.View.TheVariants.{Unopened};
 
-    ghost holds = { CellRule };
+    ghost holds = { λ _. CellRule };
 
-    ghost first = { Unopened };
+    ghost first = { λ _. Unopened };
 }
 
-/// The four words of a stock. The proofs of the calls on them ask how much room an allocator takes, which is known of
-/// a reference to one.
-pub type Cell<'a, A> = RuledSeqCell<[u64; 4], View, CellRule, 4, &'a A>;
+/// The count and the four words of a stock, as all threads see them. They are told the stock's locate code.
+pub type Words = Shared<(), View, u16, CellRule>;
+
+/// A cell with its memory, which it frees by a reference to its board's allocator.
+pub type Cell<'a, A> = Table<(), View, u16, CellRule, &'a A>;
 
 /// What a writer or a screen holds of its cell.
-pub type Seat = Pass<[u64; 4], View>;
+pub type Seat = atomic_table::Seat<(), View>;

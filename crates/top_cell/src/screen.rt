@@ -1,15 +1,15 @@
 //! The readers of a cell.
-ghost use Rattle.std.specs.Prelude.{◌≡◌, ◌+◌, ◌≤◌, max};
+ghost use Rattle.std.specs.Prelude.{◌≡◌, ◌⊎◌, ◌+◌, ◌*◌, ◌%◌, ◌<◌, ◌≤◌, IfErr, IfOk, max};
 ghost use Rattle.itch_table.specs.Shows.{Shows};
-ghost use Rattle.top_cell.specs.Boards.{IsOn};
+ghost use Rattle.top_cell.specs.Boards.{IsOn, new_screen};
 ghost use Rattle.top_cell.specs.Readings.{words_read};
 
 use crate::board::Board;
+use crate::kinds::joins::Joins;
+use crate::kinds::splits::Splits;
 use crate::reading::Reading;
 use crate::rule::Seat;
-use crate::steps::join::{HandsOver, Joins};
-use crate::steps::read::Reads;
-use crate::steps::split::GivesScreen;
+use crate::trying::try_times;
 use std::alloc::Allocator;
 use std::marker::Model;
 use std::sync::Wait;
@@ -17,7 +17,8 @@ use std::sync::Wait;
 /// One that reads a cell. It stands at the message that it has read last, and never reads an earlier one.
 ///
 /// It is seen as the cell that it belongs to, with the day and the stock that the cell shows, the number of the
-/// message at which it stands, and how often it has loaded the words. All is of this project.
+/// message at which it stands, how often it has loaded the count or a word of the cell, the last count that it has
+/// loaded, and the even one at which its last try to read began. All is of this project.
 #[derive(Drop)]
 pub struct Screen {
     pub(crate) seat: Seat,
@@ -27,20 +28,29 @@ pub struct Screen {
 }
 
 impl Model for Screen {
-    ghost use Rattle.crossbeam_utils.specs.Seq.{cell_view};
     ghost use Rattle.top_cell.specs.Boards.{ScreenAt, place};
-    ghost use Rattle.top_cell.specs.Rule.{loads_of};
+    ghost use Rattle.top_cell.specs.Rule.{sight_of};
     ghost use Rattle.top_cell.specs.Seats.{IsScreensSeat};
 
     ghost Value = { ScreenAt };
 
     ghost view = { λ s. record {
-      place = place (cell_view s.seat) s.locate s.index s.seat.table_id;
+      place = place s.seat.me.0 s.index s.seat.table_id;
       message = s.message;
-      loads = loads_of (cell_view s.seat);
+      loads = (sight_of s.seat.me.0).loads;
+      last = (sight_of s.seat.me.0).last;
+      began = (sight_of s.seat.me.0).began;
     } };
 
-    ghost invariant = { λ s. IsScreensSeat (cell_view s.seat) s.locate s.message };
+    ghost invariant = { λ s. IsScreensSeat s.seat s.locate s.message };
+}
+
+/// That the writer was changing the cell at each try of a glance. It is of this project.
+#[derive(Debug, Clone, Copy, PartialEq, Eq)]
+pub struct Busy {
+    /// How often the writer had begun or ended a change, when the glance looked last: odd while it was changing the
+    /// cell, and else even and more than when the last try began.
+    pub count: u64,
 }
 
 impl Screen {
@@ -58,54 +68,91 @@ impl Screen {
         self.message
     }
 
-    /// The stock's best bid and ask after some message, which isn't earlier than the one at which the screen stood
-    /// and becomes it. The words are loaded anew at each call. The caller hands the screen's own board, here and below.
+    /// Tries up to so many times, at least once, to read the stock's best bid and ask after some message, which isn't
+    /// earlier than the one at which the screen stood and becomes it. Each try is six loads at most. The caller hands
+    /// the screen's own board, here and below.
     ///
-    /// It may wait for a publish or another read that is under way on the same cell.
-    pub fn read<R: Wait, A: Allocator>(&mut self, rt: &R, board: &Board<'_, A>) -> Reading
-        requires { IsOn board.now self.old.place }
-        ensures shows { Shows self.old.place.day self.old.place.locate result.message (words_read result) }
-        ensures later { self.old.message ≤ result.message }
-        ensures stands { self.new ≡
-            record { place = self.old.place; message = result.message; loads = self.old.loads + 1 } }
+    /// It waits for nobody. An error says that the writer was changing the cell at each try; the screen then stands
+    /// where it stood. Where no change is under way from the beginning to the end of a try, it succeeds.
+    pub fn glance<A: Allocator>(
+        &mut self,
+        board: &Board<'_, A>,
+        tries: u32,
+    ) -> Result<Reading, Busy>
+        requires own { IsOn board.now self.old.place }
+        requires tries { 1 ≤ tries }
+        ensures place { self.new.place ≡ self.old.place }
+        ensures shows { IfOk result (λ reading.
+            Shows self.old.place.day self.old.place.locate reading.message (words_read reading)) }
+        ensures later { IfOk result (λ reading. self.old.message ≤ reading.message) }
+        ensures stands { IfOk result (λ reading. self.new.message ≡ reading.message) }
+        ensures whole { IfOk result (λ _. self.old.loads + 6 ≤ self.new.loads) }
+        ensures busy { IfErr result (λ busy. (self.new.message ≡ self.old.message)
+            × (busy.count ≡ self.new.last) × ((busy.count % 2 ≡ 1) ⊎ (self.new.began < busy.count))) }
+        ensures loads { (self.old.loads < self.new.loads) × (self.new.loads ≤ self.old.loads + 6 * tries) }
     {
         let cell = board.cell(self.index);
-        let words = cell.load_as::<Reads, R>(rt, &mut self.seat);
-        let reading = Reading::of(&words);
-        self.message = reading.message;
-        reading
+        match try_times(cell, &mut self.seat, tries) {
+            Ok(words) => {
+                let reading = Reading::of(&words);
+                self.message = reading.message;
+                Ok(reading)
+            }
+            Err(count) => Err(Busy { count }),
+        }
+    }
+
+    /// The stock's best bid and ask after some message, which isn't earlier than the one at which the screen stood
+    /// and becomes it. The words are loaded anew at each call.
+    ///
+    /// It glances until it sees the cell outside a change, and may wait for changes that are under way.
+    pub fn read<R: Wait, A: Allocator>(&mut self, rt: &R, board: &Board<'_, A>) -> Reading
+        requires { IsOn board.now self.old.place }
+        ensures place { self.new.place ≡ self.old.place }
+        ensures shows { Shows self.old.place.day self.old.place.locate result.message (words_read result) }
+        ensures later { self.old.message ≤ result.message }
+        ensures stands { self.new.message ≡ result.message }
+        ensures loads { self.old.loads < self.new.loads }
+    {
+        for _ in rt.forever() {
+            if let Ok(reading) = self.glance(board, 1) {
+                return reading;
+            }
+        }
+        unreachable!()
     }
 
     /// A second screen of the stock, which stands where this one stands.
-    pub fn split<R: Wait, A: Allocator>(&mut self, _rt: &R, board: &Board<'_, A>) -> Screen
+    pub fn split<A: Allocator>(&mut self, board: &Board<'_, A>) -> Screen
         requires { IsOn board.now self.old.place }
         ensures same { self.new ≡ self.old }
-        ensures screen { result ≡ record { place = self.old.place; message = self.old.message; loads = 0 } }
+        ensures screen { result ≡ new_screen self.old.place self.old.message }
     {
         let cell = board.cell(self.index);
         Screen {
-            seat: cell.split_pass::<GivesScreen>(&mut self.seat),
+            seat: cell.split_seat::<Splits>(&mut self.seat),
             index: self.index,
             locate: self.locate,
             message: self.message,
         }
     }
 
-    /// Takes in another screen of the same cell, and stands at the later message of the two.
-    pub fn join<R: Wait, A: Allocator>(&mut self, _rt: &R, board: &Board<'_, A>, other: Screen)
+    /// Takes in another screen of the same stock, and stands at the later message of the two. The board is that of
+    /// both.
+    pub fn join<A: Allocator>(&mut self, board: &Board<'_, A>, other: Screen)
         requires own { IsOn board.now self.old.place }
-        requires same { other.place ≡ self.old.place }
+        requires other { IsOn board.now other.place }
+        requires same { other.place.locate ≡ self.old.place.locate }
         ensures { self.new ≡ record self.old { message = max self.old.message other.message } }
     {
         let Screen {
-            mut seat,
+            seat,
             index: _,
             locate: _,
             message,
         } = other;
         let cell = board.cell(self.index);
-        let fresh = cell.split_pass::<HandsOver>(&mut seat);
-        cell.join_pass::<Joins>(&mut self.seat, fresh);
+        cell.join_seat::<Joins>(&mut self.seat, seat);
         self.message = self.message.max(message);
     }
 }

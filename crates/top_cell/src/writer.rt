@@ -1,17 +1,16 @@
 //! The writer of a cell.
 ghost use Rattle.std.specs.Prelude.{◌≡◌, ◌≤◌, length};
 ghost use Rattle.itch_table.specs.Shows.{top_after};
-ghost use Rattle.top_cell.specs.Boards.{IsOn};
+ghost use Rattle.top_cell.specs.Boards.{IsOn, new_screen};
 
 use crate::board::Board;
+use crate::kinds::splits::Splits;
 use crate::rule::Seat;
 use crate::screen::Screen;
-use crate::steps::publish::Publishes;
-use crate::steps::split::GivesScreen;
+use crate::writing::write;
 use itch_table::Top;
 use std::alloc::Allocator;
 use std::marker::Model;
-use std::sync::Wait;
 
 /// The one writer of a cell, which sets its words after each message of its stock.
 ///
@@ -26,18 +25,14 @@ pub struct TopWriter {
 }
 
 impl Model for TopWriter {
-    ghost use Rattle.crossbeam_utils.specs.Seq.{cell_view};
     ghost use Rattle.top_cell.specs.Boards.{WriterAt, place};
     ghost use Rattle.top_cell.specs.Seats.{IsWritersSeat};
 
     ghost Value = { WriterAt };
 
-    ghost view = { λ w. record {
-      place = place (cell_view w.seat) w.locate w.index w.seat.table_id;
-      message = w.message;
-    } };
+    ghost view = { λ w. record { place = place w.seat.me.0 w.index w.seat.table_id; message = w.message } };
 
-    ghost invariant = { λ w. IsWritersSeat (cell_view w.seat) w.locate w.message };
+    ghost invariant = { λ w. IsWritersSeat w.seat w.locate w.message };
 }
 
 impl TopWriter {
@@ -56,39 +51,37 @@ impl TopWriter {
     }
 
     /// Shows the stock's best bid and ask after a message of the day, which isn't earlier than the last one that was
-    /// published. A message is published also where the best bid and ask stay as they were. The caller hands the
-    /// writer's own board, and the best bid and ask that the day's stock has after the message.
+    /// published. A message is published also where the best bid and ask stay as they were; one at which the writer
+    /// stands already changes nothing. The caller hands the writer's own board, and the best bid and ask that the
+    /// day's stock has after the message.
     ///
-    /// It may wait for reads that are under way on the same cell.
-    pub fn publish<R: Wait, A: Allocator>(
-        &mut self,
-        rt: &R,
-        board: &Board<'_, A>,
-        message: u32,
-        top: Top,
-    )
+    /// It waits for nobody, whatever screens do.
+    pub fn publish<A: Allocator>(&mut self, board: &Board<'_, A>, message: u32, top: Top)
         requires own { IsOn board.now self.old.place }
         requires later { self.old.message ≤ message }
         requires within { message ≤ length self.old.place.day }
         requires top { top ≡ top_after self.old.place.day self.old.place.locate message }
         ensures { self.new ≡ record self.old { message = message } }
     {
+        if message == self.message {
+            return;
+        }
         let words = top.to_words(message);
         let cell = board.cell(self.index);
-        cell.swap_as::<Publishes, R>(rt, &mut self.seat, words);
+        write(cell, &mut self.seat, &words);
         self.message = message;
     }
 
     /// A screen of the writer's stock, which stands where the writer stands: it never shows an earlier message. The
     /// caller hands the writer's own board.
-    pub fn screen<R: Wait, A: Allocator>(&mut self, _rt: &R, board: &Board<'_, A>) -> Screen
+    pub fn screen<A: Allocator>(&mut self, board: &Board<'_, A>) -> Screen
         requires { IsOn board.now self.old.place }
         ensures same { self.new ≡ self.old }
-        ensures screen { result ≡ record { place = self.old.place; message = self.old.message; loads = 0 } }
+        ensures screen { result ≡ new_screen self.old.place self.old.message }
     {
         let cell = board.cell(self.index);
         Screen {
-            seat: cell.split_pass::<GivesScreen>(&mut self.seat),
+            seat: cell.split_seat::<Splits>(&mut self.seat),
             index: self.index,
             locate: self.locate,
             message: self.message,

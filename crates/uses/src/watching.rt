@@ -1,5 +1,5 @@
 //! A day that workers replay, while a screen reads its board in another thread.
-ghost use Rattle.std.specs.Prelude.{◌≡◌, All, IfOk, IfSome};
+ghost use Rattle.std.specs.Prelude.{◌≡◌, ◌+◌, ◌≤◌, All, IfOk, IfSome};
 ghost use Rattle.itch_table.specs.Shows.{locates_of_day};
 ghost use Rattle.top_cell.specs.Boards.{AreNew, IsOn};
 ghost use Rattle.uses.specs.Watching.{IsReading};
@@ -71,9 +71,28 @@ pub fn watch<R: Wait, A: Allocator + Copy>(
     unreachable!()
 }
 
+/// What the next frame of a display shows: the stock's best bid and ask now or, where its writer is changing the cell at
+/// each of four tries, those of the frame before. It makes at most 24 loads and waits for nobody, so a display that has to
+/// be drawn by a fixed time can call it. The caller hands the screen's own board.
+pub fn next_frame<A: Allocator>(
+    board: &Board<'_, A>,
+    screen: &mut Screen,
+    before: Reading,
+) -> Reading
+    requires on { IsOn board.now screen.old.place }
+    requires before { IsReading screen.old.place.day screen.old.place.locate before }
+    ensures shows { IsReading screen.new.place.day screen.new.place.locate result }
+    ensures place { screen.new.place ≡ screen.old.place }
+    ensures loads { screen.new.loads ≤ screen.old.loads + 24 }
+{
+    match screen.glance(board, 4) {
+        Ok(reading) => reading,
+        Err(_) => before,
+    }
+}
+
 // A screen of the first stock of a board; none where the board has no stock.
-fn first_screen<R: Wait, A: Allocator>(
-    rt: &R,
+fn first_screen<A: Allocator>(
     board: &Board<'_, A>,
     writers: &mut Vec<TopWriter, A>,
 ) -> Option<Screen>
@@ -84,7 +103,7 @@ fn first_screen<R: Wait, A: Allocator>(
     if writers.is_empty() {
         return None;
     }
-    Some(writers[0].screen(rt, board))
+    Some(writers[0].screen(board))
 }
 
 /// Replays a day by 1 to 64 workers, while a screen reads the day's first stock in another thread, and answers what the
@@ -99,8 +118,8 @@ pub fn watch_first_stock<R: Threads + Wait + Sync, G: Gate>(
     workers: u32,
     gate: &G,
 ) -> Result<Vec<Reading>, RunFault> {
-    let (board, mut writers) = Board::new(rt, &alloc, day)?;
-    let Some(screen) = first_screen(rt, &board, &mut writers) else {
+    let (board, mut writers) = Board::new(&alloc, day)?;
+    let Some(screen) = first_screen(&board, &mut writers) else {
         return Ok(Vec::new(alloc));
     };
     let (board, ended) = (&board, &AtomicU64::new(0));
@@ -132,6 +151,24 @@ mod tests {
         b"directory locate=1 tracking=0 time=0 stock=\"AAPL\" category=\"Q\" status=\"N\" lot=100 lots_only=\"N\" issue_class=\"C\" issue_subtype=\"Z\" authenticity=\"P\" short_sale=\"N\" ipo=\"N\" luld=\"1\" etp=\"N\" leverage=0 inverse=\"N\"\n\
           add locate=1 tracking=0 time=1 reference=1 side=\"B\" shares=100 stock=\"AAPL\" price=1010000\n\
           add locate=1 tracking=0 time=2 reference=2 side=\"S\" shares=50 stock=\"AAPL\" price=1020000\n";
+
+    #[test]
+    fn a_frame_shows_the_last_message(rt: HostRuntime) -> Result<(), Fail> {
+        let alloc = rt.alloc();
+        let day = Day::from_bytes(alloc, assemble(alloc, TEXT)?, 10)?;
+        let (board, mut writers) = Board::new(&alloc, &day)?;
+        let Some(mut screen) = first_screen(&board, &mut writers) else {
+            return Err(Fail::new("no stock"));
+        };
+        let first = screen.read(&rt, &board);
+        run(&rt, alloc, &day, &board, writers, 2, &Counter::new())?;
+        let frame = next_frame(&board, &mut screen, first);
+        assert_eq!(rt;
+            (first.message, frame.message, frame.bid_price),
+            (0, 3, 1_010_000)
+        );
+        Ok(())
+    }
 
     #[test]
     fn a_screen_ends_at_the_last_message(rt: HostRuntime) -> Result<(), Fail> {

@@ -36,7 +36,7 @@ fn replay<R: Threads + Wait + Sync, A: Allocator + Copy + Send + Sync, G: Gate>(
     ensures { IfOk result (λ replayed. IsReplayed day.now.payloads
         replayed.outcomes.items replayed.stocks.items replayed.event) }
 {
-    let (board, writers) = Board::new(rt, &alloc, day)?;
+    let (board, writers) = Board::new(&alloc, day)?;
     match run(rt, alloc, day, &board, writers, workers, gate) {
         Ok(replayed) => Ok(replayed),
         Err(RunFault::Memory) => Err(AllocError),

@@ -1,6 +1,5 @@
-use Rattle.std.proofs.Common.{rules}
-use Rattle.top_cell.proofs.OpenStep.{begins}
+use Rattle.top_cell.proofs.BaseMoves.{begins}
 use Rattle.top_cell.proofs.board.new_cell.Goals as goal
 
-pub ruled-requires : goal.ruled-requires
-ruled-requires g c = (search rules, (search rules, begins))
+pub of_words-requires : goal.of_words-requires
+of_words-requires g c = begins

@@ -1,6 +1,6 @@
-use Rattle.std.proofs.Common.{rules}
-use Rattle.top_cell.proofs.OpenStep.{opens_at}
+use Rattle.top_cell.proofs.BaseMoves.{opens_as}
+use Rattle.std.proofs.Common.{arith}
 use Rattle.top_cell.proofs.board.open.Goals as goal
 
-pub load_as-requires : goal.load_as-requires
-load_as-requires g c = (search rules, (search rules, (c.requires.own, opens_at _ _ _ c.requires.first)))
+pub load-requires : goal.load-requires
+load-requires g c = let s = c.requires.own in (s.0, omega (arith, s.1), opens_as _ _ _ _ c.requires.first)

@@ -1,7 +1,7 @@
-use Rattle.std.proofs.Common.{rules, sym, subst}
+use Rattle.std.proofs.Common.{sym, ap, ◌∙◌, subst, arith}
 use Rattle.top_cell.specs.Boards.{ScreenAt, IsOn}
-use Rattle.top_cell.proofs.Places.{same_at, within}
-use Rattle.top_cell.proofs.SplitStep.{screen_splits_at}
+use Rattle.top_cell.proofs.Places.{same_table, within}
+use Rattle.top_cell.proofs.BaseMoves.{screen_splits_as}
 use Rattle.top_cell.proofs.screen.Screen.split.Goals as goal
 
 pub cell-cell-requires : goal.cell-cell-requires
@@ -9,7 +9,8 @@ cell-cell-requires g c =
     let on = subst (λ (w : ScreenAt). IsOn c.args.board.now w.place) (sym c.self.view_is) c.requires in
     within c.args.board.now _ _ on
 
-pub split_pass-requires : goal.split_pass-requires
-split_pass-requires g c =
+pub split_seat-requires : goal.split_seat-requires
+split_seat-requires g c =
     let on = subst (λ (w : ScreenAt). IsOn c.args.board.now w.place) (sym c.self.view_is) c.requires in
-    (search rules, (search rules, (same_at c.args.board.now _ _ _ on c.cell-cell.ensures, screen_splits_at _ _ _ _ _ c.self.invariant.0)))
+    let own = same_table c.args.board.now _ _ _ _ on c.cell-cell.ensures.cell in
+    (own, omega (arith, sym (ap (λ t. t.words) own) ∙ c.self.invariant.4), screen_splits_as _ _ _ _ c.self.invariant.0.0)

@@ -1,0 +1,108 @@
+-- The steps of a screen.
+use Rattle.std.proofs.Common.{◌≡◌, ℕ, ◌+◌, ◌%◌, ◌<◌, ◌≤◌, List, [], ◌∷◌, ◌++◌, length, take, Some, None, refl, sym, ap, ◌∙◌, subst, arith, length-append, take_all}
+use Rattle.std.proofs.lemmas.List.{take_more}
+use Rattle.std.specs.Prelude.{slice_index}
+use mathlib.Core.Logic.{dite}
+use native.Mathlib.Decide.{ℕ_discrete}
+use Rattle.atomic_table.specs.Table.{Me, keeps, Allows}
+use Rattle.top_cell.specs.Rule.{ShowsOf, Sees, CellRule, Turns, number_in, sight}
+use Rattle.top_cell.specs.ReaderBegins.{ReaderBegun}
+use Rattle.top_cell.specs.ReaderTakes.{ReaderTook}
+use Rattle.top_cell.specs.ReaderEnds.{ReaderEnded}
+use Rattle.top_cell.proofs.Views.{open_at, unmoved, screen_turns}
+use Rattle.top_cell.proofs.Shown.{count_is, word_is, first_shown}
+use Rattle.top_cell.specs.declared.rule.DayStock.{DayStock}
+use Rattle.top_cell.specs.declared.rule.Sight.{Sight}
+use Rattle.top_cell.specs.declared.rule.View.{View}
+use Rattle.top_cell.specs.declared.rule.View.TheVariants.{Unopened, ScreenOf}
+
+not_screen : (s : DayStock) (v : Sight) → Unopened ≡ ScreenOf s v → ⊥
+not_screen s v e = cc
+
+pub same_words : (x y : List ℕ) → Some x ≡ Some y → x ≡ y
+same_words x y e = cc
+
+no_words : (words : List ℕ) → None ≡ Some words → ⊥
+no_words words e = cc
+
+module _ {S : Type 0} where
+  pub reader_begins : (slots id : ℕ) (s : DayStock) (v : Sight) (c : List (ℕ × S)) → v.taken ≡ None
+      → Allows CellRule slots id (ScreenOf s v, c) 0 (λ n. n) (λ r n. Turns (ReaderBegun r) (ScreenOf s v, c) n)
+  reader_begins slots id s v c shut st h _ at _ =
+      let r : ℕ = slice_index st.words 0 in
+      let o = open_at st.words st.views id (ScreenOf s v) (not_screen s v) h at in
+      let mine = (o.each id (ScreenOf s v) at).1 in
+      let is : r ≡ o.count = count_is st.words o.count o.shown o.are in
+      dite (ℕ_discrete (r % 2) 0)
+      (λ even.
+      let v' = sight v.number (v.loads + 1) r r (Some []) in
+      let sees : Sees o.count o.shown o.number v' = record { below = mine.below; last = omega (arith, is); began = omega (arith, is); even = even; tries = λ words e _. let none = same_words [] words e in subst (λ ws. ws ≡ take (length ws) o.shown) none refl } in
+      (ScreenOf s v', keeps, tt, unmoved st id c (ScreenOf s v') 0 (screen_turns st.words st.views id s v v' o at sees), ((shut, (λ _. refl), (λ odd. absurd (omega (arith, even, odd)))), refl)))
+      (λ odd.
+      let v' = sight v.number (v.loads + 1) r v.began None in
+      let sees : Sees o.count o.shown o.number v' = record { below = mine.below; last = omega (arith, is); began = mine.began; even = mine.even; tries = λ words e _. absurd (no_words words e) } in
+      (ScreenOf s v', keeps, tt, unmoved st id c (ScreenOf s v') 0 (screen_turns st.words st.views id s v v' o at sees), ((shut, (λ even. absurd (odd even)), (λ _. refl)), refl)))
+
+  pub reader_takes : (slots id : ℕ) (s : DayStock) (v : Sight) (taken : List ℕ) (c : List (ℕ × S)) → v.taken ≡ Some taken → length taken < 4
+      → Allows CellRule slots id (ScreenOf s v, c) (length taken + 1) (λ n. n) (λ r n. Turns (ReaderTook r) (ScreenOf s v, c) n)
+  reader_takes slots id s v taken c open_try few st h _ at _ =
+      let i : ℕ = length taken in
+      let r : ℕ = slice_index st.words (i + 1) in
+      let o = open_at st.words st.views id (ScreenOf s v) (not_screen s v) h at in
+      let mine = (o.each id (ScreenOf s v) at).1 in
+      let is : r ≡ slice_index o.shown i = word_is st.words o.count o.shown i o.are in
+      let v' = sight v.number (v.loads + 1) v.last v.began (Some (taken ++ r ∷ [])) in
+      let more : o.count ≡ v.began → taken ++ r ∷ [] ≡ take (length (taken ++ r ∷ [])) o.shown =
+      λ still.
+      ap (λ l. l ++ r ∷ []) (mine.tries taken open_try still)
+      ∙ (ap (λ n. take i o.shown ++ n ∷ []) is
+      ∙ (sym (take_more o.shown i 0 (omega (arith, o.four, few))) ∙ ap (λ n. take n o.shown) (sym (length-append taken (r ∷ []))))) in
+      let sees : Sees o.count o.shown o.number v' = record { below = mine.below; last = mine.last; began = mine.began; even = mine.even; tries = λ words e still. let same = same_words (taken ++ r ∷ []) words e in subst (λ ws. ws ≡ take (length ws) o.shown) same (more still) } in (
+        ScreenOf s v',
+        keeps,
+        tt,
+        unmoved st id c (ScreenOf s v') (i + 1) (screen_turns st.words st.views id s v v' o at sees),
+        ((taken, open_try, few, refl), refl),
+      )
+
+  pub reader_ends : (slots id : ℕ) (s : DayStock) (v : Sight) (taken : List ℕ) (c : List (ℕ × S)) → v.taken ≡ Some taken → length taken ≡ 4
+      → Allows CellRule slots id (ScreenOf s v, c) 0 (λ n. n) (λ r n. Turns (ReaderEnded r) (ScreenOf s v, c) n)
+  reader_ends slots id s v taken c open_try all st h _ at _ =
+      let r : ℕ = slice_index st.words 0 in
+      let o = open_at st.words st.views id (ScreenOf s v) (not_screen s v) h at in
+      let mine = (o.each id (ScreenOf s v) at).1 in
+      let is : r ≡ o.count = count_is st.words o.count o.shown o.are in
+      let none : (n : ℕ) → n ≤ o.number → Sees o.count o.shown o.number (sight n (v.loads + 1) r v.began None) =
+      λ n below. record { below = below; last = omega (arith, is); began = mine.began; even = mine.even; tries = λ words e _. absurd (no_words words e) } in
+      let up : v.began ≤ r = omega (arith, is, mine.began) in
+      dite (ℕ_discrete r v.began)
+      (λ still.
+      let whole : taken ≡ o.shown = mine.tries taken open_try (sym is ∙ still) ∙ take_all (length taken) o.shown (omega (arith, all, o.four)) in
+      let rest = o.at_rest (ap (λ n. n % 2) (sym is ∙ still) ∙ mine.even) in
+      let first : number_in taken ≡ o.number = ap (λ ws. number_in ws) whole ∙ first_shown o.stock o.number o.shown rest.0 in
+      let shows : ShowsOf s (number_in taken) taken =
+      subst (λ (z : DayStock × (ℕ × List ℕ)). ShowsOf z.0 z.1.0 z.1.1) (λ i. (sym (o.each id (ScreenOf s v) at).0 i, (sym first i, sym whole i))) rest.0 in
+      let v' = sight (number_in taken) (v.loads + 1) r v.began None in (
+        ScreenOf s v',
+        keeps,
+        tt,
+        unmoved st id c (ScreenOf s v') 0 (screen_turns st.words st.views id s v v' o at (none (number_in taken) (omega (arith, first)))),
+        ((taken, open_try, all, up, (λ _. (shows, omega (arith, first, mine.below), refl)), (λ not. absurd (not still))), refl),
+      ))
+      (λ moved.
+      let v' = sight v.number (v.loads + 1) r v.began None in
+      (ScreenOf s v', keeps, tt, unmoved st id c (ScreenOf s v') 0 (screen_turns st.words st.views id s v v' o at (none v.number mine.below)), ((taken, open_try, all, up, (λ still. absurd (moved still)), (λ _. refl)), refl)))
+
+  -- the steps, at a view that is known
+  pub reader_begins_as : (slots id : ℕ) (me : Me S View) (s : DayStock) (v : Sight) → me.0 ≡ ScreenOf s v → v.taken ≡ None
+      → Allows CellRule slots id me 0 (λ n. n) (λ r n. Turns (ReaderBegun r) me n)
+  reader_begins_as slots id me s v is shut = subst (λ (m : Me S View). Allows CellRule slots id m 0 (λ n. n) (λ r n. Turns (ReaderBegun r) m n)) (λ i. (sym is i, me.1)) (reader_begins slots id s v me.1 shut)
+
+  pub reader_takes_as : (slots id : ℕ) (me : Me S View) (s : DayStock) (v : Sight) (taken : List ℕ) (i : ℕ) → me.0 ≡ ScreenOf s v → v.taken ≡ Some taken → i ≡ length taken + 1 → length taken < 4
+      → Allows CellRule slots id me i (λ n. n) (λ r n. Turns (ReaderTook r) me n)
+  reader_takes_as slots id me s v taken i is open_try at few =
+      subst (λ (z : Me S View × ℕ). Allows CellRule slots id z.0 z.1 (λ n. n) (λ r n. Turns (ReaderTook r) z.0 n)) (λ k. ((sym is k, me.1), sym at k)) (reader_takes slots id s v taken me.1 open_try few)
+
+  pub reader_ends_as : (slots id : ℕ) (me : Me S View) (s : DayStock) (v : Sight) (taken : List ℕ) → me.0 ≡ ScreenOf s v → v.taken ≡ Some taken → length taken ≡ 4
+      → Allows CellRule slots id me 0 (λ n. n) (λ r n. Turns (ReaderEnded r) me n)
+  reader_ends_as slots id me s v taken is open_try all = subst (λ (m : Me S View). Allows CellRule slots id m 0 (λ n. n) (λ r n. Turns (ReaderEnded r) m n)) (λ i. (sym is i, me.1)) (reader_ends slots id s v taken me.1 open_try all)

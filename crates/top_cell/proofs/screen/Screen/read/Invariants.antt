@@ -1,0 +1,5 @@
+use Rattle.std.proofs.Common.{◌≡◌, ◌≤◌}
+use Rattle.top_cell.proofs.screen.Screen.read.Given as goal
+
+abbrev pub invariant-loop : goal.invariant-loop
+invariant-loop g l = (l.self.place ≡ l.initial.self.place) × (l.self.message ≡ l.initial.self.message) × (l.initial.self.loads ≤ l.self.loads)

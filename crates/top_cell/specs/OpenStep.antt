@@ -1,9 +1,0 @@
--- Open: the first view of a cell becomes its writer's, at no message, by one load.
-use Rattle.std.specs.Prelude.{◌≡◌, ℕ, List}
-use Rattle.top_cell.specs.declared.rule.DayStock.{DayStock}
-use Rattle.top_cell.specs.declared.rule.View.{View}
-use Rattle.top_cell.specs.declared.rule.View.TheVariants.{WriterOf}
-
--- the view is that of the stock's writer, before the first message
-abbrev pub Opened : DayStock → View → List ℕ → List ℕ → View → Type 0
-Opened stock before old new after = after ≡ WriterOf stock 0

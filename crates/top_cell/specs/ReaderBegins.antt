@@ -1,0 +1,15 @@
+-- Reader begins: a screen without an open try loads the count, and where it is even opens a try. That is one load
+-- more.
+use Rattle.std.specs.Prelude.{◌≡◌, ◌+◌, ◌%◌, ℕ, [], Some, None}
+use Rattle.top_cell.specs.declared.rule.View.{View}
+use Rattle.top_cell.specs.declared.rule.View.TheVariants.{ScreenOf}
+use Rattle.top_cell.specs.Rule.{sight}
+
+-- the count is the last that the screen has loaded, and where it is even a try began at it, which has taken no
+-- words
+abbrev pub ReaderBegun : ℕ → View → View → Type 0
+ReaderBegun count (ScreenOf stock v) after =
+    (v.taken ≡ None)
+    × (count % 2 ≡ 0 → after ≡ ScreenOf stock (sight v.number (v.loads + 1) count count (Some [])))
+    × (count % 2 ≡ 1 → after ≡ ScreenOf stock (sight v.number (v.loads + 1) count v.began None))
+ReaderBegun count _ after = ⊥

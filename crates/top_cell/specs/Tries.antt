@@ -1,0 +1,35 @@
+-- What the tries of a screen tell together.
+use Rattle.std.specs.Prelude.{◌≡◌, ◌⊎◌, ◌+◌, ◌%◌, ◌<◌, ◌≤◌, ℕ, List}
+use Rattle.top_cell.specs.declared.rule.View.{View}
+use Rattle.top_cell.specs.Rule.{ShowsOf, number_in, number_of, sight_of, stock_of}
+
+-- the words show the screen's stock, at a number that is no lower than the screen's and becomes it
+abbrev pub Stands : View → List ℕ → View → Type 0
+Stands before words after =
+    ShowsOf (stock_of before) (number_in words) words × (number_of before ≤ number_in words)
+    × (number_of after ≡ number_in words)
+
+-- the screen's number stays, and the count, which is the last that it has loaded, is odd or above the one at which
+-- its last try began
+abbrev pub WasBusy : View → ℕ → View → Type 0
+WasBusy before count after =
+    (number_of after ≡ number_of before) × (count ≡ (sight_of after).last)
+    × ((count % 2 ≡ 1) ⊎ ((sight_of after).began < count))
+
+-- one try gave these words, by six loads
+abbrev pub Got : View → List ℕ → View → Type 0
+Got before words after = Stands before words after × ((sight_of after).loads ≡ (sight_of before).loads + 6)
+
+-- one try was lost, by one to six loads
+abbrev pub Lost : View → ℕ → View → Type 0
+Lost before count after =
+    WasBusy before count after × ((sight_of before).loads < (sight_of after).loads)
+    × ((sight_of after).loads ≤ (sight_of before).loads + 6)
+
+-- one of several tries gave these words, by six loads or more
+abbrev pub Won : View → List ℕ → View → Type 0
+Won before words after = Stands before words after × ((sight_of before).loads + 6 ≤ (sight_of after).loads)
+
+-- all tries were lost, by one load or more
+abbrev pub Busied : View → ℕ → View → Type 0
+Busied before count after = WasBusy before count after × ((sight_of before).loads < (sight_of after).loads)
