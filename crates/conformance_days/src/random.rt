@@ -50,9 +50,9 @@ fn any_printable(random: &mut SmallRng) -> u8 {
     }
 }
 
-// Few references, so that they live often, and more than a stock spends in a short day.
+// Few references, so that they live often, and are often asked for again once they are spent.
 fn any_reference(random: &mut SmallRng) -> u64 {
-    random.random_range(1..=16u64)
+    random.random_range(1..=6u64)
 }
 
 fn any_shares(random: &mut SmallRng) -> u32 {
