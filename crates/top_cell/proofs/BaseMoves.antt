@@ -9,7 +9,7 @@ use Rattle.top_cell.specs.Rule.{ShowsOf, Sees, Fits, IsOpen, CellHolds, new_cell
 use Rattle.top_cell.specs.Opens.{Opened}
 use Rattle.top_cell.specs.Splits.{screen_beside}
 use Rattle.top_cell.specs.Joins.{joined}
-use Rattle.top_cell.proofs.Views.{only_seat, open_at, all_fit, writer_stays, unmoved, screen_turns}
+use Rattle.top_cell.proofs.Views.{only_seat, open_at, all_fit, writer_stays, unmoved, with_views, screen_turns}
 use Rattle.top_cell.specs.declared.rule.DayStock.{DayStock}
 use Rattle.top_cell.specs.declared.rule.Sight.{Sight}
 use Rattle.top_cell.specs.declared.rule.View.{View}
@@ -54,37 +54,20 @@ opened stock words views id (open_cell o) at = absurd (o.each id Unopened at)
 -- one view more
 one_more : (words : List ℕ) (views : List View) (id : ℕ) (v : View) (s : DayStock) (n : ℕ) → get_elem? views id ≡ some v → (o : IsOpen words views) → s ≡ o.stock → n ≤ o.number
     → CellHolds words (set views id v ++ ScreenOf s (new_sight n) ∷ [])
-one_more words views id v s n at o same below = open_cell record {
-  stock = o.stock;
-  count = o.count;
-  shown = o.shown;
-  number = o.number;
-  writer = o.writer;
-  are = o.are;
-  four = o.four;
-  at_rest = o.at_rest;
-  one_writer = (o.one_writer.0, at_longer (set views id v) (ScreenOf s (new_sight n) ∷ []) o.writer o.one_writer.0 (ap (λ l. get_elem? l o.writer) (set_again views id v at) ∙ o.one_writer.1), o.one_writer.2);
-  each = λ j u e. ⊎_elim
-      (λ was. o.each j u (subst (λ l. get_elem? l j ≡ some u) (set_again views id v at) was))
-      (λ (is : ScreenOf s (new_sight n) ≡ u). subst (Fits o.stock o.count o.shown o.number o.writer j) is (same, record { below = below; last = zero-le; began = zero-le; even = refl; tries = λ words e _. absurd (no_words words e) }))
-      (at_snoc (set views id v) (ScreenOf s (new_sight n)) u j e);
-}
+one_more words views id v s n at o same below =
+    with_views words views (set views id v ++ ScreenOf s (new_sight n) ∷ []) o
+    (o.one_writer.0, at_longer (set views id v) (ScreenOf s (new_sight n) ∷ []) o.writer o.one_writer.0 (ap (λ l. get_elem? l o.writer) (set_again views id v at) ∙ o.one_writer.1), o.one_writer.2)
+    (λ j u e. ⊎_elim
+    (λ was. o.each j u (subst (λ l. get_elem? l j ≡ some u) (set_again views id v at) was))
+    (λ (is : ScreenOf s (new_sight n) ≡ u). subst (Fits o.stock o.count o.shown o.number o.writer j) is (same, record { below = below; last = zero-le; began = zero-le; even = refl; tries = λ words e _. absurd (no_words words e) }))
+    (at_snoc (set views id v) (ScreenOf s (new_sight n)) u j e))
 
 -- a seat's view is spent
 screen_goes : (words : List ℕ) (views : List View) (id : ℕ) (s : DayStock) (v : Sight) → get_elem? views id ≡ some (ScreenOf s v) → CellHolds words views → CellHolds words (set views id Spent)
 screen_goes words views id s v at h =
-    let o = open_at words views id (ScreenOf s v) (not_screen s v) h at in open_cell record {
-      stock = o.stock;
-      count = o.count;
-      shown = o.shown;
-      number = o.number;
-      writer = o.writer;
-      are = o.are;
-      four = o.four;
-      at_rest = o.at_rest;
-      one_writer = writer_stays views o.writer id (ScreenOf s v) Spent refl o.one_writer at;
-      each = all_fit (Fits o.stock o.count o.shown o.number o.writer) views id Spent tt (λ j u _ e. o.each j u e);
-    }
+    let o = open_at words views id (ScreenOf s v) (not_screen s v) h at in
+    with_views words views (set views id Spent) o (writer_stays views o.writer id (ScreenOf s v) Spent refl o.one_writer at)
+    (all_fit (Fits o.stock o.count o.shown o.number o.writer) views id Spent tt (λ j u _ e. o.each j u e))
 
 module _ {S : Type 0} where
   pub opens : (slots id : ℕ) (stock : DayStock) (c : List (ℕ × S)) → Allows CellRule slots id (Unopened, c) 0 (λ n. n) (λ r m. Turns (Opened stock) (Unopened, c) m)

@@ -46,10 +46,11 @@ writer_stays views writer seat v w other t at =
 pub unmoved : {S : Type 0} (st : State S View) (id : ℕ) (c : List (ℕ × S)) (w : View) (i : ℕ) → CellHolds st.words (set st.views id w) → CellRule (stepped st i (slice_index st.words i) id c w keeps)
 unmoved st id c w i h = subst (λ (ws : List ℕ). CellHolds ws (set st.views id w)) (sym (set-get_or st.words i 0)) h
 
--- a screen's view changes, and no word
-pub screen_turns : (words : List ℕ) (views : List View) (id : ℕ) (s : DayStock) (v v' : Sight) → (o : IsOpen words views) → get_elem? views id ≡ some (ScreenOf s v)
-    → Sees o.count o.shown o.number v' → CellHolds words (set views id (ScreenOf s v'))
-screen_turns words views id s v v' o at sees = open_cell record {
+-- other views of an open cell, of which one is the writer's, and which fit
+pub with_views : (words : List ℕ) (views views' : List View) (o : IsOpen words views)
+    → ((u : View) × (get_elem? views' o.writer ≡ some u) × (is_writers u ≡ true))
+    → ((j : ℕ) (u : View) → get_elem? views' j ≡ some u → Fits o.stock o.count o.shown o.number o.writer j u) → CellHolds words views'
+with_views words views views' o one_writer each = open_cell record {
   stock = o.stock;
   count = o.count;
   shown = o.shown;
@@ -58,9 +59,16 @@ screen_turns words views id s v v' o at sees = open_cell record {
   are = o.are;
   four = o.four;
   at_rest = o.at_rest;
-  one_writer = writer_stays views o.writer id (ScreenOf s v) (ScreenOf s v') refl o.one_writer at;
-  each = all_fit (Fits o.stock o.count o.shown o.number o.writer) views id (ScreenOf s v') ((o.each id (ScreenOf s v) at).0, sees) (λ j u _ e. o.each j u e);
+  one_writer = one_writer;
+  each = each;
 }
+
+-- a screen's view changes, and no word
+pub screen_turns : (words : List ℕ) (views : List View) (id : ℕ) (s : DayStock) (v v' : Sight) → (o : IsOpen words views) → get_elem? views id ≡ some (ScreenOf s v)
+    → Sees o.count o.shown o.number v' → CellHolds words (set views id (ScreenOf s v'))
+screen_turns words views id s v v' o at sees =
+    with_views words views (set views id (ScreenOf s v')) o (writer_stays views o.writer id (ScreenOf s v) (ScreenOf s v') refl o.one_writer at)
+    (all_fit (Fits o.stock o.count o.shown o.number o.writer) views id (ScreenOf s v') ((o.each id (ScreenOf s v) at).0, sees) (λ j u _ e. o.each j u e))
 
 -- what the views of others say stays so where the count has gone up, or is odd
 pub others_fit : (stock stock' : DayStock) (count count' : ℕ) (shown shown' : List ℕ) (number number' writer writer' j : ℕ)
