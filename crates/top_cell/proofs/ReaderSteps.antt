@@ -33,15 +33,17 @@ module _ {S : Type 0} where
       let o = open_at st.words st.views id (ScreenOf s v) (not_screen s v) h at in
       let mine = (o.each id (ScreenOf s v) at).1 in
       let is : r ≡ o.count = count_is st.words o.count o.shown o.are in
+      let risen : v.last ≤ r = omega (arith, is, mine.last) in
+      let up : v.began ≤ r = omega (arith, is, mine.began) in
       dite (ℕ_discrete (r % 2) 0)
       (λ even.
       let v' = sight v.number (v.loads + 1) r r (Some []) in
       let sees : Sees o.count o.shown o.number v' = record { below = mine.below; last = omega (arith, is); began = omega (arith, is); even = even; tries = λ words e _. let none = same_words [] words e in subst (λ ws. ws ≡ take (length ws) o.shown) none refl } in
-      (ScreenOf s v', keeps, tt, unmoved st id c (ScreenOf s v') 0 (screen_turns st.words st.views id s v v' o at sees), ((shut, (λ _. refl), (λ odd. absurd (omega (arith, even, odd)))), refl)))
+      (ScreenOf s v', keeps, tt, unmoved st id c (ScreenOf s v') 0 (screen_turns st.words st.views id s v v' o at sees), ((shut, risen, up, (λ _. refl), (λ odd. absurd (omega (arith, even, odd)))), refl)))
       (λ odd.
       let v' = sight v.number (v.loads + 1) r v.began None in
       let sees : Sees o.count o.shown o.number v' = record { below = mine.below; last = omega (arith, is); began = mine.began; even = mine.even; tries = λ words e _. absurd (no_words words e) } in
-      (ScreenOf s v', keeps, tt, unmoved st id c (ScreenOf s v') 0 (screen_turns st.words st.views id s v v' o at sees), ((shut, (λ even. absurd (odd even)), (λ _. refl)), refl)))
+      (ScreenOf s v', keeps, tt, unmoved st id c (ScreenOf s v') 0 (screen_turns st.words st.views id s v v' o at sees), ((shut, risen, up, (λ even. absurd (odd even)), (λ _. refl)), refl)))
 
   pub reader_takes : (slots id : ℕ) (s : DayStock) (v : Sight) (taken : List ℕ) (c : List (ℕ × S)) → v.taken ≡ Some taken → length taken < 4
       → Allows CellRule slots id (ScreenOf s v, c) (length taken + 1) (λ n. n) (λ r n. Turns (ReaderTook r) (ScreenOf s v, c) n)
@@ -75,6 +77,7 @@ module _ {S : Type 0} where
       let none : (n : ℕ) → n ≤ o.number → Sees o.count o.shown o.number (sight n (v.loads + 1) r v.began None) =
       λ n below. record { below = below; last = omega (arith, is); began = mine.began; even = mine.even; tries = λ words e _. absurd (no_words words e) } in
       let up : v.began ≤ r = omega (arith, is, mine.began) in
+      let risen : v.last ≤ r = omega (arith, is, mine.last) in
       dite (ℕ_discrete r v.began)
       (λ still.
       let whole : taken ≡ o.shown = mine.tries taken open_try (sym is ∙ still) ∙ take_all (length taken) o.shown (omega (arith, all, o.four)) in
@@ -87,11 +90,11 @@ module _ {S : Type 0} where
         keeps,
         tt,
         unmoved st id c (ScreenOf s v') 0 (screen_turns st.words st.views id s v v' o at (none (number_in taken) (omega (arith, first)))),
-        ((taken, open_try, all, up, (λ _. (shows, omega (arith, first, mine.below), refl)), (λ not. absurd (not still))), refl),
+        ((taken, open_try, all, up, risen, (λ _. (shows, omega (arith, first, mine.below), refl)), (λ not. absurd (not still))), refl),
       ))
       (λ moved.
       let v' = sight v.number (v.loads + 1) r v.began None in
-      (ScreenOf s v', keeps, tt, unmoved st id c (ScreenOf s v') 0 (screen_turns st.words st.views id s v v' o at (none v.number mine.below)), ((taken, open_try, all, up, (λ still. absurd (moved still)), (λ _. refl)), refl)))
+      (ScreenOf s v', keeps, tt, unmoved st id c (ScreenOf s v') 0 (screen_turns st.words st.views id s v v' o at (none v.number mine.below)), ((taken, open_try, all, up, risen, (λ still. absurd (moved still)), (λ _. refl)), refl)))
 
   -- the steps, at a view that is known
   pub reader_begins_as : (slots id : ℕ) (me : Me S View) (s : DayStock) (v : Sight) → me.0 ≡ ScreenOf s v → v.taken ≡ None

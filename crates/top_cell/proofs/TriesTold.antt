@@ -6,7 +6,7 @@ use Rattle.top_cell.specs.WriterPuts.{WriterHasPut}
 use Rattle.top_cell.specs.WriterEnds.{WriterEnded}
 use Rattle.top_cell.specs.ReaderBegins.{ReaderBegun}
 use Rattle.top_cell.specs.ReaderEnds.{ReaderEnded}
-use Rattle.top_cell.specs.Tries.{Got, Lost}
+use Rattle.top_cell.specs.Tries.{CountsRise, Got, Lost}
 use Rattle.top_cell.specs.declared.rule.DayStock.{DayStock}
 use Rattle.top_cell.specs.declared.rule.Sight.{Sight}
 use Rattle.top_cell.specs.declared.rule.View.{View}
@@ -34,31 +34,31 @@ pub taken_at : (b c : View) (s : DayStock) (v : Sight) (r : ℕ) (words : List �
 taken_at b c s v r words is e = e ∙ ap (λ u. ScreenOf (stock_of u) (sight (sight_of u).number ((sight_of u).loads + 4) (sight_of u).last (sight_of u).began (Some words))) is
 
 abbrev Ends : View → View → (View → Type 0) → Type 0
-Ends a d P = (IsScreen d × (stock_of d ≡ stock_of a)) × P d
+Ends a d P = (IsScreen d × (stock_of d ≡ stock_of a)) × P d × CountsRise a d
 
 -- nothing was written between
 pub won : (a c d : View) (r n : ℕ) (words : List ℕ) → a ≡ ScreenOf (stock_of a) (sight_of a) → c ≡ ScreenOf (stock_of a) (tried (sight_of a) r words) → ReaderEnded n c d → n ≡ r
-    → Ends a d (Got a words)
-won a c d r n words is took ended still =
+    → r % 2 ≡ 0 → (sight_of a).last ≤ r → (sight_of a).began ≤ r → Ends a d (Got a words)
+won a c d r n words is took ended still even risen up =
     let s = stock_of a in
     let v = sight_of a in
     let e = subst (λ u. ReaderEnded n u d) took ended in
-    let t = subst (λ (ws : List ℕ). ShowsOf s (number_in ws) ws × (v.number ≤ number_in ws) × (d ≡ ScreenOf s (sight (number_in ws) (((v.loads + 1) + 4) + 1) n r None))) (sym (same_words words e.0 e.1)) (e.4 still) in
-    subst (λ u. Ends a u (Got a words)) (sym t.2) (((refl, refl), refl), ((t.0, subst (λ k. k ≤ number_in words) (sym (ap number_of is)) t.1, refl), omega arith))
+    let t = subst (λ (ws : List ℕ). ShowsOf s (number_in ws) ws × (v.number ≤ number_in ws) × (d ≡ ScreenOf s (sight (number_in ws) (((v.loads + 1) + 4) + 1) n r None))) (sym (same_words words e.0 e.1)) (e.5 still) in
+    subst (λ u. Ends a u (Got a words)) (sym t.2) (((refl, refl), refl), ((t.0, subst (λ k. k ≤ number_in words) (sym (ap number_of is)) t.1, refl), omega arith, (still, omega arith)), (omega arith, up))
 
 pub lost : (a c d : View) (r n : ℕ) (words : List ℕ) → a ≡ ScreenOf (stock_of a) (sight_of a) → c ≡ ScreenOf (stock_of a) (tried (sight_of a) r words) → ReaderEnded n c d → n ≢ r
-    → Ends a d (Lost a n)
-lost a c d r n words is took ended moved =
+    → (sight_of a).last ≤ r → (sight_of a).began ≤ r → Ends a d (Lost a n)
+lost a c d r n words is took ended moved risen up =
     let e = subst (λ u. ReaderEnded n u d) took ended in
-    let t = e.5 moved in
+    let t = e.6 moved in
     let later : r < n = grind (arith, e.3, moved) in
-    subst (λ u. Ends a u (Lost a n)) (sym t) (((refl, refl), refl), ((sym (ap number_of is), refl, inr later), omega arith, omega arith))
+    subst (λ u. Ends a u (Lost a n)) (sym t) (((refl, refl), refl), ((sym (ap number_of is), refl, inr later), omega arith, omega arith), (omega arith, up))
 
 -- the writer was at work
-pub missed : (a b : View) (r : ℕ) → a ≡ ScreenOf (stock_of a) (sight_of a) → ReaderBegun r a b → r % 2 ≡ 1 → Ends a b (Lost a r)
-missed a b r is load odd =
-    let t = (begun r a b is load).2 odd in
-    subst (λ u. Ends a u (Lost a r)) (sym t) (((refl, refl), refl), ((sym (ap number_of is), refl, inl odd), omega arith, omega arith))
+pub missed : (a b : View) (r : ℕ) → a ≡ ScreenOf (stock_of a) (sight_of a) → ReaderBegun r a b → r % 2 ≡ 1 → (sight_of a).last ≤ r → Ends a b (Lost a r)
+missed a b r is load odd risen =
+    let t = (begun r a b is load).4 odd in
+    subst (λ u. Ends a u (Lost a r)) (sym t) (((refl, refl), refl), ((sym (ap number_of is), refl, inl odd), omega arith, omega arith), (risen, omega arith))
 
 -- ---- a change
 

@@ -16,9 +16,19 @@ WasBusy before count after =
     (number_of after ≡ number_of before) × (count ≡ (sight_of after).last)
     × ((count % 2 ≡ 1) ⊎ ((sight_of after).began < count))
 
+-- the last count that the screen has loaded is even, and its last try began at it
+abbrev pub EndsAtRest : View → Type 0
+EndsAtRest after = ((sight_of after).last ≡ (sight_of after).began) × ((sight_of after).last % 2 ≡ 0)
+
+-- neither the last count that the screen has loaded nor the one at which its last try began is lower than before
+abbrev pub CountsRise : View → View → Type 0
+CountsRise before after =
+    ((sight_of before).last ≤ (sight_of after).last) × ((sight_of before).began ≤ (sight_of after).began)
+
 -- one try gave these words, by six loads
 abbrev pub Got : View → List ℕ → View → Type 0
-Got before words after = Stands before words after × ((sight_of after).loads ≡ (sight_of before).loads + 6)
+Got before words after =
+    Stands before words after × ((sight_of after).loads ≡ (sight_of before).loads + 6) × EndsAtRest after
 
 -- one try was lost, by one to six loads
 abbrev pub Lost : View → ℕ → View → Type 0
@@ -28,7 +38,8 @@ Lost before count after =
 
 -- one of several tries gave these words, by six loads or more
 abbrev pub Won : View → List ℕ → View → Type 0
-Won before words after = Stands before words after × ((sight_of before).loads + 6 ≤ (sight_of after).loads)
+Won before words after =
+    Stands before words after × ((sight_of before).loads + 6 ≤ (sight_of after).loads) × EndsAtRest after
 
 -- all tries were lost, by one load or more
 abbrev pub Busied : View → ℕ → View → Type 0

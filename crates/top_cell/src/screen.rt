@@ -18,7 +18,8 @@ use std::sync::Wait;
 ///
 /// It is seen as the cell that it belongs to, with the day and the stock that the cell shows, the number of the
 /// message at which it stands, how often it has loaded the count or a word of the cell, the last count that it has
-/// loaded, and the even one at which its last try to read began. All is of this project.
+/// loaded, and the even one at which its last try to read began. Neither of these counts ever falls. All is of this
+/// project.
 #[derive(Drop)]
 pub struct Screen {
     pub(crate) seat: Seat,
@@ -49,7 +50,8 @@ impl Model for Screen {
 #[derive(Debug, Clone, Copy, PartialEq, Eq)]
 pub struct Busy {
     /// How often the writer had begun or ended a change, when the glance looked last: odd while it was changing the
-    /// cell, and else even and more than when the last try began.
+    /// cell, and else even and more than when the last try began. It is no lower than any count that the screen has
+    /// loaded before.
     pub count: u64,
 }
 
@@ -74,6 +76,9 @@ impl Screen {
     ///
     /// It waits for nobody. An error says that the writer was changing the cell at each try; the screen then stands
     /// where it stood. Where no change is under way from the beginning to the end of a try, it succeeds.
+    ///
+    /// After a reading the last count that was loaded is the even one at which the try began. So a screen that has read
+    /// the cell isn't busy at a later glance while the count is still the same.
     pub fn glance<A: Allocator>(
         &mut self,
         board: &Board<'_, A>,
@@ -89,6 +94,8 @@ impl Screen {
         ensures whole { IfOk result (λ _. self.old.loads + 6 ≤ self.new.loads) }
         ensures busy { IfErr result (λ busy. (self.new.message ≡ self.old.message)
             × (busy.count ≡ self.new.last) × ((busy.count % 2 ≡ 1) ⊎ (self.new.began < busy.count))) }
+        ensures counts { (self.old.last ≤ self.new.last) × (self.old.began ≤ self.new.began) }
+        ensures even { IfOk result (λ _. (self.new.last ≡ self.new.began) × (self.new.last % 2 ≡ 0)) }
         ensures loads { (self.old.loads < self.new.loads) × (self.new.loads ≤ self.old.loads + 6 * tries) }
     {
         let cell = board.cell(self.index);
@@ -112,6 +119,8 @@ impl Screen {
         ensures shows { Shows self.old.place.day self.old.place.locate result.message (words_read result) }
         ensures later { self.old.message ≤ result.message }
         ensures stands { self.new.message ≡ result.message }
+        ensures counts { (self.old.last ≤ self.new.last) × (self.old.began ≤ self.new.began) }
+        ensures even { (self.new.last ≡ self.new.began) × (self.new.last % 2 ≡ 0) }
         ensures loads { self.old.loads < self.new.loads }
     {
         for _ in rt.forever() {

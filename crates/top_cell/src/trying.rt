@@ -2,7 +2,7 @@
 ghost use Rattle.std.specs.Prelude.{◌≡◌, ◌+◌, ◌*◌, ◌<◌, ◌≤◌, [], IfOk, IfErr, Some};
 ghost use Rattle.top_cell.specs.Rule.{IsScreen, sight, sight_of, stock_of};
 ghost use Rattle.top_cell.specs.Seats.{IsSameSeat, IsSeatOf};
-ghost use Rattle.top_cell.specs.Tries.{Busied, Got, Lost, Won};
+ghost use Rattle.top_cell.specs.Tries.{Busied, CountsRise, Got, Lost, Won};
 ghost use Rattle.top_cell.specs.declared.rule.View.TheVariants.{ScreenOf};
 
 use crate::kinds::reader_begins::ReaderBegins;
@@ -36,6 +36,7 @@ fn try_once(cell: &Words, seat: &mut Seat) -> Result<[u64; 4], u64>
         × (seat.new.me.1 ≡ seat.old.me.1) }
     ensures ok { IfOk result (λ words. Got seat.old.me.0 words seat.new.me.0) }
     ensures err { IfErr result (λ count. Lost seat.old.me.0 count seat.new.me.0) }
+    ensures counts { CountsRise seat.old.me.0 seat.new.me.0 }
 {
     let began = cell.load::<ReaderBegins>(seat, 0);
     if began % 2 == 1 {
@@ -61,6 +62,7 @@ pub(crate) fn try_times(cell: &Words, seat: &mut Seat, tries: u32) -> Result<[u6
         × (seat.new.me.1 ≡ seat.old.me.1) }
     ensures ok { IfOk result (λ words. Won seat.old.me.0 words seat.new.me.0) }
     ensures err { IfErr result (λ count. Busied seat.old.me.0 count seat.new.me.0) }
+    ensures counts { CountsRise seat.old.me.0 seat.new.me.0 }
     ensures loads { (sight_of seat.new.me.0).loads ≤ (sight_of seat.old.me.0).loads + 6 * tries }
 {
     let mut count = 0;
