@@ -15,19 +15,19 @@ pub enum Side {
     Sell,
 }
 
-/// A live order.
+/// A live order. Its fields stand from the widest to the narrowest, so that it takes 24 bytes.
 ///
 /// Nasdaq TotalView-ITCH 5.0, "Add Order Message".
 #[derive(Debug, Clone, Copy, PartialEq, Eq)]
 pub struct Order {
     /// Its reference, which no other order of its stock has on the day.
     pub reference: u64,
-    /// Its side of the book.
-    pub side: Side,
     /// The shares that remain.
     pub shares: u32,
     /// The price, in 1/10,000 of a currency unit.
     pub price: u32,
+    /// Its side of the book.
+    pub side: Side,
     /// The market participant, where the order was added with one.
     pub attribution: Option<[u8; 4]>,
 }
@@ -122,12 +122,12 @@ pub(crate) struct OrderKey {
 /// Nasdaq TotalView-ITCH 5.0, "Add Order Message".
 #[derive(Debug, Clone, Copy, PartialEq, Eq)]
 pub struct OrderRow {
-    /// Its side of the book.
-    pub side: Side,
     /// The shares that remain.
     pub shares: u32,
     /// The price, in 1/10,000 of a currency unit.
     pub price: u32,
+    /// Its side of the book.
+    pub side: Side,
     /// The market participant, where the order was added with one.
     pub attribution: Option<[u8; 4]>,
 }
