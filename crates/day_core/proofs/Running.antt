@@ -159,6 +159,21 @@ module _ (s : WorkerState) (n place : ℕ) (more : s.done < length (worker_messa
             ∙ ap (f (code k)) (sym (progress_there k below differ))
       ])
 
+-- ---- a worker's message at an index
+
+module _ (s : WorkerState) (own locates : List ℕ) (stocks : List StockMachine) (runner : IsRunner s own locates stocks) (n i : ℕ) (more : i < length own) (here : n ≡ get_or own i n) where
+  own_index_within : i < length (worker_messages s)
+  own_index_within = omega (arith, ap length runner.own_is)
+
+  pub own_is_at : n ≡ get_or (worker_messages s) i 0
+  own_is_at = here ∙ get_or_default own i n 0 more ∙ ap (λ (xs : List ℕ). get_or xs i 0) runner.own_is
+
+  pub own_is_within : (1 ≤ n) × (n ≤ length s.day)
+  own_is_within = rw own_is_at (own_within s.workers s.worker s.day i 0 own_index_within)
+
+  pub own_is_own : is_own s.workers s.worker (part_at s.day n) ≡ true
+  own_is_own = rw own_is_at (own_passes s.workers s.worker s.day i 0 own_index_within)
+
 -- ---- a worker's next message
 
 module _ (s : WorkerState) (own locates : List ℕ) (stocks : List StockMachine) (runner : IsRunner s own locates stocks) (n : ℕ) (more : s.done < length own) (next : n ≡ get_or own s.done n) where
@@ -166,13 +181,13 @@ module _ (s : WorkerState) (own locates : List ℕ) (stocks : List StockMachine)
   within_own = omega (arith, ap length runner.own_is)
 
   pub next_is : n ≡ get_or (worker_messages s) s.done 0
-  next_is = next ∙ get_or_default own s.done n 0 more ∙ ap (λ (xs : List ℕ). get_or xs s.done 0) runner.own_is
+  next_is = own_is_at s own locates stocks runner n s.done more next
 
   pub next_within : (1 ≤ n) × (n ≤ length s.day)
-  next_within = rw next_is (own_within s.workers s.worker s.day s.done 0 within_own)
+  next_within = own_is_within s own locates stocks runner n s.done more next
 
   pub next_own : is_own s.workers s.worker (part_at s.day n) ≡ true
-  next_own = rw next_is (own_passes s.workers s.worker s.day s.done 0 within_own)
+  next_own = own_is_own s own locates stocks runner n s.done more next
 
   -- the stock is as the messages before it have left it
   pub stock_before : (place : ℕ) (d : StockMachine) → place < length locates → get_or stocks place d ≡ machine_of s.day (get_or locates place 0) (n - 1)

@@ -1,5 +1,5 @@
 //! One worker without threads.
-ghost use Rattle.std.specs.Prelude.{◌≡◌, ◌<◌, ◌≤◌, ℕ, true, IfOk, MatchOption, OnErr, length, map, slice_get, slice_index};
+ghost use Rattle.std.specs.Prelude.{◌≡◌, ◌<◌, ◌≤◌, ℕ, true, IfOk, IfSome, MatchOption, OnErr, length, map, slice_get, slice_index};
 ghost use Rattle.std.specs.List.{Contains};
 ghost use Rattle.itch_table.specs.declared.outcome.Part.TheVariants.{Locate};
 ghost use Rattle.itch_table.specs.Projection.{payload_at};
@@ -154,6 +154,23 @@ impl<A: Allocator + Copy> Runner<A> {
             piece: Piece { message, outcome },
             place,
         }))
+    }
+}
+
+impl<A: Allocator + Copy> Runner<A> {
+    /// The place of the stock of a message to come, `ahead` messages after the worker's next one; none after its last
+    /// message. The caller hands the day that was split.
+    pub fn place_ahead(&self, day: &Day<A>, ahead: usize) -> Option<usize>
+        requires { day.now.payloads ≡ self.now.day }
+        ensures { IfSome result (λ place. place < length (worker_locates self.now)) }
+    {
+        let index = self.done.saturating_add(ahead);
+        if index >= self.own.len() {
+            return None;
+        }
+        let message = self.own[index];
+        let (_, place) = message_of(day, &self.places, message);
+        Some(place)
     }
 }
 

@@ -84,6 +84,11 @@ impl<A: Allocator + Copy> OrderTable<A> {
         }
     }
 
+    /// Reads orders that came late. What it returns means nothing.
+    pub fn touch(&self) -> u64 {
+        self.rising.touch()
+    }
+
     /// How many orders live.
     pub fn len(&self) -> usize
         ensures { result ≡ maps.len self.now }

@@ -61,6 +61,16 @@ impl<A: Allocator + Copy> Rows<A> {
         self.book.order(reference)
     }
 
+    /// Reads what stands in the value itself. What it returns means nothing.
+    pub fn touch(&self) -> u64 {
+        u64::from(self.book.count()).wrapping_add(u64::from(self.known.is_some()))
+    }
+
+    /// Reads rows that most messages look for first. What it returns means nothing.
+    pub fn touch_rows(&self) -> u64 {
+        self.book.touch()
+    }
+
     /// Whether an order has had a reference.
     pub fn is_spent(&self, reference: u64) -> bool
         ensures { result ≡ is_spent self.now.world self.now.locate reference }

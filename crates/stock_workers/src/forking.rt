@@ -54,8 +54,10 @@ fn finish<R: Threads + Wait + Sync, A: Allocator + Copy, G: Gate>(
     } = waiting;
     let mut pieces = Vec::with_capacity(alloc, parts.own(number).len())?;
     let mut worker = Worker::new(alloc, parts, number, writers)?;
+    let mut wait = 0;
     while let Some(piece) = worker.turn(rt, day, board, gate)? {
         pieces.push(piece)?;
+        wait = worker.look_ahead(day, board, wait);
     }
     let (stocks, writers) = worker.into_stocks();
     Ok(Finished {

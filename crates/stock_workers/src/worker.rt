@@ -17,6 +17,9 @@ use std::thread::Threads;
 use stock_machine::Stock;
 use top_cell::{Board, TopWriter};
 
+// How many messages a worker looks ahead.
+const AHEAD: usize = 16;
+
 /// One worker of a day that is split, with the writers of its stocks' cells: whatever it has done is shown there.
 ///
 /// It is seen as where it stands in the day, and the cells of its stocks. All is of this project.
@@ -86,6 +89,39 @@ impl<A: Allocator + Copy> Worker<A> {
         let best = self.runner.stock_at(turned.place).top();
         self.writers[turned.place].publish(board, turned.piece.message, best);
         Ok(Some(turned.piece))
+    }
+}
+
+impl<A: Allocator + Copy> Worker<A> {
+    /// Reads what the worker's next messages are likely to need, where `wait` is 0, so that the processor fetches the
+    /// memory of all of them at once: a publish waits for all reads before it, so turns by themselves would wait for the
+    /// memory of one message after another. First the machines and cells are read, and then the rows that the machines
+    /// lead to. It changes nothing. It returns what `wait` is after the next turn; the number depends on what was read,
+    /// so that the reads aren't left out.
+    pub(crate) fn look_ahead(&self, day: &Day<A>, board: &Board<'_, A>, wait: usize) -> usize
+        requires day { day.now.payloads ≡ self.now.state.day }
+        requires board { All (IsOn board.now) self.now.places }
+    {
+        if wait > 0 {
+            return wait - 1;
+        }
+        let mut sum: u64 = 0;
+        let mut places = [0; AHEAD];
+        for message in 0..AHEAD {
+            let Some(place) = self.runner.place_ahead(day, message) else {
+                break;
+            };
+            places[message] = place;
+            let stock = self.runner.stock_at(place).touch();
+            let cell = self.writers[place].touch(board);
+            sum = sum.wrapping_add(stock).wrapping_add(cell);
+        }
+        for place in places {
+            if place < self.runner.stock_count() {
+                sum = sum.wrapping_add(self.runner.stock_at(place).touch_rows());
+            }
+        }
+        if sum == u64::MAX { 0 } else { AHEAD - 1 }
     }
 }
 
