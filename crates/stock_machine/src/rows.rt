@@ -68,7 +68,7 @@ impl<A: Allocator + Copy> Rows<A> {
 
     /// Reads rows that most messages look for first. What it returns means nothing.
     pub fn touch_rows(&self) -> u64 {
-        self.book.touch()
+        self.book.touch().wrapping_add(self.spent.touch())
     }
 
     /// Whether an order has had a reference.

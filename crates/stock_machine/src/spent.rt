@@ -124,6 +124,14 @@ impl<A: Allocator + Copy> SpentReferences<A> {
         has_risen(self.first, &self.distances, reference) || self.others.contains(&reference)
     }
 
+    /// Reads the reference that rose last. What it returns means nothing.
+    pub fn touch(&self) -> u64 {
+        match self.distances.last() {
+            Some(distance) => u64::from(*distance),
+            None => 0,
+        }
+    }
+
     /// Adds a reference. An error says that memory was refused, and leaves the references as they were.
     pub fn insert(&mut self, reference: u64) -> Result<(), AllocError>
         ensures ok { OnOk result (self.new ≡ with_key self.old reference) }

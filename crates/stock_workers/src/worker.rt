@@ -20,6 +20,9 @@ use top_cell::{Board, TopWriter};
 // How many messages a worker looks ahead.
 const AHEAD: usize = 16;
 
+// How many stocks a worker has at least to look ahead. Those of fewer stay in the processor's caches by themselves.
+const MANY_STOCKS: usize = 512;
+
 /// One worker of a day that is split, with the writers of its stocks' cells: whatever it has done is shown there.
 ///
 /// It is seen as where it stands in the day, and the cells of its stocks. All is of this project.
@@ -96,14 +99,17 @@ impl<A: Allocator + Copy> Worker<A> {
     /// Reads what the worker's next messages are likely to need, where `wait` is 0, so that the processor fetches the
     /// memory of all of them at once: a publish waits for all reads before it, so turns by themselves would wait for the
     /// memory of one message after another. First the machines and cells are read, and then the rows that the machines
-    /// lead to. It changes nothing. It returns what `wait` is after the next turn; the number depends on what was read,
-    /// so that the reads aren't left out.
+    /// lead to. A worker of few stocks does without. It changes nothing. It returns what `wait` is after the next turn;
+    /// the number depends on what was read, so that the reads aren't left out.
     pub(crate) fn look_ahead(&self, day: &Day<A>, board: &Board<'_, A>, wait: usize) -> usize
         requires day { day.now.payloads ≡ self.now.state.day }
         requires board { All (IsOn board.now) self.now.places }
     {
         if wait > 0 {
             return wait - 1;
+        }
+        if self.runner.stock_count() < MANY_STOCKS {
+            return AHEAD - 1;
         }
         let mut sum: u64 = 0;
         let mut places = [0; AHEAD];
