@@ -30,6 +30,10 @@ live_in orders = maps.from_entries (map entry_of (filter has_shares orders))
 abbrev pub IsBelow : ℕ → Order → Type 0
 IsBelow reference order = order.reference < reference
 
+-- an order came with a higher reference
+abbrev pub IsAbove : ℕ → Order → Type 0
+IsAbove reference order = reference < order.reference
+
 -- the order at this index lives, and has this reference
 abbrev pub IsLiveAt : List Order → ℕ → ℕ → Type 0
 IsLiveAt orders reference index =

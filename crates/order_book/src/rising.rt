@@ -4,7 +4,7 @@ ghost use Rattle.std.specs.List.{All, AllWithin};
 ghost use Rattle.std.specs.Bool.{IsTrue};
 ghost use Rattle.std.specs.FinMap as maps;
 ghost use Rattle.order_book.specs.Orders.{added, orders_in, reduced_by};
-ghost use Rattle.order_book.specs.Parts.{AreRising, IsBelow, IsLiveAt, has_shares, live_in};
+ghost use Rattle.order_book.specs.Parts.{AreRising, IsAbove, IsBelow, IsLiveAt, has_shares, live_in};
 
 use itch_table::{Order, OrderRow};
 use std::alloc::{AllocError, Allocator};
@@ -12,7 +12,7 @@ use std::marker::Model;
 
 /// Live orders that came with rising references.
 ///
-/// They stand in a list in the order in which they came, and a reference is found in it by binary search. An order that
+/// They stand in a list in the order in which they came, and a reference is found in it by halves. An order that
 /// goes stays in the list without shares, so that no other is moved; once more than half have gone all these are
 /// dropped.
 #[derive(Drop)]
@@ -57,38 +57,58 @@ fn is_above_all(orders: &[Order], reference: u64) -> bool
     }
 }
 
-// Where a search for a reference begins: all orders before this index have lower ones. Most messages are about orders
-// that came late, so the search goes back from the last order by longer and longer steps.
-fn start_of(orders: &[Order], reference: u64) -> usize
-    requires { AreRising orders.now }
-    ensures bound { result ≤ length orders.now }
-    ensures below { AllWithin (IsBelow reference) orders.now 0 result }
-{
-    let mut start = orders.len();
-    let mut step = 1;
-    for _ in 0..usize::BITS {
-        if start < step {
-            break;
-        }
-        start -= step;
-        if orders[start].reference <= reference {
-            return start;
-        }
-        step = step.saturating_mul(2);
-    }
-    0
+// Where the order with a reference stands, if there is one: from `start` on, and before `end`.
+struct Window {
+    start: usize,
+    end: usize,
 }
 
-// The index of the order that lives under a reference.
+// Most messages are about orders that came late, so the search goes back from the last order by longer and longer steps.
+fn window_of(orders: &[Order], reference: u64) -> Window
+    requires { AreRising orders.now }
+    ensures bounds { (result.start ≤ result.end) × (result.end ≤ length orders.now) }
+    ensures below { AllWithin (IsBelow reference) orders.now 0 result.start }
+    ensures above { AllWithin (IsAbove reference) orders.now result.end (length orders.now) }
+{
+    let mut end = orders.len();
+    let mut step = 1;
+    for _ in 0..usize::BITS {
+        if end < step {
+            break;
+        }
+        let start = end - step;
+        if orders[start].reference <= reference {
+            return Window { start, end };
+        }
+        end = start;
+        step = step.saturating_mul(2);
+    }
+    Window { start: 0, end }
+}
+
+// The index of the order that lives under a reference. The window is halved without a branch on what is found, which
+// goes either way as often: the processor would guess wrong at every second step.
 fn index_of(orders: &[Order], reference: u64) -> Option<usize>
     requires { AreRising orders.now }
     ensures found { IfSome result (IsLiveAt orders.now reference) }
     ensures none { IfNone result (maps.get (live_in orders.now) reference ≡ None) }
 {
-    let start = start_of(orders, reference);
-    match orders[start..].binary_search_by(|order| order.reference.cmp(&reference)) {
-        Ok(offset) if is_live(&orders[start + offset]) => Some(start + offset),
-        _ => None,
+    let Window { start, end } = window_of(orders, reference);
+    let mut low = start;
+    let mut count = end - start;
+    while count > 1 {
+        let half = count / 2;
+        low = if orders[low + half].reference <= reference {
+            low + half
+        } else {
+            low
+        };
+        count -= half;
+    }
+    if count == 1 && orders[low].reference == reference && is_live(&orders[low]) {
+        Some(low)
+    } else {
+        None
     }
 }
 

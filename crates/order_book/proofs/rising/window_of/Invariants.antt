@@ -1,0 +1,7 @@
+use Rattle.std.proofs.Common.{◌≤◌, length}
+use Rattle.std.specs.List.{AllWithin}
+use Rattle.order_book.specs.Parts.{IsAbove}
+use Rattle.order_book.proofs.rising.window_of.Given as goal
+
+abbrev pub invariant-loop : goal.invariant-loop
+invariant-loop l = record { some : 1 ≤ l.step; within : l.end ≤ length l.orders; above : AllWithin (IsAbove l.reference) l.orders l.end (length l.orders) }
