@@ -133,10 +133,28 @@ fn try_merge(heap: &Refusing<Global>, refusal: Refusal) -> Result<Tried, Fail> {
     Ok(tried)
 }
 
+// Merges two pieces for one message under a refusal: memory is refused before the second piece is found to be faulty.
+fn try_faulty_merge(heap: &Refusing<Global>, refusal: Refusal) -> Result<(), Fail> {
+    let lists = lists_of(heap, &[applied(1)], &[applied(1)])?;
+    heap.restart(refusal);
+    let answer = merge(heap, 2, lists).map(|outcomes| outcomes.len());
+    heap.restart(Refusal::Never);
+    let wanted = match refusal {
+        Refusal::Never => MergeFault::Double(1),
+        Refusal::Only(_) | Refusal::From(_) => MergeFault::Memory,
+    };
+    same(
+        "a faulty merge",
+        &(refusal, answer),
+        &(refusal, Err(wanted)),
+    )
+}
+
 #[test]
 fn pieces_without_memory_make_no_day(rt: HostRuntime) -> Result<(), Fail> {
     let heap = Refusing::new(rt.alloc(), Refusal::Never);
     let growths = refuse_each(|refusal: Refusal| -> Result<Tried, Fail> {
+        try_faulty_merge(&heap, refusal)?;
         try_merge(&heap, refusal)
     })?;
     same("all growths", &growths, &2)

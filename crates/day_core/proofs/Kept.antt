@@ -1,9 +1,12 @@
 -- What a test keeps of a range of numbers.
-use Rattle.std.proofs.Common.{◌≡◌, ℕ, zero, suc, ◌+◌, ◌-◌, ◌<◌, ◌≤◌, List, [], ◌∷◌, ◌++◌, length, Bool, true, false, cond, get_or, filter, take, refl, ap, sym, ◌∙◌, map-id, arith, inl, inr}
-use Rattle.std.specs.List.{range_with_len}
-use Rattle.std.proofs.lemmas.Bool.{cases_Bool}
+use Rattle.std.proofs.Common.{◌≡◌, ℕ, zero, suc, ◌+◌, ◌-◌, ◌<◌, ◌≤◌, List, [], ◌∷◌, ◌++◌, length, Bool, true, false, cond, eqb, get_or, filter, take, refl, ap, sym, ◌∙◌, map-id, arith, inl, inr}
+use Rattle.std.specs.List.{Contains, range_with_len}
+use Rattle.std.proofs.lemmas.Bool.{cases_Bool, eq-eqb, eqb-true}
 use Rattle.std.proofs.lemmas.List.Elements.{All-filter, All-from_get_or}
+use Rattle.std.proofs.lemmas.List.Folds.{list_any_at}
+use Rattle.std.proofs.lemmas.Map.Views.{Contains-from_any}
 use Rattle.std.proofs.lemmas.List.FromFn.{filter_of_map_range_with_len_more, get_or-range_with_len, length-range_with_len}
+use Rattle.itch_table.proofs.DayLocates.{any_picked}
 
 -- one number more
 pub kept_more : (p : ℕ → Bool) (a n last : ℕ) → a + n ≡ last
@@ -19,6 +22,14 @@ kept_within p a n i d lt =
     All-filter p (λ m. (a ≤ m) × (m < a + n)) (range_with_len a n) (All-from_get_or (λ m. (a ≤ m) × (m < a + n)) (range_with_len a n) 0 (λ k below.
     let here = get_or-range_with_len a n k 0 (omega (arith, length-range_with_len a n)) in
     (omega (arith, here), omega (arith, here, below, length-range_with_len a n)))) i d lt
+
+-- a number of the range that passes the test is kept
+pub kept_there : (p : ℕ → Bool) (n m : ℕ) → 1 ≤ m → m ≤ n → p m ≡ true → Contains (filter p (range_with_len 1 n)) m
+kept_there p n m some within on =
+    let here : get_or (range_with_len 1 n) (m - 1) 0 ≡ m = omega (arith, get_or-range_with_len 1 n (m - 1) 0 (omega (arith, some, within)), some) in
+    Contains-from_any eqb-true m _
+    (any_picked p m (range_with_len 1 n) on
+    (list_any_at (eqb m) (range_with_len 1 n) (m - 1) 0 (omega (arith, some, within, length-range_with_len 1 n)) (rw here (eq-eqb m m refl))))
 
 -- a test that gives true nowhere keeps nothing
 pub kept_none : (p : ℕ → Bool) (xs : List ℕ) → ((x : ℕ) → p x ≡ false) → filter p xs ≡ []

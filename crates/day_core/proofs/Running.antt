@@ -1,5 +1,6 @@
 -- A worker's stocks, and one message more of them.
-use Rattle.std.proofs.Common.{◌≡◌, ◌≢◌, ℕ, zero, suc, ◌+◌, ◌-◌, ◌^◌, ◌%◌, ◌<◌, ◌≤◌, List, [], ◌∷◌, length, Bool, true, false, cond, eqb, get_or, set, map, filter, refl, sym, ap, subst, ◌∙◌, arith, inl, inr}
+use Rattle.std.proofs.Common.{◌≡◌, ◌≢◌, ℕ, zero, suc, ◌+◌, ◌-◌, ◌^◌, ◌%◌, ◌<◌, ◌≤◌, List, [], ◌∷◌, length, Bool, true, false, cond, eqb, get_or, set, map, filter, Some, refl, sym, ap, subst, ◌∙◌, arith, inl, inr}
+use Rattle.std.specs.Prelude.{IsTrue, OnErr, Result, Ok, Err}
 use Rattle.std.specs.List.{Contains, list_any, range_with_len}
 use Rattle.std.specs.List.Sorted.{IsStrictlyIncreasing}
 use Rattle.std.proofs.lemmas.Bool.{cases_eq, cases_lt, eqb-true, ne_eqb}
@@ -8,9 +9,12 @@ use Rattle.std.proofs.lemmas.List.Elements.{filter_passes}
 use Rattle.std.proofs.lemmas.List.Folds.{list_any_at}
 use Rattle.std.proofs.lemmas.Map.Views.{Contains-from_any}
 use Rattle.std.proofs.lemmas.List.Kept.{AllPairs-from_increasing, IsStrictlyIncreasing-filter}
+use Rattle.itch_layouts.specs.Shapes.{shape_of}
 use Rattle.itch_table.specs.declared.outcome.Outcome.{Outcome}
 use Rattle.itch_table.specs.declared.outcome.Part.TheVariants.{Locate}
 use Rattle.itch_table.specs.After.{after, outcome}
+use Rattle.itch_table.specs.Held.{one_stock}
+use Rattle.itch_table.specs.Machine.{MayGrow, shape_adds_row}
 use Rattle.itch_table.specs.Projection.{is_locate, is_of_stock, only, payload_at, steps_of}
 use Rattle.itch_table.specs.Parts.{part}
 use Rattle.itch_table.specs.Shows.{locates_of_day}
@@ -22,9 +26,18 @@ use Rattle.itch_table.proofs.StockDays.{is_own_part, only-empty, own_next, steps
 use Rattle.stock_machine.specs.StockRows.{StockMachine}
 use Rattle.day_core.specs.declared.merging.Piece.{Piece}
 use Rattle.day_core.specs.Owners.{is_own, machine_of, own_locates, own_of, owner, part_at, piece_of, progress}
-use Rattle.day_core.specs.Workers.{IsRunner, IsTurned, WorkerState, machine_at, new_machine, worker_messages, state_in, worker_locates}
+use Rattle.day_core.specs.Workers.{IsRunner, IsTurned, MayGrowNext, TakesTurn, WorkerState, machine_at, new_machine, next_message, worker_messages, state_in, worker_locates}
+use Rattle.day_core.specs.declared.runner.Turned.{Turned}
 use Rattle.day_core.specs.Splitting.{Split}
 use Rattle.day_core.proofs.Progress.{machine_next, own_within, own_passes, progress_first, progress_kept, progress_moved}
+
+-- what holds anyway holds where there is an error
+pub on_err : {T E : Type 0} (r : Result T E) (P : Type 0) → P → OnErr r P
+on_err (Ok x) P p = tt
+on_err (Err e) P p = p
+
+same_code : {l m : ℕ} → Locate l ≡ Locate m → l ≡ m
+same_code same = cc
 
 -- ---- a message of the day
 
@@ -250,6 +263,48 @@ module _ (s : WorkerState) (own locates : List ℕ) (stocks : List StockMachine)
       within = omega (arith, listed, ap length runner.locates_are);
       stock = own_part ∙ ap (λ (xs : List ℕ). Locate (get_or xs place 0)) runner.locates_are;
     }
+
+    -- where it may need memory, so may the turn
+    pub grows : (payload : List ℕ) → payload ≡ payload_at day n → MayGrow (one_stock before.locate before.world) payload → MayGrowNext s
+    grows payload here may =
+        let after : StockMachine = record before { world = (step before.world payload).1; steps = before.steps + 1 } in
+        let gave : (step before.world payload).0 ≡ outcome s.day n = (stock_stepped after (step before.world payload).0 payload here refl refl refl).1 in
+        let there : payload ≡ payload_at s.day (next_message s) = here ∙ ap (λ (d : List (List ℕ)). payload_at d n) same ∙ ap (payload_at s.day) next_is in
+        record {
+          more = within_own;
+          applied = ap (outcome s.day) (sym next_is) ∙ sym gave ∙ may.applied;
+          adds = λ locate mine.
+              let code : before.locate ≡ locate = ap (λ (m : StockMachine). m.locate) stands ∙ same_code (sym own_part ∙ ap (part_at s.day) next_is ∙ mine) in
+              subst (λ (l : ℕ). IsTrue (shape_adds_row (Some l) (shape_of (payload_at s.day (next_message s))))) code
+              (subst (λ (p : List ℕ). IsTrue (shape_adds_row (Some before.locate) (shape_of p))) there may.adds);
+        }
+
+-- ---- how far each of its stocks is after a turn
+
+module _ (old new : WorkerState) (t : Turned) (turn : TakesTurn old new (Some t)) where
+  abbrev named : ℕ
+  named = t.piece.message
+
+  named_next : named ≡ get_or (worker_messages old) old.done 0
+  named_next = ap (λ (p : Piece). p.message) turn.0.piece
+
+  reaches : (locate : ℕ) → progress new.day new.workers locate new.done ≡ progress old.day old.workers locate (old.done + 1)
+  reaches locate = ap (λ (s : WorkerState). progress s.day s.workers locate s.done) turn.1
+
+  pub reached : (locate : ℕ) → part_at old.day named ≡ Locate locate → progress new.day new.workers locate new.done ≡ named
+  reached locate mine =
+      let same : locate ≡ get_or (worker_locates old) t.place 0 = same_code (sym mine ∙ turn.0.stock) in
+      reaches locate ∙ ap (λ (l : ℕ). progress old.day old.workers l (old.done + 1)) same
+      ∙ progress_here old named t.place turn.0.more named_next turn.0.within turn.0.stock
+
+  pub stayed : (locate : ℕ) → Contains (worker_locates old) locate → (part_at old.day named ≡ Locate locate → ⊥)
+      → progress new.day new.workers locate new.done ≡ progress old.day old.workers locate old.done
+  stayed locate has other =
+      let code : get_or (worker_locates old) has.0 0 ≡ locate = get_or_default (worker_locates old) has.0 0 locate has.1 ∙ has.2 in
+      let apart : has.0 ≢ t.place = λ same. other (turn.0.stock ∙ ap (λ (k : ℕ). Locate (get_or (worker_locates old) k 0)) (sym same) ∙ ap Locate code) in
+      reaches locate ∙ ap (λ (l : ℕ). progress old.day old.workers l (old.done + 1)) (sym code)
+      ∙ progress_there old named t.place turn.0.more named_next turn.0.within turn.0.stock has.0 has.1 apart
+      ∙ ap (λ (l : ℕ). progress old.day old.workers l old.done) code
 
 -- ---- a worker that has done nothing yet
 

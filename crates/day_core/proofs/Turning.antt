@@ -1,5 +1,5 @@
 -- One worker's turn among all workers of a day, the workers before it, and the stock of one of them.
-use Rattle.std.proofs.Common.{◌≡◌, ℕ, ◌+◌, ◌%◌, ◌<◌, List, length, eqb, get_or, set, map, replicate, refl, sym, ap, subst, ◌∙◌, arith, inl, inr, Option, Some, None}
+use Rattle.std.proofs.Common.{◌≡◌, ℕ, ◌+◌, ◌%◌, ◌<◌, List, length, eqb, get_or, set, map, replicate, refl, sym, ap, ap₂, subst, ◌∙◌, arith, inl, inr, Option, Some, None}
 use Rattle.std.specs.List.{Contains, range_with_len}
 use Rattle.std.proofs.lemmas.Bool.{cases_eq, eq-eqb, eqb-true}
 use Rattle.std.proofs.lemmas.Cmp.{nat_eq_equiv}
@@ -10,10 +10,10 @@ use Rattle.std.proofs.lemmas.List.{get_or-map, get_or-set_same, get_or-set_other
 use Rattle.std.proofs.lemmas.Nat.{mod_below}
 use Rattle.day_core.specs.declared.runner.Turned.{Turned}
 use Rattle.day_core.specs.Cells.{shown}
-use Rattle.day_core.specs.Turns.{AreWorkers, TurnsState, TurnsWorker}
+use Rattle.day_core.specs.Turns.{AreWorkers, MayGrowAt, TurnsState, TurnsWorker}
 use Rattle.day_core.specs.Owners.{machine_of, own_locates, own_of, owner, piece_of, progress}
 use Rattle.day_core.specs.Splitting.{Split}
-use Rattle.day_core.specs.Workers.{TakesTurn, WorkerState, first_state, machine_at, worker_messages, worker_locates}
+use Rattle.day_core.specs.Workers.{MayGrowNext, TakesTurn, WorkerState, first_state, machine_at, worker_messages, worker_locates}
 use Rattle.day_core.proofs.Progress.{progress_within}
 use Rattle.day_core.proofs.Showing.{all_same}
 use Rattle.itch_table.specs.Shows.{Shows, locates_of_day}
@@ -70,6 +70,13 @@ module _ (day : List (List ℕ)) (states : List WorkerState) (k : ℕ) (old new 
     ap (λ (ds : List ℕ). let c : TurnsState = record { day = day; done = ds } in c)
         (map-set (λ (s : WorkerState). s.done) states k new
         ∙ ap (set (map (λ (s : WorkerState). s.done) states) k) (ap (λ (s : WorkerState). s.done) h.1 ∙ ap (λ (d : ℕ). d + 1) (sym done_is))),
+  )
+
+  -- where its turn may need memory, so may that of the day's workers
+  pub grows_at : MayGrowNext old → MayGrowAt (turns_of day states) k
+  grows_at may = (
+    omega (arith, lt, length-map states (λ (s : WorkerState). s.done)),
+    subst MayGrowNext (here ∙ ap₂ (λ (w d : ℕ). at day w k d) (sym (length-map states (λ (s : WorkerState). s.done))) (sym done_is)) may,
   )
 
 -- ---- the stock of a locate code

@@ -1,184 +1,87 @@
--- The pieces of all workers, with those of no stock, name each message once.
-use Rattle.std.proofs.Common.{◌≡◌, ◌≢◌, ℕ, zero, suc, ◌+◌, ◌<◌, ◌≤◌, List, [], ◌∷◌, ◌++◌, length, Bool, true, false, cond, eqb, get_or, take, drop, map, filter, refl, sym, ap, ap₂, subst, ◌∙◌, arith, inl, inr, append-nil}
-use Rattle.std.specs.List.{All, flat_map, range_with_len}
-use Rattle.std.proofs.lemmas.Bool.{cases_eq, eq-eqb, ne_eqb, true≢false}
-use Rattle.std.proofs.lemmas.List.{drop_more, get_or-map, length-map, map-append, take-append-drop}
-use Rattle.std.proofs.lemmas.Grind.{flat_map-append}
-use Rattle.std.proofs.lemmas.List.Elements.{All-append, All-contains}
+-- The outcomes of all workers' messages and of those of no stock, put at their places, are those of the day.
+use Rattle.std.proofs.Common.{◌≡◌, ◌≢◌, ℕ, ◌+◌, ◌-◌, ◌<◌, ◌≤◌, List, length, true, get_or, set, filter, refl, sym, ap, ◌∙◌, arith, inl, inr}
+use Rattle.std.specs.List.{Contains, range_with_len}
+use Rattle.std.proofs.lemmas.Bool.{cases_eq, eq-eqb}
+use Rattle.std.proofs.lemmas.List.{get_or-map, get_or-set_other, get_or-set_same, length-map}
 use Rattle.std.proofs.lemmas.List.FromFn.{get_or-range_with_len, length-range_with_len}
 use Rattle.std.proofs.lemmas.Nat.{mod_below}
 use Rattle.itch_table.specs.declared.outcome.Outcome.{Outcome}
-use Rattle.itch_table.specs.declared.outcome.Outcome.TheVariants.{Passed}
 use Rattle.itch_table.specs.declared.outcome.Part.{Part}
 use Rattle.itch_table.specs.declared.outcome.Part.TheVariants.{Locate, Nowhere}
 use Rattle.itch_table.specs.After.{outcome, outcomes}
 use Rattle.day_core.specs.declared.merging.Piece.{Piece}
-use Rattle.day_core.specs.declared.merging.MergeFault.{MergeFault}
-use Rattle.day_core.specs.declared.merging.MergeFault.TheVariants.{Memory, Double, Stranger, Missing}
-use Rattle.day_core.specs.Merging.{HasMessage, IsMerged, IsMergeFault, joined, named}
 use Rattle.day_core.specs.Owners.{fixed_pieces, is_nowhere, is_own, own_of, owner, part_at, piece_of}
-use Rattle.day_core.specs.Replaying.{all_pieces, each_worker, pieces_by, worker_pieces}
+use Rattle.day_core.specs.Replaying.{HasOutcome, outcomes_by}
 use Rattle.day_core.specs.Splitting.{Split}
-use Rattle.day_core.proofs.Merged.{named-append}
+use Rattle.day_core.proofs.Kept.{kept_there, kept_within}
 use Rattle.day_core.proofs.Running.{map_by_all}
 
--- ---- how often a message is named
+-- one outcome more at its place
+pub placed : (day : List (List ℕ)) (all : List Outcome) (m n : ℕ) (o : Outcome) → 1 ≤ m → m ≤ length all → 1 ≤ n → o ≡ outcome day m
+    → (n ≢ m → HasOutcome day all n) → HasOutcome day (set all (m - 1) o) n
+placed day all m n o some within low is others d = elim (cases_eq n m) [
+  | inl same ↦
+      ap (λ (k : ℕ). get_or (set all (m - 1) o) (k - 1) d) same ∙ get_or-set_same all (m - 1) o d (omega (arith, some, within)) ∙ is
+      ∙ ap (outcome day) (sym same)
+  | inr differ ↦ get_or-set_other all (m - 1) (n - 1) o d (λ e. differ (omega (arith, e, some, low))) ∙ others differ d
+]
 
-named-cons : (n : ℕ) (p : Piece) (ps : List Piece) → named n (p ∷ ps) ≡ cond (eqb p.message n) 1 0 + named n ps
-named-cons n p ps = named-append n (p ∷ []) ps ∙ ap (λ k. k + named n ps) (omega arith)
+-- ---- a worker's messages, and those of no stock
 
-module _ (day : List (List ℕ)) (p : ℕ → Bool) (n : ℕ) where
-  -- not at all where the test doesn't keep it
-  absent : (a count : ℕ) → ((m : ℕ) → a ≤ m → m < a + count → m ≡ n → p m ≡ false) → named n (map (piece_of day) (filter p (range_with_len a count))) ≡ 0
-  absent a zero none = refl
-  absent a (suc count) none =
-      let rest = absent (a + 1) count (λ m low high same. none m (omega arith) (omega arith) same) in
-      let xs = filter p (range_with_len (a + 1) count) in
-      (elim (p a) as (λ (b : Bool). p a ≡ b → named n (map (piece_of day) (cond b (a ∷ xs) xs)) ≡ 0) [
-        | true ↦ λ on.
-            let apart : a ≢ n = λ same. true≢false (sym on ∙ none a (omega arith) (omega arith) same) in
-            named-cons n (piece_of day a) (map (piece_of day) xs) ∙ rw (ne_eqb _ _ apart, rest) refl
-        | false ↦ λ off. rest
-      ]) refl
+pub own_outcome : (split : Split) (worker : ℕ) (outs : List Outcome) (i : ℕ) (d : Outcome) → outs ≡ outcomes_by split worker → i < length (own_of split.workers worker split.day)
+    → get_or outs i d ≡ outcome split.day (get_or (own_of split.workers worker split.day) i 0)
+own_outcome split worker outs i d are lt =
+    ap (λ (os : List Outcome). get_or os i d) are ∙ get_or-map (outcome split.day) (own_of split.workers worker split.day) i 0 d lt
 
-  -- once where it keeps it
-  present : (a count : ℕ) → a ≤ n → n < a + count → p n ≡ true → named n (map (piece_of day) (filter p (range_with_len a count))) ≡ 1
-  present a zero low high on = absurd (omega arith)
-  present a (suc count) low high on =
-      let xs = filter p (range_with_len (a + 1) count) in
-      elim (cases_eq a n) [
-        | inl same ↦
-            let rest = absent (a + 1) count (λ m lo hi is. absurd (omega arith)) in
-            ap (λ (b : Bool). named n (map (piece_of day) (cond b (a ∷ xs) xs))) (ap p same ∙ on)
-            ∙ named-cons n (piece_of day a) (map (piece_of day) xs) ∙ rw (eq-eqb _ _ same, rest) refl
-        | inr differ ↦
-            let rest = present (a + 1) count (omega arith) (omega arith) on in
-            elim (p a) as (λ (b : Bool). named n (map (piece_of day) (cond b (a ∷ xs) xs)) ≡ 1) [
-              | true ↦ named-cons n (piece_of day a) (map (piece_of day) xs) ∙ rw (ne_eqb _ _ differ, rest) refl
-              | false ↦ rest
-            ]
-      ]
+pub own_listed : (workers worker : ℕ) (day : List (List ℕ)) (m : ℕ) → 1 ≤ m → m ≤ length day → is_own workers worker (part_at day m) ≡ true
+    → Contains (own_of workers worker day) m
+unfolding own_of
+own_listed workers worker day m some within on = kept_there (λ n. is_own workers worker (part_at day n)) (length day) m some within on
 
-module _ (split : Split) (n : ℕ) where
-  by_absent : (worker : ℕ) → (HasMessage (length split.day) n → is_own split.workers worker (part_at split.day n) ≡ false) → named n (pieces_by split worker) ≡ 0
-  unfolding own_of
-  by_absent worker none =
-      absent split.day (λ m. is_own split.workers worker (part_at split.day m)) n 1 (length split.day)
-      (λ m low high same. ap (λ k. is_own split.workers worker (part_at split.day k)) same ∙ none (omega arith, omega arith))
+abbrev of_none : List (List ℕ) → List ℕ
+of_none day = filter (λ n. is_nowhere (part_at day n)) (range_with_len 1 (length day))
 
-  by_present : (worker : ℕ) → HasMessage (length split.day) n → is_own split.workers worker (part_at split.day n) ≡ true → named n (pieces_by split worker) ≡ 1
-  unfolding own_of
-  by_present worker has own = present split.day (λ m. is_own split.workers worker (part_at split.day m)) n 1 (length split.day) has.0 (omega (arith, has.1)) own
+-- a message of no stock at an index of the list
+pub record IsFixed (day : List (List ℕ)) (piece : Piece) : Type 0 where
+  pub some : 1 ≤ piece.message
+  pub within : piece.message ≤ length day
+  pub has : piece.outcome ≡ outcome day piece.message
 
-  all_absent : (a count : ℕ) → ((k : ℕ) → HasMessage (length split.day) n → is_own split.workers k (part_at split.day n) ≡ false)
-      → named n (flat_map (pieces_by split) (range_with_len a count)) ≡ 0
-  all_absent a zero none = refl
-  all_absent a (suc count) none =
-      named-append n (pieces_by split a) (flat_map (pieces_by split) (range_with_len (a + 1) count))
-      ∙ ap₂ ◌+◌ (by_absent a (none a)) (all_absent (a + 1) count none)
-
-  all_present : (a count owner : ℕ) → a ≤ owner → owner < a + count → HasMessage (length split.day) n → is_own split.workers owner (part_at split.day n) ≡ true
-      → ((k : ℕ) → k ≢ owner → is_own split.workers k (part_at split.day n) ≡ false)
-      → named n (flat_map (pieces_by split) (range_with_len a count)) ≡ 1
-  all_present a zero owner low high has own others = absurd (omega arith)
-  all_present a (suc count) owner low high has own others =
-      named-append n (pieces_by split a) (flat_map (pieces_by split) (range_with_len (a + 1) count))
-      ∙ elim (cases_eq a owner) [
-        | inl same ↦
-            ap₂ ◌+◌ (by_present a has (ap (λ k. is_own split.workers k (part_at split.day n)) same ∙ own))
-            (past (a + 1) count (omega arith))
-        | inr differ ↦ ap₂ ◌+◌ (by_absent a (λ h. others a differ)) (all_present (a + 1) count owner (omega arith) (omega arith) has own others)
-      ]
-    where
-      past : (from more : ℕ) → owner < from → named n (flat_map (pieces_by split) (range_with_len from more)) ≡ 0
-      past from zero above = refl
-      past from (suc more) above =
-          named-append n (pieces_by split from) (flat_map (pieces_by split) (range_with_len (from + 1) more))
-          ∙ ap₂ ◌+◌ (by_absent from (λ h. others from (λ e. absurd (omega arith)))) (past (from + 1) more (omega arith))
-
-  fixed_absent : (HasMessage (length split.day) n → is_nowhere (part_at split.day n) ≡ false) → named n (fixed_pieces split.day) ≡ 0
-  unfolding fixed_pieces
-  fixed_absent none =
-      absent split.day (λ m. is_nowhere (part_at split.day m)) n 1 (length split.day)
-      (λ m low high same. ap (λ k. is_nowhere (part_at split.day k)) same ∙ none (omega arith, omega arith))
-
-  fixed_present : HasMessage (length split.day) n → is_nowhere (part_at split.day n) ≡ true → named n (fixed_pieces split.day) ≡ 1
-  unfolding fixed_pieces
-  fixed_present has on = present split.day (λ m. is_nowhere (part_at split.day m)) n 1 (length split.day) has.0 (omega (arith, has.1)) on
-
-once_at : (split : Split) (n : ℕ) (part : Part) → 0 < split.workers → part_at split.day n ≡ part → HasMessage (length split.day) n → named n (all_pieces split) ≡ 1
-once_at split n (Locate locate) some is has =
-    named-append n (worker_pieces split) (fixed_pieces split.day)
-    ∙ ap₂ ◌+◌
-    (all_present split n 0 split.workers (owner split.workers locate) (omega arith) (omega (arith, mod_below locate split.workers some)) has
-    (rw is (eq-eqb _ _ refl)) (λ k differ. rw is (ne_eqb _ _ (λ e. differ (sym e)))))
-    (fixed_absent split n (λ h. rw is refl))
-once_at split n (Nowhere fixed) some is has =
-    named-append n (worker_pieces split) (fixed_pieces split.day)
-    ∙ ap₂ ◌+◌ (all_absent split n 0 split.workers (λ k h. rw is refl)) (fixed_present split n has (rw is refl))
-
-never_at : (split : Split) (n : ℕ) → ¬ HasMessage (length split.day) n → named n (all_pieces split) ≡ 0
-never_at split n none =
-    named-append n (worker_pieces split) (fixed_pieces split.day)
-    ∙ ap₂ ◌+◌ (all_absent split n 0 split.workers (λ k h. absurd (none h))) (fixed_absent split n (λ h. absurd (none h)))
-
--- of the lists of all workers and one more
-pub joined_all : {V : Type 0} (items : V → List Piece) (split : Split) (lists : List V) (fixed : V) → map items lists ≡ each_worker (pieces_by split) split → items fixed ≡ fixed_pieces split.day
-    → joined (map items (lists ++ fixed ∷ [])) ≡ all_pieces split
-joined_all items split lists fixed are is =
-    ap joined (map-append items lists (fixed ∷ [])) ∙ flat_map-append (λ (l : List Piece). l) (map items lists) (items fixed ∷ [])
-    ∙ ap₂ (λ (a b : List Piece). a ++ b) (ap joined are ∙ joined_map (pieces_by split) (range_with_len 0 split.workers)) (append-nil (items fixed) ∙ is)
-  where
-    joined_map : (f : ℕ → List Piece) (ns : List ℕ) → joined (map f ns) ≡ flat_map f ns
-    joined_map f [] = refl
-    joined_map f (n ∷ ns) = ap (λ (ps : List Piece). f n ++ ps) (joined_map f ns)
-
--- ---- so `merge` finds no fault
-
--- a piece and those before it are among all
-named_before : (n : ℕ) (ps : List Piece) (i : ℕ) (d : Piece) → i < length ps → (get_or ps i d).message ≡ n → named n (take i ps) + 1 ≤ named n ps
-named_before n ps i d lt same =
-    let rest = drop (i + 1) ps in
-    let whole : named n ps ≡ named n (take i ps) + named n (get_or ps i d ∷ rest) =
-    ap (named n) (sym (take-append-drop i ps) ∙ ap (λ (l : List Piece). take i ps ++ l) (drop_more ps i d lt)) ∙ named-append n (take i ps) (get_or ps i d ∷ rest)
-    in
-    let here : named n (get_or ps i d ∷ rest) ≡ 1 + named n rest = named-cons n (get_or ps i d) rest ∙ ap (λ (b : Bool). cond b 1 0 + named n rest) (eq-eqb _ _ same) in
-    omega (arith, whole, here)
-
-pub no_fault : (split : Split) (fault : MergeFault) → 0 < split.workers → IsMergeFault (length split.day) (all_pieces split) fault → fault ≡ Memory
-no_fault split Memory some faulty = refl
-no_fault split (Double n) some faulty =
-    let bad = faulty.faulty (record { message = 0; outcome = Passed }) in
-    let more = named_before n (all_pieces split) faulty.place _ faulty.within (sym bad.0) in
-    absurd (omega (arith, once_at split n (part_at split.day n) some refl bad.1, bad.2, more))
-no_fault split (Stranger n) some faulty =
-    let bad = faulty.faulty (record { message = 0; outcome = Passed }) in
-    let more = named_before n (all_pieces split) faulty.place _ faulty.within (sym bad.0) in
-    absurd (omega (arith, never_at split n bad.1, more))
-no_fault split (Missing n) some faulty = absurd (omega (arith, once_at split n (part_at split.day n) some refl faulty.inside, faulty.none))
-
--- ---- and the outcomes are those of the day
-
-abbrev IsOf : List (List ℕ) → Piece → Type 0
-IsOf day piece = piece.outcome ≡ outcome day piece.message
-
-all_of : (day : List (List ℕ)) (ns : List ℕ) → All (IsOf day) (map (piece_of day) ns)
-all_of day ns i d lt = let here = get_or-map (piece_of day) ns i 0 d (omega (arith, length-map ns (piece_of day))) in subst (IsOf day) (sym here) refl
-
-by_of : (split : Split) (a count : ℕ) → All (IsOf split.day) (flat_map (pieces_by split) (range_with_len a count))
-by_of split a zero = λ i d lt. absurd (omega arith)
-by_of split a (suc count) = All-append (IsOf split.day) (pieces_by split a) _ (all_of split.day (own_of split.workers a split.day)) (by_of split (a + 1) count)
-
-fixed_of : (day : List (List ℕ)) → All (IsOf day) (fixed_pieces day)
+pub fixed_at : (day : List (List ℕ)) (i : ℕ) (d : Piece) → i < length (fixed_pieces day) → IsFixed day (get_or (fixed_pieces day) i d)
 unfolding fixed_pieces
-fixed_of day = all_of day _
+fixed_at day i d lt =
+    let inside : i < length (of_none day) = omega (arith, lt, length-map (of_none day) (piece_of day)) in
+    let low = kept_within (λ n. is_nowhere (part_at day n)) 1 (length day) i 0 inside in
+    let here = get_or-map (piece_of day) (of_none day) i 0 d inside in
+    rw here (record { some = omega (arith, low); within = omega (arith, low); has = refl })
 
-pub outcomes_merged : (split : Split) (all : List Outcome) → IsMerged (length split.day) (all_pieces split) all → all ≡ outcomes split.day
-outcomes_merged split all merged =
-    map_by_all (outcome split.day) (range_with_len 1 (length split.day)) all (merged.long ∙ sym (length-range_with_len 1 (length split.day)))
+pub fixed_listed : (day : List (List ℕ)) (m : ℕ) → 1 ≤ m → m ≤ length day → is_nowhere (part_at day m) ≡ true
+    → (i : ℕ) × (i < length (fixed_pieces day)) × ((d : Piece) → (get_or (fixed_pieces day) i d).message ≡ m)
+unfolding fixed_pieces
+fixed_listed day m some within on =
+    let at = kept_there (λ n. is_nowhere (part_at day n)) (length day) m some within on in (
+      at.0,
+      omega (arith, at.1, length-map (of_none day) (piece_of day)),
+      λ d. ap (λ (p : Piece). p.message) (get_or-map (piece_of day) (of_none day) at.0 m d at.1) ∙ at.2,
+    )
+
+-- ---- all messages
+
+-- each is of one worker, or of none
+pub of_one : (split : Split) (m : ℕ) (P : Type 0) → 0 < split.workers
+    → ((worker : ℕ) → worker < split.workers → is_own split.workers worker (part_at split.day m) ≡ true → P)
+    → (is_nowhere (part_at split.day m) ≡ true → P) → P
+of_one split m P some own fixed = by_part (part_at split.day m) refl
+  where
+    by_part : (part : Part) → part_at split.day m ≡ part → P
+    by_part (Locate locate) is = own (owner split.workers locate) (omega (arith, mod_below locate split.workers some)) (rw is (eq-eqb _ _ refl))
+    by_part (Nowhere o) is = fixed (rw is refl)
+
+pub all_are : (day : List (List ℕ)) (all : List Outcome) → length all ≡ length day → ((m : ℕ) → 1 ≤ m → m ≤ length day → HasOutcome day all m) → all ≡ outcomes day
+all_are day all long each =
+    map_by_all (outcome day) (range_with_len 1 (length day)) all (long ∙ sym (length-range_with_len 1 (length day)))
     (λ k d lt.
-    let within : k < length split.day = omega (arith, lt, length-range_with_len 1 (length split.day)) in
-    let listed = (merged.each k d within).1 in
-    let of = All-contains (IsOf split.day) (all_pieces split) _ (All-append (IsOf split.day) (worker_pieces split) (fixed_pieces split.day) (by_of split 0 split.workers) (fixed_of split.day)) listed in
-    let number : k + 1 ≡ get_or (range_with_len 1 (length split.day)) k 0 = omega (arith, get_or-range_with_len 1 (length split.day) k 0 within) in
-    of ∙ ap (outcome split.day) number)
+    let within : k < length day = omega (arith, lt, length-range_with_len 1 (length day)) in
+    let number : k + 1 ≡ get_or (range_with_len 1 (length day)) k 0 = omega (arith, get_or-range_with_len 1 (length day) k 0 within) in
+    let at : k + 1 - 1 ≡ k = omega arith in
+    ap (λ (i : ℕ). get_or all i d) (sym at) ∙ each (k + 1) (omega arith) (omega (arith, within)) d ∙ ap (outcome day) number)

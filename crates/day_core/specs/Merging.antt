@@ -88,7 +88,7 @@ AreFilled slots outcomes =
 
 -- the first slot that is empty
 abbrev pub IsEmptyAt : List (Option Outcome) → MergeFault → Type 0
-IsEmptyAt slots Memory = Unit {0}
+IsEmptyAt slots Memory = ⊥
 IsEmptyAt slots (Double message) = ⊥
 IsEmptyAt slots (Stranger message) = ⊥
 IsEmptyAt slots (Missing message) =

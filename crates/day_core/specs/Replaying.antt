@@ -1,13 +1,12 @@
 -- What the workers of a day make of all of it. Of this project.
-use Rattle.std.specs.Prelude.{◌≡◌, ◌++◌, ℕ, List, Option, length, map}
-use Rattle.std.specs.List.{flat_map, range_with_len}
+use Rattle.std.specs.Prelude.{◌≡◌, ◌-◌, ℕ, List, Option, length, map, slice_index_or}
+use Rattle.std.specs.List.{range_with_len}
 use Rattle.itch_table.specs.declared.outcome.Outcome.{Outcome}
-use Rattle.itch_table.specs.After.{after, outcomes}
+use Rattle.itch_table.specs.After.{after, outcome, outcomes}
 use Rattle.itch_table.specs.Shows.{locates_of_day}
 use Rattle.stock_machine.specs.StockRows.{StockMachine}
-use Rattle.day_core.specs.Owners.{fixed_pieces, machine_of, own_locates, own_of, piece_of}
+use Rattle.day_core.specs.Owners.{machine_of, own_locates, own_of}
 use Rattle.day_core.specs.Splitting.{Split}
-use Rattle.day_core.specs.declared.merging.Piece.{Piece}
 
 -- a stock's machine after the whole day
 abbrev pub last_machine : List (List ℕ) → ℕ → StockMachine
@@ -21,17 +20,13 @@ pub record IsReplayed (day : List (List ℕ)) (all : List Outcome) (stocks : Lis
   pub stocks_are : stocks ≡ map (last_machine day) (locates_of_day day)
   pub event_is : event ≡ (after day (length day)).event
 
--- a worker's messages with their outcomes, by rising number
-abbrev pub pieces_by : Split → ℕ → List Piece
-pieces_by split worker = map (piece_of split.day) (own_of split.workers worker split.day)
+-- the outcomes of a worker's messages, by the messages' rising numbers
+abbrev pub outcomes_by : Split → ℕ → List Outcome
+outcomes_by split worker = map (outcome split.day) (own_of split.workers worker split.day)
 
--- the messages of all workers with their outcomes, worker by worker
-abbrev pub worker_pieces : Split → List Piece
-worker_pieces split = flat_map (pieces_by split) (range_with_len 0 split.workers)
-
--- the messages of all workers and of no stock with their outcomes
-abbrev pub all_pieces : Split → List Piece
-all_pieces split = worker_pieces split ++ fixed_pieces split.day
+-- in a list with a place for each message of a day the outcome of this one, counted from 1, stands at its place
+abbrev pub HasOutcome : List (List ℕ) → List Outcome → ℕ → Type 0
+HasOutcome day all message = (d : Outcome) → slice_index_or all (message - 1) d ≡ outcome day message
 
 -- a value for each of a worker's stocks, by rising locate code
 abbrev pub for_own_stocks : {T : Type 0} → (ℕ → T) → Split → ℕ → List T

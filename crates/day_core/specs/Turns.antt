@@ -2,7 +2,7 @@
 use Rattle.std.specs.Prelude.{◌≡◌, ◌+◌, ◌<◌, ℕ, List, Option, Some, None, length, slice_index, slice_index_or, slice_set}
 use Rattle.day_core.specs.declared.merging.Piece.{Piece}
 use Rattle.day_core.specs.Owners.{own_of, owner, piece_of, progress}
-use Rattle.day_core.specs.Workers.{WorkerState, state_in}
+use Rattle.day_core.specs.Workers.{MayGrowNext, WorkerState, state_in}
 
 -- a day, and how many of its own messages each of its workers has done
 pub record TurnsState : Type 0 where
@@ -21,6 +21,15 @@ messages_of turns worker = own_of (workers_of turns) worker turns.day
 abbrev pub progress_in : TurnsState → ℕ → ℕ
 progress_in turns locate =
     progress turns.day (workers_of turns) locate (slice_index turns.done (owner (workers_of turns) locate))
+
+-- how far one of the workers is
+abbrev pub worker_in : TurnsState → ℕ → WorkerState
+worker_in turns worker =
+    state_in (record { day = turns.day; workers = workers_of turns }) worker (slice_index turns.done worker)
+
+-- a turn may need memory: there is this worker, and its next message may need a new row
+abbrev pub MayGrowAt : TurnsState → ℕ → Type 0
+MayGrowAt turns worker = (worker < workers_of turns) × MayGrowNext (worker_in turns worker)
 
 -- a turn does the next message of its worker, and of no other; or nothing, exactly where the worker has done all
 -- of its messages or isn't one

@@ -1,6 +1,11 @@
 -- Where a worker stands in a day: how many of its own messages it has done says all. Of this project.
-use Rattle.std.specs.Prelude.{◌≡◌, ◌+◌, ◌<◌, ◌≤◌, ℕ, List, Option, Some, None, length, map, slice_index}
+use Rattle.std.specs.Prelude.{◌≡◌, ◌+◌, ◌<◌, ◌≤◌, ℕ, IsTrue, List, Option, Some, None, length, map, slice_index}
+use Rattle.itch_layouts.specs.Shapes.{shape_of}
+use Rattle.itch_table.specs.declared.outcome.Outcome.TheVariants.{Applied}
 use Rattle.itch_table.specs.declared.outcome.Part.TheVariants.{Locate}
+use Rattle.itch_table.specs.After.{outcome}
+use Rattle.itch_table.specs.Machine.{shape_adds_row}
+use Rattle.itch_table.specs.Projection.{payload_at}
 use Rattle.itch_table.specs.World.{empty_world}
 use Rattle.stock_machine.specs.StockRows.{StockMachine}
 use Rattle.day_core.specs.Owners.{machine_of, own_locates, own_of, part_at, piece_of, progress}
@@ -31,6 +36,10 @@ first_state split worker = state_in split worker 0
 abbrev pub worker_messages : WorkerState → List ℕ
 worker_messages s = own_of s.workers s.worker s.day
 
+-- the worker's next message, where it has one
+abbrev pub next_message : WorkerState → ℕ
+next_message s = slice_index (worker_messages s) s.done
+
 -- the locate codes of the worker's stocks, rising
 abbrev pub worker_locates : WorkerState → List ℕ
 worker_locates s = own_locates s.workers s.worker s.day
@@ -47,7 +56,7 @@ new_machine locate = record { locate = locate; world = empty_world; steps = 0 }
 -- stocks it is of
 pub record IsTurned (s : WorkerState) (turned : Turned) : Type 0 where
   pub more : s.done < length (worker_messages s)
-  pub piece : turned.piece ≡ piece_of s.day (slice_index (worker_messages s) s.done)
+  pub piece : turned.piece ≡ piece_of s.day (next_message s)
   pub within : turned.place < length (worker_locates s)
   pub stock : part_at s.day turned.piece.message ≡ Locate (slice_index (worker_locates s) turned.place)
 
@@ -55,6 +64,13 @@ pub record IsTurned (s : WorkerState) (turned : Turned) : Type 0 where
 abbrev pub TakesTurn : WorkerState → WorkerState → Option Turned → Type 0
 TakesTurn old new None = (old.done ≡ length (worker_messages old)) × (new ≡ old)
 TakesTurn old new (Some turned) = IsTurned old turned × (new ≡ record old { done = old.done + 1 })
+
+-- a turn may need memory: a message is left, it would be applied, and its kind may need a new row of its stock
+pub record MayGrowNext (s : WorkerState) : Type 0 where
+  pub more : s.done < length (worker_messages s)
+  pub applied : outcome s.day (next_message s) ≡ Applied
+  pub adds : (locate : ℕ) → part_at s.day (next_message s) ≡ Locate locate
+      → IsTrue (shape_adds_row (Some locate) (shape_of (payload_at s.day (next_message s))))
 
 -- what a runner keeps: its messages, its stocks' locate codes, and their machines as far as it has come
 pub record IsRunner (s : WorkerState) (own locates : List ℕ) (stocks : List StockMachine) : Type 0 where

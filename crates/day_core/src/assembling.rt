@@ -1,10 +1,9 @@
 //! What the workers of a day made of it, put together.
-ghost use Rattle.std.specs.Prelude.{◌≡◌, ◌<◌, IfOk, map};
+ghost use Rattle.std.specs.Prelude.{◌≡◌, ◌≤◌, ℕ, true, IfOk, length, map};
 ghost use Rattle.itch_table.specs.After.{outcomes};
-ghost use Rattle.day_core.specs.Merging.{joined};
-ghost use Rattle.day_core.specs.Replaying.{IsReplayed, all_pieces, each_worker, for_own_stocks, last_machine, pieces_by};
+ghost use Rattle.day_core.specs.Owners.{is_nowhere, is_own, part_at};
+ghost use Rattle.day_core.specs.Replaying.{HasOutcome, IsReplayed, each_worker, for_own_stocks, last_machine, outcomes_by};
 
-use crate::merging::{MergeFault, Piece, merge};
 use crate::ordering::in_order;
 use crate::parts::Parts;
 use binaryfile::Day;
@@ -24,48 +23,65 @@ pub struct ReplayedDay<A: Allocator> {
     pub event: Option<u8>,
 }
 
-// What became of the messages of all workers, and of those of no stock.
-fn all_lists<A: Allocator + Copy>(
-    alloc: A,
+// Puts the outcomes of a worker's messages at their places among those of the day; those of others that stand at theirs
+// stay there.
+fn place_own<A: Allocator>(
+    all: &mut Vec<Outcome, A>,
     parts: &Parts<A>,
-    pieces: Vec<Vec<Piece, A>, A>,
-) -> Result<Vec<Vec<Piece, A>, A>, AllocError>
-    requires { map (λ own. own.items) pieces.items ≡ each_worker (pieces_by parts.now) parts.now }
-    ensures { IfOk result (λ lists.
-        joined (map (λ list. list.items) lists.items) ≡ all_pieces parts.now) }
+    worker: u32,
+    outcomes: &[Outcome],
+)
+    requires long { length all.old.items ≡ length parts.now.day }
+    requires outcomes { outcomes.now ≡ outcomes_by parts.now worker }
+    ensures long { length all.new.items ≡ length all.old.items }
+    ensures own { (message : ℕ) → 1 ≤ message → message ≤ length parts.now.day
+        → is_own parts.now.workers worker (part_at parts.now.day message) ≡ true
+        → HasOutcome parts.now.day all.new.items message }
+    ensures others { (message : ℕ) → 1 ≤ message
+        → HasOutcome parts.now.day all.old.items message → HasOutcome parts.now.day all.new.items message }
 {
-    let mut lists = pieces;
-    let fixed = parts.fixed().to_vec(alloc)?;
-    lists.push(fixed)?;
-    Ok(lists)
+    for (index, message) in parts.own(worker).iter().enumerate() {
+        all[*message as usize - 1] = outcomes[index];
+    }
 }
 
-// The outcomes of all messages, of what became of those of each worker.
+// The same of the messages of no stock.
+fn place_fixed<A: Allocator>(all: &mut Vec<Outcome, A>, parts: &Parts<A>)
+    requires { length all.old.items ≡ length parts.now.day }
+    ensures long { length all.new.items ≡ length all.old.items }
+    ensures fixed { (message : ℕ) → 1 ≤ message → message ≤ length parts.now.day
+        → is_nowhere (part_at parts.now.day message) ≡ true
+        → HasOutcome parts.now.day all.new.items message }
+    ensures others { (message : ℕ) → 1 ≤ message
+        → HasOutcome parts.now.day all.old.items message → HasOutcome parts.now.day all.new.items message }
+{
+    for piece in parts.fixed() {
+        all[piece.message as usize - 1] = piece.outcome;
+    }
+}
+
+// The outcomes of all messages, of those that each worker's messages had.
 fn all_outcomes<A: Allocator + Copy>(
     alloc: A,
     parts: &Parts<A>,
     day: &Day<A>,
-    pieces: Vec<Vec<Piece, A>, A>,
+    by_worker: &[Vec<Outcome, A>],
 ) -> Result<Vec<Outcome, A>, AllocError>
     requires day { day.now.payloads ≡ parts.now.day }
-    requires some { 0 < parts.now.workers }
-    requires pieces { map (λ own. own.items) pieces.items ≡ each_worker (pieces_by parts.now) parts.now }
+    requires outcomes { map (λ own. own.items) by_worker.now ≡ each_worker (outcomes_by parts.now) parts.now }
     ensures { IfOk result (λ all. all.items ≡ outcomes parts.now.day) }
 {
-    let lists = all_lists(alloc, parts, pieces)?;
-    match merge(alloc, day.len(), lists) {
-        Ok(all) => Ok(all),
-        // Each message is named once, so that no other fault can come.
-        Err(fault) => {
-            prove!(matches!(fault, MergeFault::Memory));
-            Err(AllocError)
-        }
+    let mut all = vec![in alloc; Outcome::Passed; day.len() as usize]?;
+    for worker in 0..parts.workers() {
+        place_own(&mut all, parts, worker, &by_worker[worker as usize]);
     }
+    place_fixed(&mut all, parts);
+    Ok(all)
 }
 
 /// Puts together what the workers of a day made of it. The caller hands the day that was split, and for each worker,
-/// in the order of their numbers, the outcomes of its messages, by rising number, and the machines of its stocks after
-/// all of them, by rising locate code.
+/// in the order of their numbers, the outcomes of its messages, by their rising numbers, and the machines of its stocks
+/// after all of them, by rising locate code.
 ///
 /// What it answers is the same for every number of workers. An error says that memory was refused. The parts are of
 /// this project.
@@ -73,18 +89,18 @@ pub fn assemble<A: Allocator + Copy>(
     alloc: A,
     parts: &Parts<A>,
     day: &Day<A>,
-    pieces: Vec<Vec<Piece, A>, A>,
+    outcomes: Vec<Vec<Outcome, A>, A>,
     stocks: Vec<VecDeque<Stock<A>, A>, A>,
 ) -> Result<ReplayedDay<A>, AllocError>
     requires day { day.now.payloads ≡ parts.now.day }
-    requires pieces { map (λ own. own.items) pieces.items ≡ each_worker (pieces_by parts.now) parts.now }
+    requires outcomes { map (λ own. own.items) outcomes.items ≡ each_worker (outcomes_by parts.now) parts.now }
     requires stocks { map (λ own. own.items) stocks.items
         ≡ each_worker (for_own_stocks (last_machine parts.now.day) parts.now) parts.now }
     ensures { IfOk result (λ replayed. IsReplayed day.now.payloads
         replayed.outcomes.items replayed.stocks.items replayed.event) }
 {
     let stocks = in_order(alloc, parts, stocks)?;
-    let outcomes = all_outcomes(alloc, parts, day, pieces)?;
+    let outcomes = all_outcomes(alloc, parts, day, &outcomes)?;
     Ok(ReplayedDay {
         outcomes,
         stocks,

@@ -1,5 +1,6 @@
 //! The outcomes of a day, put together of pieces.
-ghost use Rattle.std.specs.Prelude.{◌≡◌, ◌++◌, ◌∷◌, ◌<◌, ◌^◌, List, [], IfErr, IfOk, MatchResult, length, map};
+ghost use Rattle.std.specs.Prelude.{◌≡◌, ◌++◌, ◌∷◌, ◌<◌, ◌≤◌, ◌^◌, List, [], IfErr, IfOk, MatchResult, length, map};
+ghost use Rattle.std.specs.Vec.{vec_capacity};
 ghost use Rattle.day_core.specs.Merging.{AreFilled, Found, Holds, IsEmptyAt, IsFaulty, IsMergeFault, IsMerged, joined};
 ghost use Rattle.day_core.specs.declared.merging.MergeFault.TheVariants.{Memory};
 ghost use Rattle.day_core.specs.declared.merging.Piece.{Piece};
@@ -76,23 +77,22 @@ fn place_all<A: Allocator + Copy>(
     Ok(())
 }
 
-// The outcomes in the slots, where each has one.
+// The outcomes in the slots, where each has one. There is room for them.
 fn gathered<A: Allocator + Copy>(
-    alloc: A,
+    room: Vec<Outcome, A>,
     slots: &[Option<Outcome>],
 ) -> Result<Vec<Outcome, A>, MergeFault>
-    requires { length slots.now < 2 ^ 32 }
+    requires few { length slots.now < 2 ^ 32 }
+    requires room { (room.items ≡ []) × (length slots.now ≤ vec_capacity room) }
     ensures ok { IfOk result (λ outcomes. AreFilled slots.now outcomes.items) }
     ensures missing { IfErr result (IsEmptyAt slots.now) }
 {
-    let mut outcomes = Vec::with_capacity(alloc, slots.len())?;
+    let mut outcomes = room;
     for (before, slot) in slots.iter().enumerate() {
         let Some(outcome) = *slot else {
             return Err(MergeFault::Missing(before as u32 + 1));
         };
-        if outcomes.push(outcome).is_err() {
-            return Err(MergeFault::Memory);
-        }
+        outcomes.push(outcome).unwrap();
     }
     Ok(outcomes)
 }
@@ -101,8 +101,8 @@ fn gathered<A: Allocator + Copy>(
 ///
 /// The first faulty piece, in the order of the lists and in each of its own, is the fault: [`MergeFault::Double`] or
 /// [`MergeFault::Stranger`]. Where all pieces are sound and a message has none, the least such message is
-/// [`MergeFault::Missing`]. [`MergeFault::Memory`] where memory is refused: before the pieces are looked at, or after
-/// all were found sound. The order of the faults is of this project.
+/// [`MergeFault::Missing`]. [`MergeFault::Memory`] where memory is refused: all of it is taken before the pieces are
+/// looked at. The order of the faults is of this project.
 pub fn merge<A: Allocator + Copy>(
     alloc: A,
     messages: u32,
@@ -113,10 +113,11 @@ pub fn merge<A: Allocator + Copy>(
     ensures fault { IfErr result (IsMergeFault messages (joined (map (λ list. list.items) pieces.items))) }
 {
     let mut slots = vec![in alloc; None; messages as usize]?;
+    let outcomes = Vec::with_capacity(alloc, messages as usize)?;
     for list in &pieces {
         if let Err(fault) = place_all(&mut slots, list) {
             return Err(fault);
         }
     }
-    gathered(alloc, &slots)
+    gathered(outcomes, &slots)
 }

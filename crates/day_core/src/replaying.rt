@@ -1,12 +1,12 @@
 //! The parts of a day, one after another.
-ghost use Rattle.std.specs.Prelude.{◌≡◌, ◌<◌, IfOk};
-ghost use Rattle.day_core.specs.Replaying.{IsReplayed, for_own_stocks, last_machine, pieces_by};
+ghost use Rattle.std.specs.Prelude.{◌≡◌, IfOk};
+ghost use Rattle.day_core.specs.Replaying.{IsReplayed, for_own_stocks, last_machine, outcomes_by};
 
 use crate::assembling::{ReplayedDay, assemble};
-use crate::merging::Piece;
 use crate::parts::Parts;
 use crate::runner::Runner;
 use binaryfile::Day;
+use itch_table::Outcome;
 use std::alloc::{AllocError, Allocator};
 use std::collections::VecDeque;
 use stock_machine::Stock;
@@ -17,19 +17,18 @@ fn replay_part<A: Allocator + Copy>(
     parts: &Parts<A>,
     day: &Day<A>,
     worker: u32,
-) -> Result<(Vec<Piece, A>, VecDeque<Stock<A>, A>), AllocError>
+) -> Result<(Vec<Outcome, A>, VecDeque<Stock<A>, A>), AllocError>
     requires day { day.now.payloads ≡ parts.now.day }
-    requires worker { worker < parts.now.workers }
-    ensures pieces { IfOk result (λ made. made.0.items ≡ pieces_by parts.now worker) }
+    ensures outcomes { IfOk result (λ made. made.0.items ≡ outcomes_by parts.now worker) }
     ensures stocks { IfOk result (λ made.
         made.1.items ≡ for_own_stocks (last_machine parts.now.day) parts.now worker) }
 {
     let mut runner = Runner::new(alloc, parts, worker)?;
-    let mut pieces = Vec::with_capacity(alloc, parts.own(worker).len())?;
+    let mut outcomes = Vec::with_capacity(alloc, parts.own(worker).len())?;
     while let Some(turned) = runner.turn(day)? {
-        pieces.push(turned.piece)?;
+        outcomes.push(turned.piece.outcome)?;
     }
-    Ok((pieces, VecDeque::from_vec(runner.into_stocks())))
+    Ok((outcomes, VecDeque::from_vec(runner.into_stocks())))
 }
 
 /// Replays a day by its parts, one worker after another, and puts together what they made. The caller hands the day
@@ -48,12 +47,12 @@ pub fn replay_parts<A: Allocator + Copy>(
         replayed.outcomes.items replayed.stocks.items replayed.event) }
 {
     let workers = parts.workers();
-    let mut pieces = Vec::with_capacity(alloc, workers as usize)?;
+    let mut outcomes = Vec::with_capacity(alloc, workers as usize)?;
     let mut stocks = Vec::with_capacity(alloc, workers as usize)?;
     for worker in 0..workers {
-        let (own_pieces, own_stocks) = replay_part(alloc, parts, day, worker)?;
-        pieces.push(own_pieces)?;
+        let (own_outcomes, own_stocks) = replay_part(alloc, parts, day, worker)?;
+        outcomes.push(own_outcomes)?;
         stocks.push(own_stocks)?;
     }
-    assemble(alloc, parts, day, pieces, stocks)
+    assemble(alloc, parts, day, outcomes, stocks)
 }

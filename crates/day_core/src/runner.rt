@@ -4,7 +4,7 @@ ghost use Rattle.std.specs.List.{Contains};
 ghost use Rattle.itch_table.specs.declared.outcome.Part.TheVariants.{Locate};
 ghost use Rattle.itch_table.specs.Projection.{payload_at};
 ghost use Rattle.day_core.specs.Owners.{is_own, own_locates, part_at};
-ghost use Rattle.day_core.specs.Workers.{TakesTurn, first_state, machine_at, new_machine, worker_locates, worker_messages};
+ghost use Rattle.day_core.specs.Workers.{MayGrowNext, TakesTurn, first_state, machine_at, new_machine, worker_locates, worker_messages};
 
 use crate::merging::Piece;
 use crate::parts::Parts;
@@ -109,10 +109,9 @@ fn message_of<'d, A: Allocator>(
 }
 
 impl<A: Allocator + Copy> Runner<A> {
-    /// A worker that has done nothing yet. The caller hands a worker below `parts.workers()`; workers are numbered from
-    /// 0. An error says that memory was refused.
+    /// A worker that has done nothing yet. Workers are numbered from 0; a number from `parts.workers()` on has no
+    /// messages and no stocks. An error says that memory was refused.
     pub fn new(alloc: A, parts: &Parts<A>, worker: u32) -> Result<Runner<A>, AllocError>
-        requires { worker < parts.now.workers }
         ensures { IfOk result (λ runner. runner ≡ first_state parts.now worker) }
     {
         let messages = parts.own(worker);
@@ -134,14 +133,15 @@ impl<A: Allocator + Copy> Runner<A> {
     /// Does the worker's next message on the machine of its stock, and answers what became of it; none, with nothing
     /// changed, exactly where the worker has done all of them. The caller hands the day that was split.
     ///
-    /// An error says that memory was refused, and leaves the worker as it was, so that its next turn tries the same
-    /// message. The stock's best bid and ask after the message are those of its machine: `stock_at(turned.place)`.
+    /// An error says that memory was refused, which comes only where a message is left that would be applied and may
+    /// need a new order or trade. It leaves the worker as it was, so that its next turn tries the same message. The stock's best bid and ask after the message are those of its machine: `stock_at(turned.place)`.
     pub fn turn(&mut self, day: &Day<A>) -> Result<Option<Turned>, AllocError>
         requires { day.now.payloads ≡ self.old.day }
         ensures turned { IfOk result (TakesTurn self.old self.new) }
         // The next turn is handed the same day.
         ensures day { self.new.day ≡ self.old.day }
         ensures err { OnErr result (self.new ≡ self.old) }
+        ensures grows { OnErr result (MayGrowNext self.old) }
     {
         if self.done == self.own.len() {
             return Ok(None);

@@ -4,7 +4,7 @@ ghost use Rattle.std.specs.List.{Contains, range_with_len};
 ghost use Rattle.itch_table.specs.Shows.{Shows, locates_of_day};
 ghost use Rattle.day_core.specs.Owners.{machine_of};
 ghost use Rattle.day_core.specs.Workers.{first_state};
-ghost use Rattle.day_core.specs.Turns.{TurnsWorker, progress_in};
+ghost use Rattle.day_core.specs.Turns.{MayGrowAt, TurnsWorker, progress_in};
 
 use crate::merging::Piece;
 use crate::parts::Parts;
@@ -80,10 +80,12 @@ impl<'d, A: Allocator + Copy + Send + Sync> Turns<'d, A> {
 impl<'d, A: Allocator + Copy> Turns<'d, A> {
     /// Does the next message of a worker, sets the words of its stock, and answers what became of it; none, with
     /// nothing changed, exactly where the worker has done all of its messages or isn't one. An error says that memory
-    /// was refused, and leaves all as it was.
+    /// was refused, which comes only where a message is left that would be applied and may need a new order or trade.
+    /// It leaves all as it was.
     pub fn turn(&mut self, worker: u32) -> Result<Option<Piece>, AllocError>
         ensures turned { IfOk result (TurnsWorker self.old self.new worker) }
         ensures err { OnErr result (self.new ≡ self.old) }
+        ensures grows { OnErr result (MayGrowAt self.old worker) }
     {
         let place = worker as usize;
         if place >= self.workers.len() {

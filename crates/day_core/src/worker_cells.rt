@@ -1,8 +1,8 @@
 //! One worker with the cells of its stocks.
-ghost use Rattle.std.specs.Prelude.{◌≡◌, ◌<◌, ◌%◌, IfOk, OnErr, MatchOption};
+ghost use Rattle.std.specs.Prelude.{◌≡◌, ◌%◌, IfOk, OnErr, MatchOption};
 ghost use Rattle.std.specs.List.{Contains};
 ghost use Rattle.day_core.specs.Cells.{shown};
-ghost use Rattle.day_core.specs.Workers.{TakesTurn, first_state, machine_at, worker_locates};
+ghost use Rattle.day_core.specs.Workers.{MayGrowNext, TakesTurn, first_state, machine_at, worker_locates};
 
 use crate::parts::Parts;
 use crate::runner::{Runner, Turned};
@@ -32,7 +32,6 @@ impl<A: Allocator> Model for WorkerCells<A> {
 impl<A: Allocator + Copy> WorkerCells<A> {
     /// A worker that has done nothing yet. An error says that memory was refused.
     pub fn new(alloc: A, parts: &Parts<A>, worker: u32) -> Result<WorkerCells<A>, AllocError>
-        requires { worker < parts.now.workers }
         ensures { IfOk result (λ cells. cells ≡ first_state parts.now worker) }
     {
         let runner = Runner::new(alloc, parts, worker)?;
@@ -47,6 +46,7 @@ impl<A: Allocator + Copy> WorkerCells<A> {
         requires { day.now.payloads ≡ self.old.day }
         ensures turned { IfOk result (TakesTurn self.old self.new) }
         ensures err { OnErr result (self.new ≡ self.old) }
+        ensures grows { OnErr result (MayGrowNext self.old) }
     {
         let Some(turned) = self.runner.turn(day)? else {
             return Ok(None);

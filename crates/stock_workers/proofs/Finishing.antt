@@ -2,11 +2,12 @@
 use Rattle.std.proofs.Common.{◌≡◌, ℕ, List, [], ◌∷◌, ◌++◌, All, Some, None, length, map, refl, sym, ap, ap₂, subst, ◌∙◌, arith}
 use Rattle.std.proofs.lemmas.List.Elements.{All-map}
 use Rattle.stock_machine.specs.StockRows.{StockMachine}
+use Rattle.itch_table.specs.declared.outcome.Outcome.{Outcome}
 use Rattle.day_core.specs.declared.merging.Piece.{Piece}
 use Rattle.day_core.specs.Owners.{last_message}
 use Rattle.day_core.specs.Splitting.{Split}
 use Rattle.day_core.specs.Workers.{WorkerState, first_state, machine_at, worker_locates}
-use Rattle.day_core.proofs.StocksByWorker.{HasDone, does_more, does_none, pieces_through, stocks_through}
+use Rattle.day_core.proofs.StocksByWorker.{HasDone, does_more, does_none, outcomes_through, stocks_through}
 use Rattle.top_cell.specs.Boards.{CellId, IsOn, Place, WriterAt}
 use Rattle.stock_workers.specs.Running.{IsFinished, at_last}
 use Rattle.stock_workers.specs.Working.{PublishesTurn, Working, WriterState, WritersAt, WritersStand, writer_state}
@@ -17,18 +18,18 @@ abbrev pub waiting : Split → ℕ → List WriterAt → Working
 waiting split worker writers = record { state = first_state split worker; places = map (λ w. w.place) writers }
 
 -- a worker has come from where it waited to where it is now, and what became of its messages was noted
-pub record IsUnderWay (first now : Working) (pieces : List Piece) : Type 0 where
-  pub way : HasDone first.state now.state pieces
+pub record IsUnderWay (first now : Working) (outs : List Outcome) : Type 0 where
+  pub way : HasDone first.state now.state outs
   pub same_places : now.places ≡ first.places
 
-pub under_way_first : (first now : Working) (pieces : List Piece) → first.state.done ≡ 0 → now ≡ first → pieces ≡ [] → IsUnderWay first now pieces
-under_way_first first now pieces none same empty =
-    subst (λ (w : Working). IsUnderWay first w pieces) (sym same)
-    (record { way = does_none first.state pieces none empty; same_places = refl })
+pub under_way_first : (first now : Working) (outs : List Outcome) → first.state.done ≡ 0 → now ≡ first → outs ≡ [] → IsUnderWay first now outs
+under_way_first first now outs none same empty =
+    subst (λ (w : Working). IsUnderWay first w outs) (sym same)
+    (record { way = does_none first.state outs none empty; same_places = refl })
 
-pub under_way_more : (first now after : Working) (piece : Piece) (pieces more : List Piece) → IsUnderWay first now pieces → PublishesTurn now after (Some piece) → more ≡ pieces ++ piece ∷ [] → IsUnderWay first after more
-under_way_more first now after piece pieces more under turn pushed = record {
-  way = does_more first.state now.state after.state (record { piece = piece; place = turn.0 }) pieces more under.way turn.1 pushed;
+pub under_way_more : (first now after : Working) (piece : Piece) (outs more : List Outcome) → IsUnderWay first now outs → PublishesTurn now after (Some piece) → more ≡ outs ++ piece.outcome ∷ [] → IsUnderWay first after more
+under_way_more first now after piece outs more under turn pushed = record {
+  way = does_more first.state now.state after.state (record { piece = piece; place = turn.0 }) outs more under.way turn.1 pushed;
   same_places = turn.2 ∙ under.same_places;
 }
 
@@ -56,21 +57,21 @@ same_last day (x ∷ xs) (y ∷ ys) same =
     ap₂ ◌∷◌ (ap (λ (p : Place). let z : WriterAt = record { place = p; message = last_message day p.locate } in z) head) (same_last day xs ys rest)
 
 -- a worker that is through
-pub finished : (split : Split) (worker : ℕ) (writers : List WriterAt) (now after : Working) (pieces : List Piece) (stocks : List StockMachine) (ends : List WriterAt)
-    → IsUnderWay (waiting split worker writers) now pieces → PublishesTurn now after None
+pub finished : (split : Split) (worker : ℕ) (writers : List WriterAt) (now after : Working) (outs : List Outcome) (stocks : List StockMachine) (ends : List WriterAt)
+    → IsUnderWay (waiting split worker writers) now outs → PublishesTurn now after None
     → stocks ≡ map (machine_at after.state) (worker_locates after.state) → WritersStand after.state ends → map (λ w. w.place) ends ≡ after.places
-    → IsFinished split worker writers pieces stocks ends
-finished split worker writers now after pieces stocks ends under none left stand places =
+    → IsFinished split worker writers outs stocks ends
+finished split worker writers now after outs stocks ends under none left stand places =
     let first = first_state split worker in
     let all = none.0.0 in
     let rested : after.state ≡ now.state = none.0.1 in
     let same_day : now.state.day ≡ split.day = ap (λ (z : WorkerState). z.day) under.way.same in
     let last = stand_last now.state ends all (subst (λ (z : WorkerState). WritersStand z ends) rested stand) in
     record {
-      pieces_are = pieces_through first now.state pieces under.way all;
+      outcomes_are = outcomes_through first now.state outs under.way all;
       stocks_are =
           left ∙ ap (λ (z : WorkerState). map (machine_at z) (worker_locates z)) rested
-          ∙ stocks_through first now.state pieces under.way all;
+          ∙ stocks_through first now.state outs under.way all;
       writers_are =
           last_each now.state.day (worker_locates now.state) ends last
           ∙ ap (λ (d : List (List ℕ)). map (at_last d) ends) same_day

@@ -1,5 +1,5 @@
 -- A worker's writers: before its first message, one message later, and after its last.
-use Rattle.std.proofs.Common.{◌≡◌, ℕ, ◌+◌, ◌<◌, ◌≤◌, List, length, get_or, set, map, refl, sym, ap, ap₂, subst, ◌∙◌, arith}
+use Rattle.std.proofs.Common.{◌≡◌, ℕ, ◌+◌, ◌<◌, ◌≤◌, List, length, get_or, set, map, Some, refl, sym, ap, ap₂, subst, ◌∙◌, arith}
 use Rattle.std.proofs.Math.Seq.{map-set_same}
 use Rattle.std.proofs.lemmas.List.{get_or-map, length-map, map-set}
 use Rattle.itch_table.specs.declared.order.Top.{Top}
@@ -10,12 +10,12 @@ use Rattle.stock_machine.specs.StockRows.{StockMachine}
 use Rattle.day_core.specs.declared.merging.Piece.{Piece}
 use Rattle.day_core.specs.declared.runner.Turned.{Turned}
 use Rattle.day_core.specs.Owners.{last_message, machine_of, own_of, progress}
-use Rattle.day_core.specs.Workers.{IsTurned, WorkerState, machine_at, worker_locates, worker_messages}
+use Rattle.day_core.specs.Workers.{IsTurned, TakesTurn, WorkerState, machine_at, worker_locates, worker_messages}
 use Rattle.day_core.proofs.Progress.{own_within, progress_first, progress_last, progress_rises}
-use Rattle.day_core.proofs.Running.{code_owner, map_same, progress_here, values_after}
+use Rattle.day_core.proofs.Running.{code_owner, map_same, progress_here, reached, stayed, values_after}
 use Rattle.day_core.proofs.Showing.{top_is}
 use Rattle.top_cell.specs.Boards.{WriterAt}
-use Rattle.stock_workers.specs.Working.{WriterState, WritersAt, WritersStand, stands, writer_state}
+use Rattle.stock_workers.specs.Working.{ShowsTurn, WriterState, WritersAt, WritersStand, stands, writer_state}
 
 abbrev stock_at : WorkerState → ℕ → ℕ → WriterState
 stock_at s locate n = record { day = s.day; locate = locate; message = n }
@@ -98,6 +98,20 @@ module _ (s : WorkerState) (t : Turned) (turned : IsTurned s t) (writers : List 
   pub places_stay : (w : WriterAt) → w ≡ record old { message = n } → map (λ (x : WriterAt). x.place) (set writers t.place w) ≡ map (λ (x : WriterAt). x.place) writers
   places_stay w published =
       map-set_same (λ (x : WriterAt). x.place) writers t.place w old (ap (λ (x : WriterAt). x.place) (published ∙ ap (λ (x : WriterAt). let z : WriterAt = record x { message = n } in z) is))
+
+-- what the turn has done of the message, and left of the worker's other stocks
+pub shows_turn : (old new : WorkerState) (t : Turned) → TakesTurn old new (Some t) → ShowsTurn old new t.piece
+shows_turn old new t turn =
+    let day : new.day ≡ old.day = ap (λ (s : WorkerState). s.day) turn.1 in
+    record {
+      piece_is = turn.0.piece;
+      own = λ locate mine.
+          let far = reached old new t turn locate mine in
+          (ap₂ (λ (d : List (List ℕ)) (n : ℕ). machine_of d locate n) day far, ap₂ (λ (d : List (List ℕ)) (n : ℕ). let z : WriterState = record { day = d; locate = locate; message = n } in z) day far);
+      others = λ locate has other.
+          let same = stayed old new t turn locate has other in
+          (ap₂ (λ (d : List (List ℕ)) (n : ℕ). machine_of d locate n) day same, ap₂ (λ (d : List (List ℕ)) (n : ℕ). let z : WriterState = record { day = d; locate = locate; message = n } in z) day same);
+    }
 
 -- after the last message
 pub stand_last : (s : WorkerState) (writers : List WriterAt) → s.done ≡ length (worker_messages s) → WritersStand s writers → WritersAt s.day (last_message s.day) (worker_locates s) writers

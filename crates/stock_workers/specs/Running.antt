@@ -2,9 +2,9 @@
 use Rattle.std.specs.Prelude.{◌≡◌, ◌<◌, ℕ, List, All, IfOk, Result, length, map, slice_index_or}
 use Rattle.std.specs.declared.alloc.AllocError.{AllocError}
 use Rattle.stock_machine.specs.StockRows.{StockMachine}
-use Rattle.day_core.specs.declared.merging.Piece.{Piece}
+use Rattle.itch_table.specs.declared.outcome.Outcome.{Outcome}
 use Rattle.day_core.specs.Owners.{last_message, own_locates}
-use Rattle.day_core.specs.Replaying.{each_worker, for_own_stocks, last_machine, pieces_by}
+use Rattle.day_core.specs.Replaying.{each_worker, for_own_stocks, last_machine, outcomes_by}
 use Rattle.day_core.specs.Splitting.{Split}
 use Rattle.top_cell.specs.Boards.{CellId, IsOn, WriterAt}
 use Rattle.stock_workers.specs.Working.{WritersAt}
@@ -33,9 +33,9 @@ at_last day w = record w { message = last_message day w.place.locate }
 
 -- what a worker makes of all its messages: their outcomes, and the machines and the writers of its stocks
 -- after them
-pub record IsFinished (split : Split) (worker : ℕ) (writers : List WriterAt) (pieces : List Piece)
+pub record IsFinished (split : Split) (worker : ℕ) (writers : List WriterAt) (outcomes : List Outcome)
     (stocks : List StockMachine) (after : List WriterAt) : Type 0 where
-  pub pieces_are : pieces ≡ pieces_by split worker
+  pub outcomes_are : outcomes ≡ outcomes_by split worker
   pub stocks_are : stocks ≡ for_own_stocks (last_machine split.day) split worker
   pub writers_are : after ≡ map (at_last split.day) writers
 
@@ -46,5 +46,5 @@ pub record AreFinished {A : Type 0} (split : Split) (writer : ℕ → WriterAt)
   pub long : length made ≡ split.workers
   pub each : (worker : ℕ) (d : Result (Finished A) AllocError) → worker < split.workers
       → IfOk (slice_index_or made worker d)
-      (λ m. IsFinished split worker (for_own_stocks writer split worker) m.pieces.items m.stocks.items
+      (λ m. IsFinished split worker (for_own_stocks writer split worker) m.outcomes.items m.stocks.items
       m.writers.items)

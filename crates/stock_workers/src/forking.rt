@@ -9,7 +9,8 @@ ghost use Rattle.stock_workers.specs.Running.{AreFinished, AreWaiting, IsFinishe
 use crate::gate::Gate;
 use crate::worker::Worker;
 use binaryfile::Day;
-use day_core::{Parts, Piece};
+use day_core::Parts;
+use itch_table::Outcome;
 use std::alloc::{AllocError, Allocator};
 use std::collections::VecDeque;
 use std::sync::Wait;
@@ -28,7 +29,7 @@ pub(crate) struct Waiting<'p, A: Allocator> {
 /// What one worker made of its messages: their outcomes, and the machines and the writers of its stocks after them.
 #[derive(Drop)]
 pub(crate) struct Finished<A: Allocator> {
-    pub pieces: Vec<Piece, A>,
+    pub outcomes: Vec<Outcome, A>,
     pub stocks: VecDeque<Stock<A>, A>,
     pub writers: VecDeque<TopWriter, A>,
 }
@@ -45,23 +46,23 @@ fn finish<R: Threads + Wait + Sync, A: Allocator + Copy, G: Gate>(
     requires day { day.now.payloads ≡ waiting.parts.now.day }
     requires waiting { IsWaiting waiting.parts.now board.now waiting.worker waiting.writers.items }
     ensures { IfOk result (λ made. IsFinished waiting.entry.parts.now waiting.entry.worker
-        waiting.entry.writers.items made.pieces.items made.stocks.items made.writers.items) }
+        waiting.entry.writers.items made.outcomes.items made.stocks.items made.writers.items) }
 {
     let Waiting {
         parts,
         worker: number,
         writers,
     } = waiting;
-    let mut pieces = Vec::with_capacity(alloc, parts.own(number).len())?;
+    let mut outcomes = Vec::with_capacity(alloc, parts.own(number).len())?;
     let mut worker = Worker::new(alloc, parts, number, writers)?;
     let mut wait = 0;
     while let Some(piece) = worker.turn(rt, day, board, gate)? {
-        pieces.push(piece)?;
+        outcomes.push(piece.outcome)?;
         wait = worker.look_ahead(day, board, wait);
     }
     let (stocks, writers) = worker.into_stocks();
     Ok(Finished {
-        pieces,
+        outcomes,
         stocks,
         writers,
     })
@@ -90,7 +91,7 @@ pub(crate) fn finish_all<R: Threads + Wait + Sync, A: Allocator + Copy + Send + 
                 × Frees A.Allocator A.dealloc_token × (day.now.payloads ≡ waiting.parts.now.day)
                 × IsWaiting waiting.parts.now board.now waiting.worker waiting.writers.items }
             ensures { IfOk result (λ made. IsFinished waiting.entry.parts.now waiting.entry.worker
-                waiting.entry.writers.items made.pieces.items made.stocks.items made.writers.items) }
+                waiting.entry.writers.items made.outcomes.items made.stocks.items made.writers.items) }
         { finish(rt, alloc, day, board, gate, waiting) },
     )
 }

@@ -1,7 +1,7 @@
 //! A day, replayed by all of its workers beside each other.
 ghost use Rattle.std.specs.Prelude.{◌≡◌, ◌<◌, ◌⊎◌, ◌↔◌, ℕ, IfOk, IsErrOf, length, map};
 ghost use Rattle.itch_table.specs.Shows.{locates_of_day};
-ghost use Rattle.day_core.specs.Replaying.{IsReplayed, each_worker, for_own_stocks, last_machine, pieces_by};
+ghost use Rattle.day_core.specs.Replaying.{IsReplayed, each_worker, for_own_stocks, last_machine, outcomes_by};
 ghost use Rattle.top_cell.specs.Boards.{AreNew, WriterAt};
 ghost use Rattle.stock_workers.specs.Running.{AreFinished, AreWaiting, at_last};
 ghost use Rattle.stock_workers.specs.declared.running.RunFault.TheVariants.{Memory};
@@ -9,7 +9,7 @@ ghost use Rattle.stock_workers.specs.declared.running.RunFault.TheVariants.{Memo
 use crate::forking::{Finished, Waiting, finish_all};
 use crate::gate::Gate;
 use binaryfile::Day;
-use day_core::{Parts, Piece, SplitFault, assemble, by_worker, in_order, split};
+use day_core::{Parts, SplitFault, assemble, by_worker, in_order, split};
 use itch_table::Outcome;
 use std::alloc::{AllocError, Allocator};
 use std::collections::VecDeque;
@@ -51,7 +51,7 @@ impl From<AllocError> for RunFault {
 // What all workers made, by worker.
 #[derive(Drop)]
 struct Gathered<A: Allocator> {
-    pieces: Vec<Vec<Piece, A>, A>,
+    outcomes: Vec<Vec<Outcome, A>, A>,
     stocks: Vec<VecDeque<Stock<A>, A>, A>,
     writers: Vec<VecDeque<TopWriter, A>, A>,
 }
@@ -91,8 +91,8 @@ fn gather<A: Allocator + Copy>(
     made: Vec<Result<Finished<A>, AllocError>, A>,
 ) -> Result<Gathered<A>, AllocError>
     requires { (writer : ℕ → WriterAt) × AreFinished parts.now writer made.items }
-    ensures pieces { IfOk result (λ all. map (λ own. own.items) all.pieces.items
-        ≡ each_worker (pieces_by parts.now) parts.now) }
+    ensures outcomes { IfOk result (λ all. map (λ own. own.items) all.outcomes.items
+        ≡ each_worker (outcomes_by parts.now) parts.now) }
     ensures stocks { IfOk result (λ all. map (λ own. own.items) all.stocks.items
         ≡ each_worker (for_own_stocks (last_machine parts.now.day) parts.now) parts.now) }
     ensures writers { IfOk result (λ all. (writer : ℕ → WriterAt) → AreFinished parts.now writer made.items
@@ -102,7 +102,7 @@ fn gather<A: Allocator + Copy>(
 {
     let count = parts.workers();
     let mut made = VecDeque::from_vec(made);
-    let mut pieces = Vec::with_capacity(alloc, count as usize)?;
+    let mut outcomes = Vec::with_capacity(alloc, count as usize)?;
     let mut stocks = Vec::with_capacity(alloc, count as usize)?;
     let mut writers = Vec::with_capacity(alloc, count as usize)?;
     for worker in 0..count {
@@ -110,12 +110,12 @@ fn gather<A: Allocator + Copy>(
             unreachable!()
         };
         let finished = one?;
-        pieces.push(finished.pieces)?;
+        outcomes.push(finished.outcomes)?;
         stocks.push(finished.stocks)?;
         writers.push(finished.writers)?;
     }
     Ok(Gathered {
-        pieces,
+        outcomes,
         stocks,
         writers,
     })
@@ -141,7 +141,7 @@ fn run_parts<R: Threads + Wait + Sync, A: Allocator + Copy + Send + Sync, G: Gat
     let waiting = waiting_workers(alloc, parts, writers)?;
     let made = finish_all(rt, alloc, day, board, gate, waiting)?;
     let gathered = gather(alloc, parts, made)?;
-    let replayed = assemble(alloc, parts, day, gathered.pieces, gathered.stocks)?;
+    let replayed = assemble(alloc, parts, day, gathered.outcomes, gathered.stocks)?;
     let writers = in_order(alloc, parts, gathered.writers)?;
     Ok(Replayed {
         outcomes: replayed.outcomes,

@@ -1,10 +1,10 @@
 //! One worker with the writers of its stocks' cells.
-ghost use Rattle.std.specs.Prelude.{◌≡◌, ◌<◌, ℕ, All, IfOk, MatchOption, OnErr, map};
+ghost use Rattle.std.specs.Prelude.{◌≡◌, ℕ, All, IfOk, IfSome, MatchOption, OnErr, map};
 ghost use Rattle.std.specs.List.{Contains};
 ghost use Rattle.day_core.specs.Owners.{own_locates};
-ghost use Rattle.day_core.specs.Workers.{first_state, machine_at, worker_locates};
+ghost use Rattle.day_core.specs.Workers.{MayGrowNext, first_state, machine_at, worker_locates};
 ghost use Rattle.top_cell.specs.Boards.{IsOn};
-ghost use Rattle.stock_workers.specs.Working.{PublishesTurn, WritersAt, WritersStand, stands, writer_state};
+ghost use Rattle.stock_workers.specs.Working.{PublishesTurn, ShowsTurn, WritersAt, WritersStand, stands, writer_state};
 
 use crate::gate::Gate;
 use binaryfile::Day;
@@ -44,8 +44,8 @@ impl<A: Allocator> Model for Worker<A> {
 }
 
 impl<A: Allocator + Copy> Worker<A> {
-    /// A worker that has done nothing yet. The caller hands a worker below `parts.workers()`, and the writers of its
-    /// stocks, by rising locate code, none of which has published anything.
+    /// A worker that has done nothing yet. The caller hands the writers of its stocks, by rising locate code, none of
+    /// which has published anything. A number from `parts.workers()` on has no messages and no stocks.
     ///
     /// An error says that memory was refused; the writers are gone.
     pub fn new(
@@ -54,8 +54,7 @@ impl<A: Allocator + Copy> Worker<A> {
         worker: u32,
         writers: Vec<TopWriter, A>,
     ) -> Result<Worker<A>, AllocError>
-        requires worker { worker < parts.now.workers }
-        requires writers { WritersAt parts.now.day (λ _. 0)
+        requires { WritersAt parts.now.day (λ _. 0)
             (own_locates parts.now.workers worker parts.now.day) writers.items }
         ensures { IfOk result (λ made. made
             ≡ record { state = first_state parts.now worker; places = map (λ w. w.place) writers.items }) }
@@ -69,8 +68,9 @@ impl<A: Allocator + Copy> Worker<A> {
     /// done all of them. Each message is published, also where the best bid and ask stay as they were. The caller hands
     /// the day that was split and the writers' board.
     ///
-    /// An error says that memory was refused: nothing was published and the worker is as it was, so that its next turn
-    /// comes to the gate with the same message again. It may wait at the gate, and for nothing else.
+    /// An error says that memory was refused, which comes only where a message is left that would be applied and may
+    /// need a new order or trade. Nothing was published and the worker is as it was, so that its next turn comes to the
+    /// gate with the same message again. It may wait at the gate, and for nothing else.
     pub fn turn<R: Threads + Wait + Sync, G: Gate>(
         &mut self,
         rt: &R,
@@ -81,7 +81,9 @@ impl<A: Allocator + Copy> Worker<A> {
         requires day { day.now.payloads ≡ self.old.state.day }
         requires board { All (IsOn board.now) self.old.places }
         ensures turned { IfOk result (PublishesTurn self.old self.new) }
+        ensures shown { IfOk result (λ made. IfSome made (ShowsTurn self.old.state self.new.state)) }
         ensures err { OnErr result (self.new ≡ self.old) }
+        ensures grows { OnErr result (MayGrowNext self.old.state) }
     {
         if let Some(message) = self.runner.next_message() {
             gate.at(rt, self.runner.worker(), message);
@@ -144,11 +146,12 @@ impl<A: Allocator> Worker<A> {
         }
     }
 
-    /// The writer of one of the worker's stocks, at the last of its messages that the worker has done; none where it
-    /// isn't one of them.
+    /// The writer of one of the worker's stocks, at the last of its messages that the worker has done, of one of the
+    /// worker's own cells; none where it isn't one of them.
     pub fn writer(&self, locate: u16) -> Option<&TopWriter>
         ensures { MatchOption result (¬ Contains (worker_locates self.now.state) locate)
-            (λ writer. writer_state writer.now ≡ stands self.now.state locate) }
+            (λ writer. (writer_state writer.now ≡ stands self.now.state locate)
+            × Contains self.now.places writer.now.place) }
     {
         match self.runner.place_of(locate) {
             Some(place) => Some(&self.writers[place]),

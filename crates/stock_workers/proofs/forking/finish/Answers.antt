@@ -13,10 +13,10 @@ look_ahead-wait-requires-clause-board g c =
 
 pub loop-worker-preserved : goal.loop-worker-preserved
 loop-worker-preserved g c =
-    under_way_more (waiting c.args.waiting.parts.now c.args.waiting.worker c.args.waiting.writers.items) c.loop-worker.worker c.turn.new.self c.in-Some.piece c.loop-worker.pieces.items c.push.new.self.items c.loop-worker.invariant
+    under_way_more (waiting c.args.waiting.parts.now c.args.waiting.worker c.args.waiting.writers.items) c.loop-worker.worker c.turn.new.self c.in-Some.piece c.loop-worker.outcomes.items c.push.new.self.items c.loop-worker.invariant
     (rw c.in-Some.is at c.in_ok-piece.ensures.turned) c.in_ok-push.ensures.items
 
 pub returns : goal.returns
 returns g c =
-    finished c.args.waiting.parts.now c.args.waiting.worker c.args.waiting.writers.items c.loop-worker.worker c.turn.new.self c.loop-worker.pieces.items c.into_stocks-stocks.result.0.items c.into_stocks-stocks.result.1.items c.loop-worker.invariant
+    finished c.args.waiting.parts.now c.args.waiting.worker c.args.waiting.writers.items c.loop-worker.worker c.turn.new.self c.loop-worker.outcomes.items c.into_stocks-stocks.result.0.items c.into_stocks-stocks.result.1.items c.loop-worker.invariant
     (rw c.in_default.is at c.in_ok-piece.ensures.turned) c.into_stocks-stocks.ensures.stocks c.into_stocks-stocks.ensures.writers c.into_stocks-stocks.ensures.places

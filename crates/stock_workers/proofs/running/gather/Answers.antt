@@ -3,7 +3,7 @@ use Rattle.std.specs.List.{range_with_len}
 use Rattle.std.proofs.lemmas.List.{drop_more, length-drop}
 use Rattle.std.proofs.lemmas.Result.{IfOk-at_ok}
 use Rattle.day_core.specs.Owners.{own_locates}
-use Rattle.day_core.specs.Replaying.{for_own_stocks, last_machine, pieces_by}
+use Rattle.day_core.specs.Replaying.{for_own_stocks, last_machine, outcomes_by}
 use Rattle.day_core.proofs.StocksByWorker.{not_empty, one_more}
 use Rattle.stock_workers.specs.Running.{IsFinished, at_last}
 use Rattle.stock_workers.proofs.Dealing.{map_twice}
@@ -12,7 +12,7 @@ use Rattle.stock_workers.proofs.running.gather.Goals as goal
 pub loop-worker-init : goal.loop-worker-init
 loop-worker-init g c = record {
   rest = c.from_vec-made.ensures.items;
-  pieces = ap (map (λ own. own.items)) c.in_ok-pieces.ensures.items;
+  outcomes = ap (map (λ own. own.items)) c.in_ok-outcomes.ensures.items;
   stocks = ap (map (λ own. own.items)) c.in_ok-stocks.ensures.items;
   writers = λ writer are. ap (map (λ own. own.items)) c.in_ok-writers.ensures.items;
 }
@@ -37,22 +37,22 @@ loop-worker-preserved g c =
     let here : one ≡ get_or made at one = cc in
     let left : c.pop_front.new.self.items ≡ drop (at + 1) made = cc in
     let was = sym here ∙ c.in_ok-finished.was in
-    let has = IfOk-at_ok (λ m. IsFinished split at (for_own_stocks c.requires.0 split at) m.pieces.items m.stocks.items m.writers.items) was (c.requires.1.each at one below) in
+    let has = IfOk-at_ok (λ m. IsFinished split at (for_own_stocks c.requires.0 split at) m.outcomes.items m.stocks.items m.writers.items) was (c.requires.1.each at one below) in
     record {
       rest = left;
-      pieces = one_more (λ own. own.items) (pieces_by split) before.pieces.items _ _ at before.invariant.pieces c.in_ok-push.ensures.items has.pieces_are;
+      outcomes = one_more (λ own. own.items) (outcomes_by split) before.outcomes.items _ _ at before.invariant.outcomes c.in_ok-push.ensures.items has.outcomes_are;
       stocks = one_more (λ own. own.items) (for_own_stocks (last_machine split.day) split) before.stocks.items _ _ at before.invariant.stocks c.in_ok-push-2.ensures.items has.stocks_are;
       writers = λ writer are.
-          let own = IfOk-at_ok (λ m. IsFinished split at (for_own_stocks writer split at) m.pieces.items m.stocks.items m.writers.items) was (are.each at one below) in
+          let own = IfOk-at_ok (λ m. IsFinished split at (for_own_stocks writer split at) m.outcomes.items m.stocks.items m.writers.items) was (are.each at one below) in
           one_more (λ own. own.items) (for_own_stocks (λ l. at_last split.day (writer l)) split) before.writers.items _ _ at (before.invariant.writers writer are) c.in_ok-push-3.ensures.items
           (own.writers_are ∙ map_twice (at_last split.day) writer (own_locates split.workers at split.day));
     }
 
-pub returns-clause-pieces : goal.returns-clause-pieces
-returns-clause-pieces g c =
+pub returns-clause-outcomes : goal.returns-clause-outcomes
+returns-clause-outcomes g c =
     let split = c.args.parts.now in
     let all : c.loop-worker.worker ≡ split.workers = omega (arith, c.workers-count.ensures.workers) in
-    c.loop-worker.invariant.pieces ∙ ap (λ (n : ℕ). map (pieces_by split) (range_with_len 0 n)) all
+    c.loop-worker.invariant.outcomes ∙ ap (λ (n : ℕ). map (outcomes_by split) (range_with_len 0 n)) all
 
 pub returns-clause-stocks : goal.returns-clause-stocks
 returns-clause-stocks g c =

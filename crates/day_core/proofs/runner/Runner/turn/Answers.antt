@@ -2,8 +2,8 @@ use Rattle.std.proofs.Common.{◌≡◌, ◌+◌, List, ℕ, length, set, sym, a
 use Rattle.std.proofs.lemmas.List.{length-map, set-get_or}
 use Rattle.stock_machine.specs.StockRows.{StockMachine}
 use Rattle.day_core.specs.Owners.{is_own, own_locates, part_at}
-use Rattle.day_core.specs.Workers.{IsRunner, IsTurned, WorkerState, machine_at, state_in}
-use Rattle.day_core.proofs.Running.{next_own, next_within, runner_after, step_few, step_own, stock_stepped, turned_is}
+use Rattle.day_core.specs.Workers.{IsRunner, IsTurned, MayGrowNext, WorkerState, machine_at, state_in}
+use Rattle.day_core.proofs.Running.{grows, next_own, next_within, on_err, runner_after, step_few, step_own, stock_stepped, turned_is}
 use Rattle.day_core.proofs.runner.Runner.turn.Goals as goal
 
 pub message_of-place-requires-clause-first : goal.message_of-place-requires-clause-first
@@ -70,3 +70,11 @@ returns-clause-turned g c =
       subst (λ (s : WorkerState). IsTurned s (record { piece = record { message = c.index-message.result.now; outcome = c.in_ok-outcome.outcome }; place = c.message_of-place.result.1 })) c.self.view_is turned,
       ap (λ (s : WorkerState). let next : WorkerState = record s { done = s.done + 1 } in next) c.self.view_is,
     )
+
+pub returns-in_err-outcome-clause-grows : goal.returns-in_err-outcome-clause-grows
+returns-in_err-outcome-clause-grows g c =
+    let same = c.requires ∙ ap (λ (s : WorkerState). s.day) (sym c.self.view_is) in
+    let found = c.message_of-place.ensures in
+    on_err c.from_residual.result _
+    (subst MayGrowNext c.self.view_is
+    (grows _ _ _ _ c.self.invariant _ (omega arith) c.index-message.ensures _ same _ c.index_mut.result.now found.within found.stock c.index_mut.ensures.value _ found.payload c.in_err-outcome.ensures.grows))

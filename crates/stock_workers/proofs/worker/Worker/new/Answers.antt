@@ -7,4 +7,4 @@ use Rattle.stock_workers.proofs.worker.Worker.new.Goals as goal
 pub invariant_of-result : goal.invariant_of-result
 invariant_of-result g c =
     subst (λ (s : WorkerState). WritersStand s c.args.writers.items) (sym (c.in_ok-runner.ensures {u = tt}))
-    (stand_first (first_state c.args.parts.now c.args.worker) c.args.writers.items refl c.requires.writers)
+    (stand_first (first_state c.args.parts.now c.args.worker) c.args.writers.items refl c.requires)

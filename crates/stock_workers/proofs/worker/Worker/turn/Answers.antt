@@ -2,8 +2,8 @@ use Rattle.std.proofs.Common.{All, Some, sym, ap, subst, ◌∙◌, arith}
 use Rattle.std.proofs.lemmas.List.{get_or-map, length-map}
 use Rattle.day_core.specs.Workers.{WorkerState, TakesTurn}
 use Rattle.top_cell.specs.Boards.{IsOn, WriterAt}
-use Rattle.stock_workers.specs.Working.{Working}
-use Rattle.stock_workers.proofs.Writing.{later, places_stay, room, stand_turned, top_there, within_day}
+use Rattle.stock_workers.specs.Working.{ShowsTurn, Working}
+use Rattle.stock_workers.proofs.Writing.{later, places_stay, room, shows_turn, stand_turned, top_there, within_day}
 use Rattle.stock_workers.proofs.worker.Worker.turn.Goals as goal
 
 pub publish-requires-clause-own : goal.publish-requires-clause-own
@@ -48,3 +48,9 @@ returns-clause-turned g c =
       subst (λ (s : WorkerState). TakesTurn s c.turn.new.self (Some c.in-Some-2.turned)) state turned,
       stay ∙ ap (λ (w : Working). w.places) c.self.view_is,
     )
+
+pub returns-clause-shown : goal.returns-clause-shown
+returns-clause-shown g c =
+    let turned = rw c.in-Some-2.is at c.in_ok-turned.ensures.turned in
+    subst (λ (w : Working). ShowsTurn w.state c.turn.new.self c.in-Some-2.turned.piece) c.self.view_is
+    (shows_turn c.self.inside.runner c.turn.new.self c.in-Some-2.turned turned)
