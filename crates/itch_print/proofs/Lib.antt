@@ -1,3 +1,4 @@
+pub mod Between
 pub mod Padding
 pub mod HexDigits
 pub mod HeldFields

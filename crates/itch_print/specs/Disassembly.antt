@@ -1,6 +1,6 @@
 -- The one text that the disassembler writes for a file: a line for each payload, and then the file's end. It is of this
 -- project.
-use Rattle.std.specs.Prelude.{ℕ, ◌==◌, Bool, true, false, if◌then◌else◌, List, [], ◌∷◌, ◌++◌, length, map, slice_index, codes, decimal, Option, Some, None}
+use Rattle.std.specs.Prelude.{ℕ, ◌-◌, ◌==◌, Bool, true, false, if◌then◌else◌, List, [], ◌∷◌, ◌++◌, length, map, drop, take, slice_index, codes, decimal, Option, Some, None}
 use Rattle.std.specs.List.{flat_map}
 use Rattle.hex.specs.Hex.{encode_lower}
 use Rattle.byte_strings.specs.Bytes.{AreBytes}
@@ -54,6 +54,11 @@ ended line = line ++ codes "\n"
 -- the text of a file with these contents
 unfoldable pub text_of : Contents → List ℕ
 text_of contents = flat_map ended (map payload_line contents.payloads ++ end_lines contents.marked contents.tail)
+
+-- the lines of the messages of a file with these contents from number first to number last, as its text has them
+unfoldable pub lines_between : Contents → ℕ → ℕ → List ℕ
+lines_between contents first last =
+    flat_map ended (map payload_line (drop (first - 1) (take last contents.payloads)))
 
 -- the text that is written for a file denotes the file's bytes, whatever they are
 abbrev pub DisassemblyDenotes : Type 0

@@ -3,7 +3,7 @@ ghost use Rattle.std.specs.Prelude.{◌≡◌, IfOk};
 ghost use Rattle.byte_strings.specs.Extending.{Extends};
 ghost use Rattle.binaryfile.specs.Entries.{bytes_of};
 ghost use Rattle.itch_text.specs.Text.{Text};
-ghost use Rattle.itch_print.specs.Disassembly.{text_of};
+ghost use Rattle.itch_print.specs.Disassembly.{lines_between, text_of};
 
 use crate::lines::{put_end, put_payload};
 use binaryfile::Day;
@@ -43,5 +43,39 @@ pub fn disassemble<A: Allocator + Copy>(alloc: A, day: &Day<A>) -> Result<Vec<u8
     // A text is never shorter than its file.
     let mut text = Vec::with_capacity(alloc, day.bytes().len())?;
     put_day(&mut text, day)?;
+    Ok(text)
+}
+
+// Adds the lines of the messages from one number to another.
+#[tactic(auto, unfolding(crate::specs::Disassembly::lines_between))]
+fn put_between<A: Allocator>(
+    text: &mut Vec<u8, A>,
+    day: &Day<A>,
+    first: u32,
+    last: u32,
+) -> Result<(), AllocError>
+    ensures { Extends text.old text.new (lines_between day.now first last) result }
+{
+    for index in first.saturating_sub(1)..last.min(day.len()) {
+        put_payload(text, day.payload(index + 1))?;
+    }
+    Ok(())
+}
+
+/// The lines of a file's messages from number `first` to number `last`, counted from 1, as [`disassemble`] writes them:
+/// line n of that text is message n. A number beyond the last message has no line. The memory is that of these lines,
+/// and is `alloc`'s.
+///
+/// The only error is that memory was refused. The day is unchanged.
+pub fn disassemble_between<A: Allocator + Copy>(
+    alloc: A,
+    day: &Day<A>,
+    first: u32,
+    last: u32,
+) -> Result<Vec<u8, A>, AllocError>
+    ensures { IfOk result (λ text. text.items ≡ lines_between day.now first last) }
+{
+    let mut text = Vec::new(alloc);
+    put_between(&mut text, day, first, last)?;
     Ok(text)
 }

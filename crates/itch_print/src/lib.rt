@@ -13,7 +13,7 @@ mod printing;
 mod quoting;
 mod reassembling;
 
-pub use disassembling::disassemble;
+pub use disassembling::{disassemble, disassemble_between};
 pub use laws::disassembly_denotes;
 pub use quoting::{put_quoted, quote};
 pub use reassembling::reassembled;

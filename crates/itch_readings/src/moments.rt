@@ -1,10 +1,12 @@
 //! The top of one stock's book after each of its messages.
 ghost use Rattle.std.specs.Prelude.{◌≡◌, IfOk};
-ghost use Rattle.itch_table.specs.Projection.{is_of_stock};
-ghost use Rattle.uses.specs.Tops.{tops_of};
+ghost use Rattle.itch_layouts.specs.Means.{fields_of};
+ghost use Rattle.itch_readings.specs.Tops.{time_of, tops_of};
 
+use crate::naming::is_of_stock;
 use binaryfile::Day;
-use itch_table::{Part, Top, own_rows_suffice, part, stocks_are_independent};
+use itch_layouts::{Head, Msg, Shape, read_msg};
+use itch_table::{Top, own_rows_suffice, stocks_are_independent};
 use std::alloc::{AllocError, Allocator};
 use stock_machine::Stock;
 
@@ -13,17 +15,49 @@ use stock_machine::Stock;
 pub struct Moment {
     /// The number of the message in the day, counted from 1.
     pub message: u32,
+    /// When that message was made, in nanoseconds since midnight.
+    pub time: u64,
     /// The top after it.
     pub top: Top,
 }
 
-// Whether a payload is of the stock of a locate code.
-fn is_of_stock(payload: &[u8], locate: u16) -> bool
-    ensures { result ≡ is_of_stock locate payload.now }
+// The head of a message.
+fn head_of(msg: &Msg) -> Head
+    ensures { result ≡ (fields_of msg.now).head }
 {
-    match part(payload) {
-        Part::Locate(code) => code == locate,
-        Part::Nowhere(_) => false,
+    match *msg {
+        Msg::System(head, _)
+        | Msg::Directory(head, _)
+        | Msg::Trading(head, _)
+        | Msg::Regsho(head, _)
+        | Msg::Participant(head, _)
+        | Msg::Decline(head, _)
+        | Msg::Breach(head, _)
+        | Msg::Ipo(head, _)
+        | Msg::Collar(head, _)
+        | Msg::Operational(head, _)
+        | Msg::Add(head, _)
+        | Msg::AddMpid(head, _)
+        | Msg::Execute(head, _)
+        | Msg::ExecutePrice(head, _)
+        | Msg::Cancel(head, _)
+        | Msg::Delete(head, _)
+        | Msg::Replace(head, _)
+        | Msg::Trade(head, _)
+        | Msg::Cross(head, _)
+        | Msg::Broken(head, _)
+        | Msg::Imbalance(head, _)
+        | Msg::Retail(head, _) => head,
+    }
+}
+
+// When a message was made, in nanoseconds since midnight; 0 where the payload is no message.
+fn time_in(payload: &[u8]) -> u64
+    ensures { result ≡ time_of payload.now }
+{
+    match read_msg(payload) {
+        Shape::Known(msg) => head_of(&msg).time.get(),
+        Shape::Unknown | Shape::BadLength => 0,
     }
 }
 
@@ -51,6 +85,7 @@ pub fn tops<A: Allocator + Copy>(
             stock.step(payload)?;
             tops.push(Moment {
                 message,
+                time: time_in(payload),
                 top: stock.top(),
             })?;
         }

@@ -9,13 +9,13 @@ use Rattle.itch_table.specs.declared.order.Top.{Top}
 use Rattle.itch_table.specs.After.{after}
 use Rattle.itch_table.specs.Levels.{top}
 use Rattle.itch_table.specs.Parts.{part}
-use Rattle.itch_table.specs.Projection.{only, is_of_stock, StepsAreOwn, OthersStay}
+use Rattle.itch_table.specs.Projection.{only, is_of_stock, payload_at, StepsAreOwn, OthersStay}
 use Rattle.itch_table.specs.Shows.{top_after}
 use Rattle.itch_table.specs.Table.{step}
 use Rattle.itch_table.specs.World.{World, orders_of}
 use Rattle.itch_table.proofs.Days.{after-next}
-use Rattle.uses.specs.declared.moments.Moment.{Moment}
-use Rattle.uses.specs.Tops.{is_own, moment, tops_until}
+use Rattle.itch_readings.specs.declared.moments.Moment.{Moment}
+use Rattle.itch_readings.specs.Tops.{is_own, moment, time_of, tops_until}
 
 -- where a day goes on with a payload after n messages
 module _ (day rest : List (List ℕ)) (n : ℕ) (payload : List ℕ) (goes_on : drop n day ≡ payload ∷ rest) where
@@ -34,15 +34,18 @@ module _ (day rest : List (List ℕ)) (n : ℕ) (payload : List ℕ) (goes_on : 
   here : get_or day n [] ≡ payload
   here = let e = next in cc
 
+  pub payload-is : payload_at day (n + 1) ≡ payload
+  payload-is =
+      let same : n + 1 - 1 ≡ n = omega arith in
+      ap (λ (k : ℕ). get_or day k []) same ∙ here
+
   -- the next message is a moment where it is of the stock
   next-moment : (locate : ℕ) (own : Bool) → is_of_stock locate payload ≡ own
       → tops_until day locate (n + 1) ≡ tops_until day locate n ++ cond own (moment day locate (n + 1) ∷ []) []
   next-moment locate own is =
       let seam : 1 + n ≡ n + 1 = omega arith in
-      let same : n + 1 - 1 ≡ n = omega arith in
-      let at : get_or day (n + 1 - 1) [] ≡ payload = ap (λ (k : ℕ). get_or day k []) same ∙ here in
       filter_of_map_range_with_len_more (is_own day locate) (moment day locate) 1 n (n + 1) seam
-      ∙ ap (λ (b : Bool). tops_until day locate n ++ cond b (moment day locate (n + 1) ∷ []) []) (ap (λ (p : List ℕ). is_of_stock locate p) at ∙ is)
+      ∙ ap (λ (b : Bool). tops_until day locate n ++ cond b (moment day locate (n + 1) ∷ []) []) (ap (λ (p : List ℕ). is_of_stock locate p) payload-is ∙ is)
 
   pub next-is : (locate : ℕ) → is_of_stock locate payload ≡ true
       → tops_until day locate (n + 1) ≡ tops_until day locate n ++ moment day locate (n + 1) ∷ []
@@ -67,12 +70,14 @@ module _ (day rest : List (List ℕ)) (n : ℕ) (payload : List ℕ) (goes_on : 
       ∙ ap (λ (p : List ℕ). only locate (step (after day n) p).1) (sym here)
       ∙ ap (only locate) (sym (after-next day n))
 
--- what the machine shows after message n is the moment of message n
-pub moment-is : (day : List (List ℕ)) (locate n : ℕ) (shown : Top) (world : World)
-    → ((w : World) (l : ℕ) → orders_of (only l w) l ≡ orders_of w l) → world ≡ only locate (after day n) → shown ≡ top (orders_of world locate)
-    → record { message = n; top = shown } ≡ moment day locate n
+-- what the machine shows after message n, with the message's time, is the moment of message n
+pub moment-is : (day : List (List ℕ)) (locate n time : ℕ) (shown : Top) (world : World)
+    → ((w : World) (l : ℕ) → orders_of (only l w) l ≡ orders_of w l) → time ≡ time_of (payload_at day n)
+    → world ≡ only locate (after day n) → shown ≡ top (orders_of world locate)
+    → record { message = n; time = time; top = shown } ≡ moment day locate n
 unfolding top_after
-moment-is day locate n shown world suffice stands is =
-    ap (λ (t : Top). record { message = n; top = t }) (
+moment-is day locate n time shown world suffice at stands is =
+    ap (λ (t : ℕ). record { message = n; time = t; top = shown }) at
+    ∙ ap (λ (t : Top). record { message = n; time = time_of (payload_at day n); top = t }) (
     is ∙ ap (λ (w : World). top (orders_of w locate)) stands ∙ ap (λ (orders : List Order). top orders) (suffice (after day n) locate)
     )

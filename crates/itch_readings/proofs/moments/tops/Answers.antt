@@ -3,15 +3,15 @@ use Rattle.std.proofs.lemmas.List.{length-drop}
 use Rattle.itch_table.specs.declared.outcome.Part.TheVariants.{Locate}
 use Rattle.itch_table.specs.After.{after}
 use Rattle.itch_table.specs.Parts.{part}
-use Rattle.itch_table.specs.Projection.{only}
+use Rattle.itch_table.specs.Projection.{only, payload_at}
 use Rattle.itch_table.specs.Levels.{top}
 use Rattle.itch_table.specs.World.{orders_of}
 use Rattle.itch_table.proofs.Days.{after-none}
 use Rattle.itch_table.proofs.StockDays.{only-empty, other_part, own_part}
-use Rattle.uses.specs.declared.moments.Moment.{Moment}
-use Rattle.uses.specs.Tops.{tops_until, moment}
-use Rattle.uses.proofs.NextMoment.{left_then, moment-is, next-is, next-is-not, one_more, other_rows, own_rows}
-use Rattle.uses.proofs.moments.tops.Goals as goal
+use Rattle.itch_readings.specs.declared.moments.Moment.{Moment}
+use Rattle.itch_readings.specs.Tops.{tops_until, moment, time_of}
+use Rattle.itch_readings.proofs.NextMoment.{left_then, moment-is, payload-is, next-is, next-is-not, one_more, other_rows, own_rows}
+use Rattle.itch_readings.proofs.moments.tops.Goals as goal
 
 pub loop-payload-init : goal.loop-payload-init
 loop-payload-init g c =
@@ -36,7 +36,8 @@ loop-payload-preserved-in-Continue-branch-2 g c =
     let took = c.in_ok-step.ensures {u = tt} in
     let world = own_rows day c.next.new.self n payload goes_on locate _ _ _ c.stocks_are_independent.ensures.own (own_part locate (part payload) is_own) before.world took.ok in
     let stays : c.step.new.self.locate ≡ locate = c.step.ensures.locate ∙ before.locate in
-    let shown = moment-is day locate (n + 1) _ _ c.own_rows_suffice.ensures.orders world (c.top.ensures ∙ ap (λ (l : ℕ). top (orders_of c.step.new.self.world l)) stays) in
+    let at : c.time_in.result ≡ time_of (payload_at day (n + 1)) = c.time_in.ensures ∙ ap time_of (sym (payload-is day c.next.new.self n payload goes_on)) in
+    let shown = moment-is day locate (n + 1) _ _ _ c.own_rows_suffice.ensures.orders at world (c.top.ensures ∙ ap (λ (l : ℕ). top (orders_of c.step.new.self.world l)) stays) in
     record {
       within = one_more day c.next.new.self n payload goes_on;
       left = left_then day c.next.new.self n payload goes_on;

@@ -1,13 +1,25 @@
 -- The top of one stock after each of its messages.
 use Rattle.std.specs.Prelude.{ℕ, Bool, List, length, map, filter}
 use Rattle.std.specs.List.{range_with_len}
+use Rattle.itch_layouts.specs.Means.{fields_of}
+use Rattle.itch_layouts.specs.Shapes.{shape_of}
+use Rattle.itch_layouts.specs.declared.shape.Shape.{Shape}
+use Rattle.itch_layouts.specs.declared.shape.Shape.TheVariants.{Known}
 use Rattle.itch_table.specs.Projection.{is_of_stock, payload_at}
 use Rattle.itch_table.specs.Shows.{top_after}
-use Rattle.uses.specs.declared.moments.Moment.{Moment}
+use Rattle.itch_readings.specs.declared.moments.Moment.{Moment}
+
+-- when a message was made, in nanoseconds since midnight; 0 where a payload is no message
+abbrev pub time_of_shape : Shape → ℕ
+time_of_shape (Known m) = (fields_of m).head.time
+time_of_shape other = 0
+
+abbrev pub time_of : List ℕ → ℕ
+time_of payload = time_of_shape (shape_of payload)
 
 -- the stock's top after message n of the day
 abbrev pub moment : List (List ℕ) → ℕ → ℕ → Moment
-moment day locate n = record { message = n; top = top_after day locate n }
+moment day locate n = record { message = n; time = time_of (payload_at day n); top = top_after day locate n }
 
 -- whether the message of a moment is of the stock
 abbrev pub is_own : List (List ℕ) → ℕ → Moment → Bool

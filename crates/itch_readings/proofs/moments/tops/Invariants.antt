@@ -1,8 +1,8 @@
 use Rattle.std.proofs.Common.{◌≡◌, ◌≤◌, drop, length}
 use Rattle.itch_table.specs.After.{after}
 use Rattle.itch_table.specs.Projection.{only}
-use Rattle.uses.specs.Tops.{tops_until}
-use Rattle.uses.proofs.moments.tops.Given as goal
+use Rattle.itch_readings.specs.Tops.{tops_until}
+use Rattle.itch_readings.proofs.moments.tops.Given as goal
 
 abbrev pub invariant-loop-payload : goal.invariant-loop-payload
 invariant-loop-payload g l = record {

@@ -1,0 +1,2 @@
+mod NextMoment
+mod Listing

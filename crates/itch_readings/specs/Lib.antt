@@ -1,0 +1,5 @@
+pub mod Naming
+pub mod Tops
+pub mod TopLines
+pub mod StockLines
+pub mod Engines

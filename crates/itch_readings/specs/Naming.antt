@@ -1,0 +1,72 @@
+-- The stocks of a day, and how they are named. The directory message is Nasdaq TotalView-ITCH 5.0's "Stock Directory";
+-- the rest is of this project.
+use Rattle.std.specs.Prelude.{◌≡◌, ◌+◌, ◌<◌, ℕ, zero, suc, Bool, false, nat_lt, if◌then◌else◌, List, [], ◌∷◌, length, Option, Some, None, slice_get, slice_index_or}
+use Rattle.std.specs.Option.{option_or}
+use Rattle.std.specs.Str.{bytes_eq}
+use Rattle.itch_layouts.specs.Shapes.{shape_of}
+use Rattle.itch_layouts.specs.declared.message.Msg.TheVariants.{Directory}
+use Rattle.itch_layouts.specs.declared.shape.Shape.{Shape}
+use Rattle.itch_layouts.specs.declared.shape.Shape.TheVariants.{Known}
+use Rattle.itch_table.specs.Projection.{is_of_stock, steps_of}
+use Rattle.itch_readings.specs.declared.naming.Listed.{Listed}
+use Rattle.itch_readings.specs.declared.naming.StockName.{StockName}
+use Rattle.itch_readings.specs.declared.naming.StockName.TheVariants.{Locate, Symbol}
+
+-- ---- symbols
+
+-- the symbol that a directory message gives its stock
+abbrev pub symbol_by_shape : Shape → Option (List ℕ)
+symbol_by_shape (Known (Directory head m)) = Some m.stock
+symbol_by_shape other = None
+
+abbrev pub symbol_by : List ℕ → Option (List ℕ)
+symbol_by payload = symbol_by_shape (shape_of payload)
+
+-- the symbol that a payload gives a stock, where it is the stock's directory message
+abbrev pub symbol_for : ℕ → List ℕ → Option (List ℕ)
+symbol_for locate payload = if is_of_stock locate payload then symbol_by payload else None
+
+-- the symbol of a stock after the first n messages of a day: that of its first directory message among them
+unfoldable pub symbol_until : List (List ℕ) → ℕ → ℕ → Option (List ℕ)
+symbol_until day locate zero = None
+symbol_until day locate (suc n) =
+    option_or (symbol_until day locate n) (symbol_for locate (slice_index_or day n []))
+
+-- ---- lists of stocks
+
+-- what the first n messages of a day say of the stock of a locate code
+abbrev pub listed_until : List (List ℕ) → ℕ → ℕ → Listed
+listed_until day n locate = record { symbol = symbol_until day locate n; messages = steps_of day locate n }
+
+-- what they say of each stock, by its locate code
+pub record AreListed (day : List (List ℕ)) (n : ℕ) (listed : List Listed) : Type 0 where
+  pub long : length listed ≡ 0x1_0000
+  pub each : (locate : ℕ) (d : Listed) → locate < 0x1_0000
+      → slice_index_or listed locate d ≡ listed_until day n locate
+
+-- ---- the stock that is named
+
+-- whether a stock has this symbol
+abbrev pub is_symbol : List ℕ → Option (List ℕ) → Bool
+is_symbol symbol None = false
+is_symbol symbol (Some own) = bytes_eq own symbol
+
+abbrev pub has_symbol : List ℕ → Listed → Bool
+has_symbol symbol known = is_symbol symbol known.symbol
+
+-- whether a stock has a message
+abbrev pub has_messages : Option Listed → Bool
+has_messages None = false
+has_messages (Some known) = nat_lt 0 known.messages
+
+-- the first locate code, from this one on, whose stock has a symbol
+abbrev pub first_with : List ℕ → ℕ → List Listed → Option ℕ
+first_with symbol locate [] = None
+first_with symbol locate (known ∷ rest) =
+    if has_symbol symbol known then Some locate else first_with symbol (locate + 1) rest
+
+-- the locate code of a stock that is named, by what a day says of each stock: where it has a message, or else by its
+-- symbol, which is that of the first such stock
+abbrev pub locate_of : List Listed → StockName → Option ℕ
+locate_of listed (Locate code) = if has_messages (slice_get listed code) then Some code else None
+locate_of listed (Symbol symbol) = first_with symbol 0 listed

@@ -1,0 +1,41 @@
+-- The lines of a stock's best bid and ask along a day: comma-separated fields, numbers in decimal digits. All is of this
+-- project.
+use Rattle.std.specs.Prelude.{ℕ, ◌==◌, ◌&&◌, Bool, true, not, if◌then◌else◌, List, [], ◌∷◌, ◌++◌, codes, decimal}
+use Rattle.itch_table.specs.declared.order.Top.{Top}
+use Rattle.itch_table.specs.Shows.{no_top}
+use Rattle.itch_readings.specs.declared.moments.Moment.{Moment}
+use Rattle.itch_readings.specs.declared.top_lines.Selection.{Selection}
+use Rattle.itch_readings.specs.declared.top_lines.Selection.TheVariants.{Changes, Every}
+
+-- whether two tops differ
+abbrev pub differs : Top → Top → Bool
+differs before after =
+    not ((before.bid_price == after.bid_price) && (before.bid_shares == after.bid_shares)
+    && (before.ask_price == after.ask_price) && (before.ask_shares == after.ask_shares))
+
+-- whether a message has a line, by the top before it and the one after it
+abbrev pub is_shown : Selection → Top → Top → Bool
+is_shown Changes before after = differs before after
+is_shown Every before after = true
+
+-- the fields of a side: its price and its shares, or nothing where it is empty
+abbrev pub side_fields : ℕ → ℕ → List ℕ
+side_fields price shares =
+    if shares == 0 then codes ",," else codes "," ++ decimal price ++ codes "," ++ decimal shares
+
+-- the line of a moment: the number of its message, its time in nanoseconds since midnight, the bid and the ask
+abbrev pub moment_line : Moment → List ℕ
+moment_line at =
+    decimal at.message ++ codes "," ++ decimal at.time ++ side_fields at.top.bid_price at.top.bid_shares
+    ++ side_fields at.top.ask_price at.top.ask_shares ++ codes "\n"
+
+-- the lines of a stock's moments, whose top was this one before them
+abbrev pub moment_lines : Selection → Top → List Moment → List ℕ
+moment_lines selection before [] = []
+moment_lines selection before (at ∷ rest) =
+    (if is_shown selection before at.top then moment_line at else []) ++ moment_lines selection at.top rest
+
+-- the names of the fields, and the lines of all moments of a stock
+abbrev pub tops_text : Selection → List Moment → List ℕ
+tops_text selection moments =
+    codes "message,time,bid_price,bid_shares,ask_price,ask_shares\n" ++ moment_lines selection no_top moments

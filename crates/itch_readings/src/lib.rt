@@ -1,0 +1,20 @@
+//! Readings of single stocks: the stocks that a day has, and the best bid and ask of one of them along it.
+//!
+//! | engine | input | output |
+//! |---|---|---|
+//! | [`stocks_run`] | a day file | a line for each of its stocks |
+//! | [`tops_run`] | a day file | a stock's best bid and ask after each of its messages, or after each that changes them |
+//!
+//! They meet the contract of the engines of `itch_engine`, `Runs`.
+#![tactic(auto)]
+
+mod engines;
+mod moments;
+mod naming;
+mod stock_lines;
+mod top_lines;
+
+pub use engines::{stocks_run, tops_run};
+pub use moments::{Moment, tops};
+pub use naming::{Listed, StockName, list_stocks, locate_of};
+pub use top_lines::Selection;

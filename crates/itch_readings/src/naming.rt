@@ -1,0 +1,129 @@
+//! The stocks of a day, and how they are named.
+ghost use Rattle.std.specs.Prelude.{◌≡◌, ◌≤◌, IfOk, length, slice_get};
+ghost use Rattle.itch_table.specs.Projection.{is_of_stock};
+ghost use Rattle.itch_readings.specs.Naming.{AreListed, first_with, has_messages, has_symbol, locate_of, symbol_by};
+
+use binaryfile::Day;
+use itch_layouts::{Msg, Shape, read_msg};
+use itch_table::{Part, part};
+use std::alloc::{AllocError, Allocator};
+
+// How many locate codes there are.
+const LOCATES: usize = 1 << 16;
+
+/// A stock as a user names it. The forms are of this project.
+#[derive(Debug, Clone, Copy, PartialEq, Eq)]
+pub enum StockName {
+    /// By its locate code.
+    Locate(u16),
+    /// By its symbol, padded with spaces to eight bytes.
+    Symbol([u8; 8]),
+}
+
+/// What a day's messages say of the stock of a locate code.
+#[derive(Debug, Clone, Copy, PartialEq, Eq)]
+pub struct Listed {
+    /// Its symbol, padded with spaces, where it has a directory message.
+    pub symbol: Option<[u8; 8]>,
+    /// How many messages it has.
+    pub messages: u32,
+}
+
+/// Whether a payload is of the stock of a locate code.
+pub(crate) fn is_of_stock(payload: &[u8], locate: u16) -> bool
+    ensures { result ≡ is_of_stock locate payload.now }
+{
+    match part(payload) {
+        Part::Locate(code) => code == locate,
+        Part::Nowhere(_) => false,
+    }
+}
+
+// The symbol that a directory message gives its stock; none where the payload is no such message.
+fn symbol_in(payload: &[u8]) -> Option<[u8; 8]>
+    ensures { result ≡ symbol_by payload.now }
+{
+    match read_msg(payload) {
+        Shape::Known(Msg::Directory(_, message)) => Some(message.stock),
+        _ => None,
+    }
+}
+
+/// What a day's messages say of each stock, by its locate code, of 2^16 in all. The memory is that of `alloc`.
+///
+/// A stock's symbol is that of its first directory message (Nasdaq TotalView-ITCH 5.0, "Stock Directory"), which is
+/// always applied; a later one with another symbol is refused. The only error is that memory was refused.
+pub fn list_stocks<A: Allocator + Copy>(
+    alloc: A,
+    day: &Day<A>,
+) -> Result<Vec<Listed, A>, AllocError>
+    ensures { IfOk result (λ listed. AreListed day.now.payloads (length day.now.payloads) listed.items) }
+{
+    let unlisted = Listed {
+        symbol: None,
+        messages: 0,
+    };
+    let mut listed = vec![in alloc; unlisted; LOCATES]?;
+    for payload in day.payloads() {
+        if let Part::Locate(locate) = part(payload) {
+            let before = listed[locate as usize];
+            let symbol = match before.symbol {
+                Some(symbol) => Some(symbol),
+                None => symbol_in(payload),
+            };
+            listed[locate as usize] = Listed {
+                symbol,
+                messages: before.messages + 1,
+            };
+        }
+    }
+    Ok(listed)
+}
+
+// Whether a stock has this symbol.
+fn has_symbol(known: &Listed, symbol: &[u8; 8]) -> bool
+    ensures { result ≡ has_symbol symbol.now known.now }
+{
+    match &known.symbol {
+        Some(own) => own == symbol,
+        None => false,
+    }
+}
+
+// Whether the stock of a locate code has a message.
+fn has_messages(listed: &[Listed], locate: u16) -> bool
+    ensures { result ≡ has_messages (slice_get listed.now locate) }
+{
+    match listed.get(locate as usize) {
+        Some(known) => known.messages > 0,
+        None => false,
+    }
+}
+
+// The first locate code whose stock has a symbol.
+fn first_with(listed: &[Listed], symbol: &[u8; 8]) -> Option<u16>
+    requires { length listed.now ≤ 0x1_0000 }
+    ensures { result ≡ first_with symbol.now 0 listed.now }
+{
+    let mut code = 0u32;
+    for known in listed {
+        if has_symbol(known, symbol) {
+            return Some(code as u16);
+        }
+        code += 1;
+    }
+    None
+}
+
+/// The locate code of a stock that is named, by what a day's messages say of each stock; none where the day has no
+/// message of it. By a symbol it is the first stock, by locate code, that has the symbol. This is of this project.
+pub fn locate_of(listed: &[Listed], name: StockName) -> Option<u16>
+    requires { length listed.now ≤ 0x1_0000 }
+    ensures { result ≡ locate_of listed.now name }
+{
+    match name {
+        StockName::Locate(locate) if has_messages(listed, locate) => Some(locate),
+        StockName::Locate(_) => None,
+        StockName::Symbol(symbol) => first_with(listed, &symbol),
+    }
+}

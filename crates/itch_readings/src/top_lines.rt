@@ -1,0 +1,101 @@
+//! The lines of a stock's best bid and ask along a day.
+ghost use Rattle.std.specs.Prelude.{◌≡◌, ◌++◌, OnOk};
+ghost use Rattle.byte_strings.specs.Extending.{Extends};
+ghost use Rattle.itch_table.specs.Shows.{no_top};
+ghost use Rattle.itch_readings.specs.TopLines.{differs, is_shown, moment_line, moment_lines, side_fields, tops_text};
+
+use crate::moments::Moment;
+use itch_engine::put_count;
+use itch_table::Top;
+use std::alloc::{AllocError, Allocator};
+
+/// Which of a stock's messages have a line. This is of this project.
+#[derive(Debug, Clone, Copy, PartialEq, Eq)]
+pub enum Selection {
+    /// Those after which the best bid or ask is another than before.
+    Changes,
+    /// All of them.
+    Every,
+}
+
+// Whether two tops differ.
+fn differs(before: &Top, after: &Top) -> bool
+    ensures { result ≡ differs before.now after.now }
+{
+    before.bid_price != after.bid_price
+        || before.bid_shares != after.bid_shares
+        || before.ask_price != after.ask_price
+        || before.ask_shares != after.ask_shares
+}
+
+// Whether a message has a line, by the top before it and the one after it.
+fn is_shown(selection: Selection, before: &Top, after: &Top) -> bool
+    ensures { result ≡ is_shown selection before.now after.now }
+{
+    match selection {
+        Selection::Changes => differs(before, after),
+        Selection::Every => true,
+    }
+}
+
+// Adds the price and the shares of a side, each after a comma; nothing after the commas where it is empty.
+fn put_side<A: Allocator>(
+    text: &mut Vec<u8, A>,
+    price: u32,
+    shares: u64,
+) -> Result<(), AllocError>
+    ensures { Extends text.old text.new (side_fields price shares) result }
+{
+    if shares == 0 {
+        return text.extend_from_slice(b",,");
+    }
+    put_count(text, b",", price)?;
+    put_count(text, b",", shares)
+}
+
+// Adds the line of a moment.
+fn put_moment<A: Allocator>(text: &mut Vec<u8, A>, moment: &Moment) -> Result<(), AllocError>
+    ensures { Extends text.old text.new (moment_line moment.now) result }
+{
+    put_count(text, b"", moment.message)?;
+    put_count(text, b",", moment.time)?;
+    put_side(text, moment.top.bid_price, moment.top.bid_shares)?;
+    put_side(text, moment.top.ask_price, moment.top.ask_shares)?;
+    text.push(b'\n')?;
+    Ok(())
+}
+
+// Adds the lines of a stock's moments, whose book is empty before the first.
+fn put_moments<A: Allocator>(
+    text: &mut Vec<u8, A>,
+    selection: Selection,
+    moments: &[Moment],
+) -> Result<(), AllocError>
+    ensures { Extends text.old text.new (moment_lines selection no_top moments.now) result }
+{
+    let mut before = Top {
+        bid_price: 0,
+        bid_shares: 0,
+        ask_price: 0,
+        ask_shares: 0,
+    };
+    for moment in moments {
+        if is_shown(selection, &before, &moment.top) {
+            put_moment(text, moment)?;
+        }
+        before = moment.top;
+    }
+    Ok(())
+}
+
+/// Adds the names of the fields, and the lines of a stock's moments.
+pub(crate) fn put_tops<A: Allocator>(
+    text: &mut Vec<u8, A>,
+    selection: Selection,
+    moments: &[Moment],
+) -> Result<(), AllocError>
+    ensures { Extends text.old text.new (tops_text selection moments.now) result }
+{
+    text.extend_from_slice(b"message,time,bid_price,bid_shares,ask_price,ask_shares\n")?;
+    put_moments(text, selection, moments)
+}
