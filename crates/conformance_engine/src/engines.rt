@@ -1,6 +1,7 @@
-//! The four engines, called by one form, and the replay also by two workers.
+//! The engines, called by one form, and the replay also by two workers.
 use binaryfile::{Feed, Sink};
-use itch_engine::{ProgFault, asm_run, dis_run, hex_run, replay_run};
+use itch_engine::{ProgFault, asm_run, dis_between_run, dis_run, hex_run, replay_run};
+use itch_readings::{Selection, StockName, stocks_run, tops_run};
 use std::alloc::Allocator;
 use std::io::{Read, Write};
 use std::sync::Wait;
@@ -16,15 +17,23 @@ pub(crate) enum Engine {
     TwoWorkers,
     Digits,
     Disassembler,
+    /// The disassembler of messages 2 and 3.
+    Between,
     Assembler,
+    Stocks,
+    /// The tops of the file's stock, by its symbol.
+    Tops,
 }
 
 /// All of them, where the replay has one worker.
-pub(crate) const ENGINES: [Engine; 4] = [
+pub(crate) const ENGINES: [Engine; 7] = [
     Engine::Replay,
     Engine::Digits,
     Engine::Disassembler,
+    Engine::Between,
     Engine::Assembler,
+    Engine::Stocks,
+    Engine::Tops,
 ];
 
 // The bytes of examples/two-stocks.itch: two stocks with a bid each, and three deletes, two of which are refused.
@@ -47,11 +56,27 @@ const TWO_STOCKS_REPORT: &[u8] = b"message 6 refused F2\n\
       bid 200 20\n\
       trades 0 shares 0 notional 0 unprinted 0\n";
 
+// The lines of the worked file's messages 2 and 3.
+const BETWEEN: &[u8] =
+    b"add locate=1 tracking=0 time=1 reference=1 side=\"B\" shares=100 stock=\"AAPL\" price=1010000\n\
+      raw 41\n";
+
+// The lines of the worked file's stocks.
+const STOCKS: &[u8] = b"stock 1 \"AAPL\" messages 2\n";
+
+// The lines of their best bids and asks: message 2 is the only bid.
+const TOPS: &[u8] = b"message,time,bid_price,bid_shares,ask_price,ask_shares\n\
+      2,1,1010000,100,,\n";
+
 impl Engine {
     /// A file in the form that the engine reads.
     pub(crate) fn input(self) -> &'static [u8] {
         match self {
-            Engine::Replay | Engine::Disassembler => FILE,
+            Engine::Replay
+            | Engine::Disassembler
+            | Engine::Between
+            | Engine::Stocks
+            | Engine::Tops => FILE,
             Engine::TwoWorkers => TWO_STOCKS,
             Engine::Digits => DIGITS,
             Engine::Assembler => TEXT,
@@ -64,7 +89,10 @@ impl Engine {
             Engine::Replay | Engine::Digits => REPORT,
             Engine::TwoWorkers => TWO_STOCKS_REPORT,
             Engine::Disassembler => TEXT,
+            Engine::Between => BETWEEN,
             Engine::Assembler => FILE,
+            Engine::Stocks => STOCKS,
+            Engine::Tops => TOPS,
         }
     }
 
@@ -73,7 +101,11 @@ impl Engine {
         match self {
             Engine::Replay | Engine::Digits => Ok(1),
             Engine::TwoWorkers => Ok(2),
-            Engine::Disassembler | Engine::Assembler => Ok(0),
+            Engine::Disassembler
+            | Engine::Between
+            | Engine::Assembler
+            | Engine::Stocks
+            | Engine::Tops => Ok(0),
         }
     }
 
@@ -91,7 +123,17 @@ impl Engine {
             Engine::TwoWorkers => replay_run(rt, alloc, &mut feed, &mut sink, 2, &FreeGate),
             Engine::Digits => hex_run(rt, alloc, &mut feed, &mut sink),
             Engine::Disassembler => dis_run(alloc, &mut feed, &mut sink).map(|()| 0),
+            Engine::Between => dis_between_run(alloc, &mut feed, &mut sink, 2, 3).map(|()| 0),
             Engine::Assembler => asm_run(alloc, &mut feed, &mut sink).map(|()| 0),
+            Engine::Stocks => stocks_run(alloc, &mut feed, &mut sink).map(|()| 0),
+            Engine::Tops => tops_run(
+                alloc,
+                &mut feed,
+                &mut sink,
+                StockName::Symbol(*b"AAPL    "),
+                Selection::Changes,
+            )
+            .map(|()| 0),
         }
     }
 }

@@ -8,13 +8,15 @@ use std::thread::Threads;
 use support::{same, same_bytes};
 
 // An engine's input that it can't take, and the fault.
-const INPUTS: [(Engine, &[u8], ProgFault); 9] = [
+const INPUTS: [(Engine, &[u8], ProgFault); 11] = [
     (Engine::Digits, b"0", ProgFault::BadHex),
     (Engine::Digits, b"000", ProgFault::BadHex),
     (Engine::Digits, b"0g", ProgFault::BadHex),
     (Engine::Digits, b"\t", ProgFault::BadHex),
     (Engine::Digits, b"00\t00", ProgFault::BadHex),
     (Engine::Digits, b"00\r", ProgFault::BadHex),
+    (Engine::Tops, b"", ProgFault::NoStock),
+    (Engine::Tops, b"\x00\x01A", ProgFault::NoStock),
     (
         Engine::Assembler,
         b"# a comment\nsistem",
@@ -59,12 +61,14 @@ fn engines_send_nothing_for_a_faulty_input(rt: HostRuntime) -> Result<(), Fail> 
 fn engines_take_an_empty_input(rt: HostRuntime) -> Result<(), Fail> {
     let report =
         b"messages 0 applied 0 passed 0 refused 0 marked no tail 0 event none\n".as_slice();
-    let cases: [(Engine, &[u8], &[u8]); 6] = [
+    let cases: [(Engine, &[u8], &[u8]); 8] = [
         (Engine::Replay, b"", report),
         (Engine::Digits, b"", report),
         (Engine::Digits, b" \n", report),
         (Engine::Digits, b"\n\n   \n", report),
         (Engine::Disassembler, b"", b""),
+        (Engine::Between, b"", b""),
+        (Engine::Stocks, b"", b""),
         (Engine::Assembler, b"", b""),
     ];
     for (engine, input, wanted) in cases {
@@ -89,6 +93,7 @@ fn statuses_and_words_are_those_of_the_fault(rt: HostRuntime) -> Result<(), Fail
         (ProgFault::TooManyMessages, 3, "too many messages"),
         (ProgFault::BadHex, 3, "bad hex"),
         (ProgFault::Write, 3, "write failed"),
+        (ProgFault::NoStock, 2, "no such stock"),
         (ProgFault::Asm(AsmFault::Memory), 4, "no memory"),
         (ProgFault::Asm(AsmFault::Mnemonic(2)), 5, "line 2: mnemonic"),
         (ProgFault::Asm(AsmFault::Field(1)), 5, "line 1: field"),

@@ -178,7 +178,10 @@ fn engines_send_nothing_without_memory(rt: HostRuntime) -> Result<(), Fail> {
         Engine::Replay,
         Engine::Digits,
         Engine::Disassembler,
+        Engine::Between,
         Engine::Assembler,
+        Engine::Stocks,
+        Engine::Tops,
     ] {
         let growths = refuse_each(|refusal: Refusal| -> Result<Tried, Fail> {
             try_refusal(&rt, engine, refusal)

@@ -3,23 +3,68 @@ ghost use Rattle.std.specs.Prelude.{◌≡◌, ◌≢◌};
 ghost use Rattle.clap.specs.Values.{kind_of};
 ghost use Rattle.clap.specs.declared.error.kind.ErrorKind.TheVariants.{DisplayHelp, DisplayVersion};
 
-use clap::{Arg, ArgMatches, Command, Error, value_parser};
+use clap::{Arg, ArgAction, ArgMatches, Command, Error, value_parser};
+use itch_readings::{Selection, StockName};
 use std::alloc::{AllocError, Global};
 
 /// What FILE is.
 const DAY_HELP: &str = "A Nasdaq TotalView-ITCH 5.0 day in Nasdaq BinaryFILE form";
 
+/// The commands of a debugging session, with an example each.
+const DEBUG_COMMANDS: &str = "Commands, a line each:
+  goto 1000                  to the position after that many messages
+  step                       one message on
+  back                       one message back
+  onward                     to the next message at which a breakpoint stops
+  rearward                   to the one before
+  break price 1 B 1500000    stop where the shares bid (B) or asked (S) at a price of a stock change
+  break reference 1 42       stop at each message of a stock with that order reference
+  break time 34200000000000  stop at the first message from that time on, in nanoseconds since midnight
+  breaks                     list the breakpoints
+  remove 1                   remove a breakpoint
+  event                      show the last system event
+  show 1                     show a stock
+  quit                       end
+
+Stocks are named by locate code, which `itch stocks FILE` lists. Prices are in 1/10,000 of a currency unit.";
+
 /// What the arguments ask for.
 #[derive(Drop)]
 pub enum Task<'a> {
     /// To replay a file, by so many workers as the arguments say.
-    Replay { file: &'a str, workers: u32 },
+    Replay {
+        file: &'a str,
+        workers: u32,
+    },
     /// To write a file's text.
-    Disassemble { file: &'a str },
+    Disassemble {
+        file: &'a str,
+    },
+    /// To write the lines of a file's messages from one number to another.
+    DisassembleBetween {
+        file: &'a str,
+        first: u32,
+        last: u32,
+    },
+    /// To list a file's stocks.
+    Stocks {
+        file: &'a str,
+    },
+    /// To write the best bid and ask of one of a file's stocks along it.
+    Tops {
+        file: &'a str,
+        stock: &'a str,
+        selection: Selection,
+    },
     /// To make a file of a text.
-    Assemble { text: &'a str, out: &'a str },
+    Assemble {
+        text: &'a str,
+        out: &'a str,
+    },
     /// To answer the commands of standard input about a file.
-    Debug { file: &'a str },
+    Debug {
+        file: &'a str,
+    },
     /// To replay the file whose hexadecimal digits are standard input.
     ReplayDigits,
 }
@@ -41,6 +86,15 @@ fn workers<'a>(alloc: Global) -> Arg<'a> {
         .default_value("1")
 }
 
+// The number of a message.
+fn number<'a>(alloc: Global, name: &'a str, help: &'a str) -> Arg<'a> {
+    Arg::new(alloc, name)
+        .long(name)
+        .value_name("N")
+        .help(help)
+        .value_parser(value_parser!(u32).range(1..=4_294_967_295))
+}
+
 // The arguments that replay a file.
 fn replay_command<'a>(alloc: Global) -> Result<Command<'a>, AllocError> {
     Command::new(alloc, "replay")
@@ -53,7 +107,44 @@ fn replay_command<'a>(alloc: Global) -> Result<Command<'a>, AllocError> {
 fn dis_command<'a>(alloc: Global) -> Result<Command<'a>, AllocError> {
     Command::new(alloc, "dis")
         .about("Prints a day as text, one line a message")
+        .arg(path(alloc, "FILE", DAY_HELP))?
+        .arg(number(
+            alloc,
+            "from",
+            "Prints no message before this one, counted from 1, and not the file's end",
+        ))?
+        .arg(number(
+            alloc,
+            "to",
+            "Prints no message after this one, and not the file's end",
+        ))
+}
+
+// The arguments that list a file's stocks.
+fn stocks_command<'a>(alloc: Global) -> Result<Command<'a>, AllocError> {
+    Command::new(alloc, "stocks")
+        .about("Prints the stocks of a day: locate code, symbol and number of messages")
         .arg(path(alloc, "FILE", DAY_HELP))
+}
+
+// The arguments that print a stock's best bid and ask.
+fn tops_command<'a>(alloc: Global) -> Result<Command<'a>, AllocError> {
+    Command::new(alloc, "tops")
+        .about(
+            "Prints the best bid and ask of a stock wherever they change, as comma-separated lines",
+        )
+        .arg(path(alloc, "FILE", DAY_HELP))?
+        .arg(path(
+            alloc,
+            "STOCK",
+            "A symbol, between quotes where it has digits alone, or a locate code in digits",
+        ))?
+        .arg(
+            Arg::new(alloc, "every")
+                .long("every")
+                .action(ArgAction::SetTrue)
+                .help("Prints them after each message of the stock"),
+        )
 }
 
 // The arguments that make the file of a text.
@@ -76,6 +167,7 @@ fn asm_command<'a>(alloc: Global) -> Result<Command<'a>, AllocError> {
 fn debug_command<'a>(alloc: Global) -> Result<Command<'a>, AllocError> {
     Command::new(alloc, "debug")
         .about("Goes through a day both ways, by commands on standard input")
+        .after_help(DEBUG_COMMANDS)
         .arg(path(alloc, "FILE", DAY_HELP))
 }
 
@@ -88,6 +180,8 @@ fn itch_command<'a>(alloc: Global) -> Result<Command<'a>, AllocError> {
         .disable_help_subcommand(true)
         .subcommand(replay_command(alloc)?)?
         .subcommand(dis_command(alloc)?)?
+        .subcommand(stocks_command(alloc)?)?
+        .subcommand(tops_command(alloc)?)?
         .subcommand(asm_command(alloc)?)?
         .subcommand(debug_command(alloc)?)
 }
@@ -95,6 +189,45 @@ fn itch_command<'a>(alloc: Global) -> Result<Command<'a>, AllocError> {
 /// The arguments, read, or why they are invalid.
 pub fn parse<'a>(alloc: Global, arguments: &'a [String]) -> Result<ArgMatches<'a>, Error> {
     itch_command(alloc)?.try_get_matches_from(arguments)
+}
+
+// How a file is disassembled: whole, or between two of its messages.
+fn disassembling<'a>(dis: &ArgMatches<'a>, file: &'a str) -> Task<'a> {
+    let (first, last): (Option<u32>, Option<u32>) = (dis.get_one("from"), dis.get_one("to"));
+    match (first, last) {
+        (None, None) => Task::Disassemble { file },
+        (first, last) => Task::DisassembleBetween {
+            file,
+            first: first.unwrap_or(1),
+            last: last.unwrap_or(u32::MAX),
+        },
+    }
+}
+
+// The symbol of this text, padded with spaces; none where it is longer than eight bytes.
+fn symbol_of(text: &[u8]) -> Option<[u8; 8]> {
+    if text.len() > 8 {
+        return None;
+    }
+    let mut symbol = [b' '; 8];
+    for (place, byte) in text.iter().enumerate() {
+        symbol[place] = *byte;
+    }
+    Some(symbol)
+}
+
+/// The stock that a word names: by a symbol, which may stand between quotes, or by a locate code in digits; none where
+/// the word is neither.
+pub fn stock_name(word: &str) -> Option<StockName> {
+    let text = word.as_bytes();
+    if text.iter().all(|byte| byte.is_ascii_digit()) {
+        return Some(StockName::Locate(word.parse().ok()?));
+    }
+    let symbol = match text {
+        [b'"', symbol @ .., b'"'] => symbol,
+        _ => text,
+    };
+    Some(StockName::Symbol(symbol_of(symbol)?))
 }
 
 /// What the arguments ask for.
@@ -108,7 +241,27 @@ pub fn chosen_task<'a>(matches: &ArgMatches<'a>) -> Task<'a> {
     if let Some(dis) = matches.subcommand_matches("dis")
         && let Some(file) = dis.get_str("FILE")
     {
-        return Task::Disassemble { file };
+        return disassembling(dis, file);
+    }
+    if let Some(stocks) = matches.subcommand_matches("stocks")
+        && let Some(file) = stocks.get_str("FILE")
+    {
+        return Task::Stocks { file };
+    }
+    if let Some(tops) = matches.subcommand_matches("tops")
+        && let Some(file) = tops.get_str("FILE")
+        && let Some(stock) = tops.get_str("STOCK")
+    {
+        let selection = if tops.get_flag("every") {
+            Selection::Every
+        } else {
+            Selection::Changes
+        };
+        return Task::Tops {
+            file,
+            stock,
+            selection,
+        };
     }
     if let Some(asm) = matches.subcommand_matches("asm")
         && let Some(text) = asm.get_str("TEXT")

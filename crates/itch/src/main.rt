@@ -9,7 +9,8 @@ use binaryfile::{Day, Feed, Limits, Sink};
 use clap::error::ErrorKind;
 use itch_debug::debug_run;
 use itch_engine::limits::{MOST_FILE_BYTES, MOST_MESSAGES};
-use itch_engine::{ProgFault, asm_run, dis_run, hex_run, replay_run, status};
+use itch_engine::{ProgFault, asm_run, dis_between_run, dis_run, hex_run, replay_run, status};
+use itch_readings::{Selection, stocks_run, tops_run};
 use output::Created;
 use std::process::ExitCode;
 use std::rt::Runtime;
@@ -66,6 +67,52 @@ fn disassemble<R: Runtime + AllocGlobal>(rt: &R, path: &str) -> Result<u32, Prog
     let mut feed = Feed::new(file);
     let mut sink = Sink::new(io::writer(rt));
     dis_run(rt.alloc(), &mut feed, &mut sink)?;
+    Ok(0)
+}
+
+// Writes the lines of a file's messages from one number to another on standard output.
+fn disassemble_between<R: Runtime + AllocGlobal>(
+    rt: &R,
+    path: &str,
+    first: u32,
+    last: u32,
+) -> Result<u32, ProgFault> {
+    let Ok(file) = fs::open(rt, path) else {
+        return Err(ProgFault::Read);
+    };
+    let mut feed = Feed::new(file);
+    let mut sink = Sink::new(io::writer(rt));
+    dis_between_run(rt.alloc(), &mut feed, &mut sink, first, last)?;
+    Ok(0)
+}
+
+// Lists a file's stocks on standard output.
+fn list_stocks<R: Runtime + AllocGlobal>(rt: &R, path: &str) -> Result<u32, ProgFault> {
+    let Ok(file) = fs::open(rt, path) else {
+        return Err(ProgFault::Read);
+    };
+    let mut feed = Feed::new(file);
+    let mut sink = Sink::new(io::writer(rt));
+    stocks_run(rt.alloc(), &mut feed, &mut sink)?;
+    Ok(0)
+}
+
+// Writes the best bid and ask of one of a file's stocks along it on standard output.
+fn print_tops<R: Runtime + AllocGlobal>(
+    rt: &R,
+    path: &str,
+    stock: &str,
+    selection: Selection,
+) -> Result<u32, ProgFault> {
+    let Some(name) = arguments::stock_name(stock) else {
+        return Err(ProgFault::NoStock);
+    };
+    let Ok(file) = fs::open(rt, path) else {
+        return Err(ProgFault::Read);
+    };
+    let mut feed = Feed::new(file);
+    let mut sink = Sink::new(io::writer(rt));
+    tops_run(rt.alloc(), &mut feed, &mut sink, name, selection)?;
     Ok(0)
 }
 
@@ -128,6 +175,15 @@ fn run<R: Runtime + AllocGlobal + Threads + Wait + Sync>(rt: &R, arguments: &[St
     match arguments::chosen_task(&matches) {
         Task::Replay { file, workers } => end(rt, replay(rt, file, workers)),
         Task::Disassemble { file } => end(rt, disassemble(rt, file)),
+        Task::DisassembleBetween { file, first, last } => {
+            end(rt, disassemble_between(rt, file, first, last))
+        }
+        Task::Stocks { file } => end(rt, list_stocks(rt, file)),
+        Task::Tops {
+            file,
+            stock,
+            selection,
+        } => end(rt, print_tops(rt, file, stock, selection)),
         Task::Assemble { text, out } => end(rt, assemble(rt, text, out)),
         Task::Debug { file } => end(rt, debug(rt, file)),
         Task::ReplayDigits => end(rt, replay_digits(rt)),

@@ -54,7 +54,7 @@ module _ (day rest : List (List ℕ)) (n : ℕ) (payload : List ℕ) (goes_on : 
 
   next_of : (locate : ℕ) (own : Bool) → is_of_stock locate payload ≡ own
       → listed_until day (n + 1) locate
-        ≡ listed_as (option_or (symbol_until day locate n) (cond own (symbol_by payload) None)) (steps_of day locate n + cond own 1 0)
+      ≡ listed_as (option_or (symbol_until day locate n) (cond own (symbol_by payload) None)) (steps_of day locate n + cond own 1 0)
   next_of locate own is =
       rw (symbol-next day locate n, steps-next day locate n, here, is) refl
 
@@ -140,8 +140,8 @@ module _ (day rest : List (List ℕ)) (listed : List Listed) (before : IsListing
           | inl same ↦
               rw (same, get_or-set_same listed locate (listed_as symbol (item.messages + 1)) d (omega (arith, low, before.are.long)))
               (ap (λ (s : Option (List ℕ)). listed_as s (item.messages + 1)) symbol_is
-                  ∙ ap (λ (known : Listed). listed_as (option_or known.symbol (symbol_by payload)) (known.messages + 1)) item_is
-                  ∙ sym (next_own day more before.n payload now locate own))
+              ∙ ap (λ (known : Listed). listed_as (option_or known.symbol (symbol_by payload)) (known.messages + 1)) item_is
+              ∙ sym (next_own day more before.n payload now locate own))
           | inr differ ↦
               get_or-set_other listed locate code (listed_as symbol (item.messages + 1)) d differ
               ∙ before.are.each code d below

@@ -12,8 +12,8 @@ symbol_words (Some symbol) = quoted symbol
 abbrev pub listed_line : ℕ → Listed → List ℕ
 listed_line locate known =
     if nat_lt 0 known.messages then
-      codes "stock " ++ decimal locate ++ codes " " ++ symbol_words known.symbol
-      ++ codes " messages " ++ decimal known.messages ++ codes "\n"
+    codes "stock " ++ decimal locate ++ codes " " ++ symbol_words known.symbol
+    ++ codes " messages " ++ decimal known.messages ++ codes "\n"
     else []
 
 -- the lines of these stocks, which have the locate codes from this one on

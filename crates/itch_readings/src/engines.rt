@@ -14,10 +14,7 @@ use std::alloc::Allocator;
 use std::io::{Read, Write};
 
 // The lines of a file's stocks.
-fn stocks_of_file<A: Allocator + Copy>(
-    alloc: A,
-    input: Vec<u8, A>,
-) -> Result<Vec<u8, A>, ProgFault>
+fn stocks_of_file<A: Allocator + Copy>(alloc: A, input: Vec<u8, A>) -> Result<Vec<u8, A>, ProgFault>
     ensures text { IfOk result (λ text. ListsStocks input.items text.items) }
     ensures fault { IfErr result (Fails stock_lister input.items) }
 {

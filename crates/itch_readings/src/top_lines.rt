@@ -39,11 +39,7 @@ fn is_shown(selection: Selection, before: &Top, after: &Top) -> bool
 }
 
 // Adds the price and the shares of a side, each after a comma; nothing after the commas where it is empty.
-fn put_side<A: Allocator>(
-    text: &mut Vec<u8, A>,
-    price: u32,
-    shares: u64,
-) -> Result<(), AllocError>
+fn put_side<A: Allocator>(text: &mut Vec<u8, A>, price: u32, shares: u64) -> Result<(), AllocError>
     ensures { Extends text.old text.new (side_fields price shares) result }
 {
     if shares == 0 {

@@ -1,3 +1,2 @@
-pub mod Tops
 pub mod Kinds
 pub mod Watching

@@ -1,5 +1,5 @@
-//! Callers of the libraries, each a page to copy from: the top of one stock after each of its messages, the messages of
-//! one kind, a report to a writer of one's own, and a screen beside a replay.
+//! Callers of the libraries, each a page to copy from: the messages of one kind, a report to a writer of one's own, and a
+//! screen beside a replay.
 //!
 //! They stand on the libraries' public contracts alone. What each promises of its result is in its own contract, in the
 //! libraries' words.
@@ -7,10 +7,8 @@
 
 mod kinds;
 mod lines;
-mod moments;
 mod watching;
 
 pub use kinds::messages_of_kind;
 pub use lines::{LineCounter, report_lines};
-pub use moments::{Moment, tops};
 pub use watching::{Counter, watch, watch_first_stock};

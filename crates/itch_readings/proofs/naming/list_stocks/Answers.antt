@@ -15,7 +15,7 @@ loop-payload-init g c =
 pub overflow_add-before : goal.overflow_add-before
 overflow_add-before g c =
     let fits = messages_fit c.args.day.now.payloads c.loop-payload.payload-iterator c.loop-payload.listed.items c.loop-payload.invariant c.in-Some.payload.now _
-        ((c.in-Some.ensures {u = tt}).steps) c.in-Locate.locate (c.in-Locate.ensures {u = tt}) (omega arith) c.index-before.result.now c.index-before.ensures in
+    ((c.in-Some.ensures {u = tt}).steps) c.in-Locate.locate (c.in-Locate.ensures {u = tt}) (omega arith) c.index-before.result.now c.index-before.ensures in
     record { fits = omega (arith, fits, c.payloads-payload-items.ensures.few) }
 
 pub loop-payload-preserved-in-Locate : goal.loop-payload-preserved-in-Locate
