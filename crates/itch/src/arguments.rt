@@ -35,6 +35,8 @@ pub enum Task<'a> {
     Replay {
         file: &'a str,
         workers: u32,
+        /// Whether to say how far the replay is.
+        progress: bool,
     },
     /// To write a file's text.
     Disassemble {
@@ -100,7 +102,13 @@ fn replay_command<'a>(alloc: Global) -> Result<Command<'a>, AllocError> {
     Command::new(alloc, "replay")
         .about("Replays a day and prints its report")
         .arg(path(alloc, "FILE", DAY_HELP))?
-        .arg(workers(alloc))
+        .arg(workers(alloc))?
+        .arg(
+            Arg::new(alloc, "progress")
+                .long("progress")
+                .action(ArgAction::SetTrue)
+                .help("Says on standard error each time that another million messages are done"),
+        )
 }
 
 // The arguments that print a file's text.
@@ -236,7 +244,11 @@ pub fn chosen_task<'a>(matches: &ArgMatches<'a>) -> Task<'a> {
         && let Some(file) = replay.get_str("FILE")
     {
         let workers = replay.get_one("workers").unwrap_or(1);
-        return Task::Replay { file, workers };
+        return Task::Replay {
+            file,
+            workers,
+            progress: replay.get_flag("progress"),
+        };
     }
     if let Some(dis) = matches.subcommand_matches("dis")
         && let Some(file) = dis.get_str("FILE")

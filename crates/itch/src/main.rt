@@ -3,6 +3,7 @@
 
 mod arguments;
 mod output;
+mod progress;
 
 use arguments::Task;
 use binaryfile::{Day, Feed, Limits, Sink};
@@ -12,12 +13,13 @@ use itch_engine::limits::{MOST_FILE_BYTES, MOST_MESSAGES};
 use itch_engine::{ProgFault, asm_run, dis_between_run, dis_run, hex_run, replay_run, status};
 use itch_readings::{Selection, stocks_run, tops_run};
 use output::Created;
+use progress::Progress;
 use std::process::ExitCode;
 use std::rt::Runtime;
 use std::sync::Wait;
 use std::thread::Threads;
 use std::{env, fs, io};
-use stock_workers::FreeGate;
+use stock_workers::{FreeGate, Gate};
 
 /// The status for invalid arguments.
 const MISUSE: u8 = 2;
@@ -39,10 +41,11 @@ fn end(rt: &impl Eprint, answer: Result<u32, ProgFault>) -> ExitCode {
 
 // Replays a file by this many workers, and writes its report on standard output. The arguments give no number but from
 // 1 to 64.
-fn replay<R: Runtime + AllocGlobal + Threads + Wait + Sync>(
+fn replay<R: Runtime + AllocGlobal + Threads + Wait + Sync, G: Gate>(
     rt: &R,
     path: &str,
     workers: u32,
+    gate: &G,
 ) -> Result<u32, ProgFault> {
     let Ok(file) = fs::open(rt, path) else {
         return Err(ProgFault::Read);
@@ -55,7 +58,7 @@ fn replay<R: Runtime + AllocGlobal + Threads + Wait + Sync>(
         &mut feed,
         &mut sink,
         workers.clamp(1, MOST_WORKERS),
-        &FreeGate,
+        gate,
     )
 }
 
@@ -173,8 +176,18 @@ fn run<R: Runtime + AllocGlobal + Threads + Wait + Sync>(rt: &R, arguments: &[St
         Err(error) => return explain(rt, &error),
     };
     match arguments::chosen_task(&matches) {
-        Task::Replay { file, workers } => end(rt, replay(rt, file, workers)),
+        Task::Replay {
+            file,
+            workers,
+            progress: false,
+        } => end(rt, replay(rt, file, workers, &FreeGate)),
+        Task::Replay { file, workers, .. } => {
+            end(rt, replay(rt, file, workers, &Progress::new(rt)))
+        }
         Task::Disassemble { file } => end(rt, disassemble(rt, file)),
+        Task::DisassembleBetween { first, last, .. } if last < first => {
+            refuse(rt, "--to is before --from")
+        }
         Task::DisassembleBetween { file, first, last } => {
             end(rt, disassemble_between(rt, file, first, last))
         }
@@ -190,15 +203,20 @@ fn run<R: Runtime + AllocGlobal + Threads + Wait + Sync>(rt: &R, arguments: &[St
     }
 }
 
+// Ends where the arguments are invalid, and says why on standard error.
+fn refuse(rt: &impl Eprint, why: &str) -> ExitCode {
+    match eprintln!(rt; "itch: {why}") {
+        Ok(()) => ExitCode::from(MISUSE),
+        Err(_) => ExitCode::from(DEVICE),
+    }
+}
+
 // Ends where the arguments can't be taken: one of them isn't UTF-8, or memory was refused.
 fn refuse_arguments(rt: &impl Eprint, error: io::Error) -> ExitCode {
     if error.kind() == io::ErrorKind::OutOfMemory {
         return end(rt, Err(ProgFault::Memory));
     }
-    match eprintln!(rt; "itch: a word isn't UTF-8") {
-        Ok(()) => ExitCode::from(MISUSE),
-        Err(_) => ExitCode::from(DEVICE),
-    }
+    refuse(rt, "a word isn't UTF-8")
 }
 
 fn main(rt: HostRuntime) -> ExitCode {
