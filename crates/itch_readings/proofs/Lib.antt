@@ -1,2 +1,4 @@
+mod GoesOn
 mod NextMoment
 mod Listing
+mod Named

@@ -10,6 +10,7 @@ use Rattle.itch_table.specs.declared.outcome.Part.TheVariants.{Locate, Nowhere}
 use Rattle.itch_table.specs.Parts.{part}
 use Rattle.itch_table.specs.Projection.{is_of_stock, steps_of}
 use Rattle.itch_table.proofs.StockDays.{steps-next, steps-none}
+use Rattle.itch_readings.proofs.GoesOn.{here, left_then, one_more}
 use Rattle.itch_readings.specs.Naming.{AreListed, listed_until, symbol_by, symbol_for, symbol_until}
 use Rattle.itch_readings.specs.declared.naming.Listed.{Listed}
 
@@ -40,23 +41,11 @@ steps_below day locate n = omega (arith, count_by-le-length (is_of_stock locate)
 
 -- where a day goes on with a payload after n messages
 module _ (day rest : List (List ℕ)) (n : ℕ) (payload : List ℕ) (goes_on : drop n day ≡ payload ∷ rest) where
-  pub within : n < length day
-  within = omega (arith, ap length goes_on, length-drop n day)
-
-  next : get_or day n [] ∷ drop (n + 1) day ≡ payload ∷ rest
-  next = sym (drop_more day n [] within) ∙ goes_on
-
-  pub rest_is : rest ≡ drop (n + 1) day
-  rest_is = let e = next in cc
-
-  pub here : get_or day n [] ≡ payload
-  here = let e = next in cc
-
   next_of : (locate : ℕ) (own : Bool) → is_of_stock locate payload ≡ own
       → listed_until day (n + 1) locate
       ≡ listed_as (option_or (symbol_until day locate n) (cond own (symbol_by payload) None)) (steps_of day locate n + cond own 1 0)
   next_of locate own is =
-      rw (symbol-next day locate n, steps-next day locate n, here, is) refl
+      rw (symbol-next day locate n, steps-next day locate n, here day rest n payload goes_on, is) refl
 
   pub next_own : (locate : ℕ) → is_of_stock locate payload ≡ true
       → listed_until day (n + 1) locate ≡ listed_as (option_or (symbol_until day locate n) (symbol_by payload)) (steps_of day locate n + 1)
@@ -98,13 +87,13 @@ module _ (day rest : List (List ℕ)) (listed : List Listed) (before : IsListing
   now = sym before.left ∙ goes_on
 
   next_within : before.n + 1 ≤ length day
-  next_within = omega (arith, within day more before.n payload now)
+  next_within = one_more day more before.n payload now
 
   pub listing_passes : (fixed : Outcome) → Nowhere fixed ≡ part payload → IsListing day more listed
   listing_passes fixed is = record {
     n = before.n + 1;
     within = next_within;
-    left = rest_is day more before.n payload now;
+    left = left_then day more before.n payload now;
     are = record {
       long = before.are.long;
       each = λ locate d low.
@@ -133,7 +122,7 @@ module _ (day rest : List (List ℕ)) (listed : List Listed) (before : IsListing
     listing_goes_on symbol symbol_is = record {
       n = before.n + 1;
       within = next_within;
-      left = rest_is day more before.n payload now;
+      left = left_then day more before.n payload now;
       are = record {
         long = length-set listed locate _ ∙ before.are.long;
         each = λ code d below. elim (cases_eq code locate) [

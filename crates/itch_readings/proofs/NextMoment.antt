@@ -15,29 +15,13 @@ use Rattle.itch_table.specs.Table.{step}
 use Rattle.itch_table.specs.World.{World, orders_of}
 use Rattle.itch_table.proofs.Days.{after-next}
 use Rattle.itch_readings.specs.declared.moments.Moment.{Moment}
+use Rattle.itch_readings.proofs.GoesOn.{here, payload-is}
 use Rattle.itch_readings.specs.Tops.{is_own, moment, time_of, tops_until}
 
 -- where a day goes on with a payload after n messages
 module _ (day rest : List (List ℕ)) (n : ℕ) (payload : List ℕ) (goes_on : drop n day ≡ payload ∷ rest) where
-  here_within : n < length day
-  here_within = omega (arith, ap length goes_on, length-drop n day)
-
-  pub one_more : n + 1 ≤ length day
-  one_more = omega (arith, here_within)
-
-  next : get_or day n [] ∷ drop (n + 1) day ≡ payload ∷ rest
-  next = sym (drop_more day n [] here_within) ∙ goes_on
-
-  pub left_then : rest ≡ drop (n + 1) day
-  left_then = let e = next in cc
-
-  here : get_or day n [] ≡ payload
-  here = let e = next in cc
-
-  pub payload-is : payload_at day (n + 1) ≡ payload
-  payload-is =
-      let same : n + 1 - 1 ≡ n = omega arith in
-      ap (λ (k : ℕ). get_or day k []) same ∙ here
+  is_here : get_or day n [] ≡ payload
+  is_here = here day rest n payload goes_on
 
   -- the next message is a moment where it is of the stock
   next-moment : (locate : ℕ) (own : Bool) → is_of_stock locate payload ≡ own
@@ -45,7 +29,7 @@ module _ (day rest : List (List ℕ)) (n : ℕ) (payload : List ℕ) (goes_on : 
   next-moment locate own is =
       let seam : 1 + n ≡ n + 1 = omega arith in
       filter_of_map_range_with_len_more (is_own day locate) (moment day locate) 1 n (n + 1) seam
-      ∙ ap (λ (b : Bool). tops_until day locate n ++ cond b (moment day locate (n + 1) ∷ []) []) (ap (λ (p : List ℕ). is_of_stock locate p) payload-is ∙ is)
+      ∙ ap (λ (b : Bool). tops_until day locate n ++ cond b (moment day locate (n + 1) ∷ []) []) (ap (λ (p : List ℕ). is_of_stock locate p) (payload-is day rest n payload goes_on) ∙ is)
 
   pub next-is : (locate : ℕ) → is_of_stock locate payload ≡ true
       → tops_until day locate (n + 1) ≡ tops_until day locate n ++ moment day locate (n + 1) ∷ []
@@ -59,7 +43,7 @@ module _ (day rest : List (List ℕ)) (n : ℕ) (payload : List ℕ) (goes_on : 
       → world ≡ only locate (after day n) → (found, new) ≡ step world payload → new ≡ only locate (after day (n + 1))
   own_rows locate world new found own is stands took =
       ap (λ (r : Outcome × World). r.1) (took ∙ ap (λ (w : World). step w payload) stands ∙ own (after day n) payload locate is)
-      ∙ ap (λ (p : List ℕ). only locate (step (after day n) p).1) (sym here)
+      ∙ ap (λ (p : List ℕ). only locate (step (after day n) p).1) (sym is_here)
       ∙ ap (only locate) (sym (after-next day n))
 
   -- and after another one
@@ -67,7 +51,7 @@ module _ (day rest : List (List ℕ)) (n : ℕ) (payload : List ℕ) (goes_on : 
       → world ≡ only locate (after day n) → world ≡ only locate (after day (n + 1))
   other_rows locate world others is stands =
       stands ∙ sym (others (after day n) payload locate is)
-      ∙ ap (λ (p : List ℕ). only locate (step (after day n) p).1) (sym here)
+      ∙ ap (λ (p : List ℕ). only locate (step (after day n) p).1) (sym is_here)
       ∙ ap (only locate) (sym (after-next day n))
 
 -- what the machine shows after message n, with the message's time, is the moment of message n

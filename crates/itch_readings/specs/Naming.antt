@@ -8,6 +8,7 @@ use Rattle.itch_layouts.specs.declared.message.Msg.TheVariants.{Directory}
 use Rattle.itch_layouts.specs.declared.shape.Shape.{Shape}
 use Rattle.itch_layouts.specs.declared.shape.Shape.TheVariants.{Known}
 use Rattle.itch_table.specs.Projection.{is_of_stock, steps_of}
+use Rattle.itch_table.specs.Shows.{HasMessage}
 use Rattle.itch_readings.specs.declared.naming.Listed.{Listed}
 use Rattle.itch_readings.specs.declared.naming.StockName.{StockName}
 use Rattle.itch_readings.specs.declared.naming.StockName.TheVariants.{Locate, Symbol}
@@ -70,3 +71,9 @@ first_with symbol locate (known ∷ rest) =
 abbrev pub locate_of : List Listed → StockName → Option ℕ
 locate_of listed (Locate code) = if has_messages (slice_get listed code) then Some code else None
 locate_of listed (Symbol symbol) = first_with symbol 0 listed
+
+-- a stock that is named has a message in the day
+abbrev pub NamedHaveMessages : Type 0
+NamedHaveMessages =
+    (day : List (List ℕ)) (listed : List Listed) (name : StockName) (locate : ℕ)
+    → AreListed day (length day) listed → locate_of listed name ≡ Some locate → HasMessage day locate

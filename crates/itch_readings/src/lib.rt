@@ -16,5 +16,5 @@ mod top_lines;
 
 pub use engines::{stocks_run, tops_run};
 pub use moments::{Moment, tops};
-pub use naming::{Listed, StockName, list_stocks, locate_of};
+pub use naming::{Listed, StockName, list_stocks, locate_of, named_stocks_have_messages};
 pub use top_lines::Selection;

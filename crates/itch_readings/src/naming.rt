@@ -1,7 +1,6 @@
 //! The stocks of a day, and how they are named.
 ghost use Rattle.std.specs.Prelude.{◌≡◌, ◌≤◌, IfOk, length, slice_get};
-ghost use Rattle.itch_table.specs.Projection.{is_of_stock};
-ghost use Rattle.itch_readings.specs.Naming.{AreListed, first_with, has_messages, has_symbol, locate_of, symbol_by};
+ghost use Rattle.itch_readings.specs.Naming.{AreListed, NamedHaveMessages, first_with, has_messages, has_symbol, locate_of, symbol_by};
 
 use binaryfile::Day;
 use itch_layouts::{Msg, Shape, read_msg};
@@ -27,16 +26,6 @@ pub struct Listed {
     pub symbol: Option<[u8; 8]>,
     /// How many messages it has.
     pub messages: u32,
-}
-
-/// Whether a payload is of the stock of a locate code.
-pub(crate) fn is_of_stock(payload: &[u8], locate: u16) -> bool
-    ensures { result ≡ is_of_stock locate payload.now }
-{
-    match part(payload) {
-        Part::Locate(code) => code == locate,
-        Part::Nowhere(_) => false,
-    }
 }
 
 // The symbol that a directory message gives its stock; none where the payload is no such message.
@@ -127,3 +116,10 @@ pub fn locate_of(listed: &[Listed], name: StockName) -> Option<u16>
         StockName::Symbol(symbol) => first_with(listed, &symbol),
     }
 }
+
+/// A stock that is named by what a day says of its stocks has a message in the day.
+///
+/// The law is of this project.
+pub fn named_stocks_have_messages()
+    ensures { NamedHaveMessages }
+{}

@@ -10,7 +10,8 @@ use Rattle.itch_table.proofs.Days.{after-none}
 use Rattle.itch_table.proofs.StockDays.{only-empty, other_part, own_part}
 use Rattle.itch_readings.specs.declared.moments.Moment.{Moment}
 use Rattle.itch_readings.specs.Tops.{tops_until, moment, time_of}
-use Rattle.itch_readings.proofs.NextMoment.{left_then, moment-is, payload-is, next-is, next-is-not, one_more, other_rows, own_rows}
+use Rattle.itch_readings.proofs.GoesOn.{left_then, one_more, payload-is}
+use Rattle.itch_readings.proofs.NextMoment.{moment-is, next-is, next-is-not, other_rows, own_rows}
 use Rattle.itch_readings.proofs.moments.tops.Goals as goal
 
 pub loop-payload-init : goal.loop-payload-init
