@@ -1,11 +1,11 @@
 //! Schedules of a day: what the looks of screens see between the turns of its workers.
-use crate::days::{crossed_book, two_stocks};
+use crate::days::{crossed_book, parts_of, two_stocks};
 use crate::showing::{Shown, bid, shown_by, stock_with};
 use binaryfile::Day;
 use day_core::{Event, Piece, Seen, SplitFault, Turns, play};
 use itch_table::{Order, Outcome, Side};
 use refusing::{Refusal, Refusing, Tried, refuse_any, refuse_each};
-use std::alloc::{Allocator, Global};
+use std::alloc::{AllocError, Allocator, Global};
 use std::test::Fail;
 use std::thread::Threads;
 use support::{AAPL, same, same_bytes, same_list};
@@ -185,28 +185,20 @@ fn looked_at<'d, A: Allocator + Copy>(
     }
 }
 
-// Makes the workers of the crossed book under a refusal, which leaves the day as it is, and with memory where it is
-// refused.
+// Makes the workers of the crossed book under a refusal, and with memory where it is refused.
 fn try_new<R: Threads + Sync>(
     rt: &R,
     heap: &Refusing<Global>,
     refusal: Refusal,
 ) -> Result<Tried, Fail> {
     let day = crossed_book(heap)?;
+    let parts = parts_of(rt, heap, &day, 2)?;
     heap.restart(refusal);
-    let made = Turns::new(rt, heap, &day, 2);
+    let made = Turns::new(heap, &parts, &day);
     let tried = heap.tried(made.is_err());
-    same_bytes("the day", day.bytes(), crossed_book(heap)?.bytes())?;
     let before = match made {
         Ok(turns) => looked_at(heap, &turns)?,
-        Err(fault) => {
-            same(
-                "a refused growth",
-                &(refusal, fault),
-                &(refusal, SplitFault::Memory),
-            )?;
-            looked_at(heap, &Turns::new(rt, heap, &day, 2)?)?
-        }
+        Err(AllocError) => looked_at(heap, &Turns::new(heap, &parts, &day)?)?,
     };
     let stock = stock_with(1, 0, None, None, None);
     same("before the first turn", &before, &([0; 4], Some(stock)))?;
@@ -241,7 +233,8 @@ fn try_turn<R: Threads + Sync>(
     refusal: Refusal,
 ) -> Result<Tried, Fail> {
     let day = crossed_book(heap)?;
-    let mut turns = Turns::new(rt, heap, &day, 1)?;
+    let parts = parts_of(rt, heap, &day, 1)?;
+    let mut turns = Turns::new(heap, &parts, &day)?;
     for _ in 0..earlier {
         turns.turn(0)?;
     }

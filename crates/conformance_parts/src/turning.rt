@@ -40,11 +40,11 @@ const BID: Top = Top {
 };
 
 // A worker that has done nothing yet.
-fn runner_of<A: Allocator + Copy>(
+fn runner_of<'p, A: Allocator + Copy>(
     alloc: A,
-    parts: &Parts<A>,
+    parts: &'p Parts<A>,
     worker: u32,
-) -> Result<Runner<A>, Fail>
+) -> Result<Runner<'p, A>, Fail>
     ensures { IfOk result (λ runner. runner.day ≡ parts.now.day) }
 {
     if worker >= parts.workers() {
@@ -64,7 +64,7 @@ fn turned(message: u32, outcome: Outcome, place: usize) -> Option<Turned> {
 // Takes a worker's turn, which answers this.
 fn take<A: Allocator + Copy>(
     case: &str,
-    runner: &mut Runner<A>,
+    runner: &mut Runner<'_, A>,
     day: &Day<A>,
     wanted: Option<Turned>,
 ) -> Result<(), Fail>
@@ -76,7 +76,7 @@ fn take<A: Allocator + Copy>(
 }
 
 // Worker 1 of two does all of its messages of the two stocks.
-fn do_messages<A: Allocator + Copy>(runner: &mut Runner<A>, day: &Day<A>) -> Result<(), Fail>
+fn do_messages<A: Allocator + Copy>(runner: &mut Runner<'_, A>, day: &Day<A>) -> Result<(), Fail>
     requires { day.now.payloads ≡ runner.old.day }
 {
     let unlisted = Outcome::Refused(Fault::NoDirectory);
@@ -174,7 +174,7 @@ fn a_replay_without_memory_is_tried_again(rt: HostRuntime) -> Result<(), Fail> {
 // What a worker's machine of the stock of a locate code says, where the stock is one of the worker's.
 fn shown_at<A: Allocator + Copy>(
     alloc: A,
-    runner: &Runner<A>,
+    runner: &Runner<'_, A>,
     locate: u16,
 ) -> Result<Option<Shown>, Fail> {
     match runner.place_of(locate) {
@@ -186,7 +186,7 @@ fn shown_at<A: Allocator + Copy>(
 // What a worker says: its number, how many messages it has, the next of them, and its stocks of locate codes 1 to 3.
 type Said = (u32, usize, Option<u32>, [Option<Shown>; 3]);
 
-fn said_by<A: Allocator + Copy>(alloc: A, runner: &Runner<A>) -> Result<Said, Fail> {
+fn said_by<A: Allocator + Copy>(alloc: A, runner: &Runner<'_, A>) -> Result<Said, Fail> {
     let one = shown_at(alloc, runner, 1)?;
     let two = shown_at(alloc, runner, 2)?;
     let three = shown_at(alloc, runner, 3)?;
@@ -247,7 +247,7 @@ fn turns_of_two_stocks() -> [After; 8] {
 
 // Takes turns of a worker with memory.
 fn lead<A: Allocator + Copy>(
-    runner: &mut Runner<A>,
+    runner: &mut Runner<'_, A>,
     day: &Day<A>,
     turns: &[After],
 ) -> Result<(), Fail>
@@ -264,7 +264,7 @@ fn lead<A: Allocator + Copy>(
 // and takes the turn with memory.
 fn turn_under<'h>(
     heap: &'h Refusing<Global>,
-    runner: &mut Runner<&'h Refusing<Global>>,
+    runner: &mut Runner<'_, &'h Refusing<Global>>,
     day: &Day<&'h Refusing<Global>>,
     earlier: &[After],
     wanted: After,
@@ -371,7 +371,8 @@ fn look_without_memory(
 fn turns_of_a_day_come_in_any_order(rt: HostRuntime) -> Result<(), Fail> {
     let heap = Refusing::new(rt.alloc(), Refusal::Never);
     let day = two_stocks(&heap)?;
-    let mut turns = Turns::new(&rt, &heap, &day, 2).map_err(|_| Fail::new("no turns"))?;
+    let parts = parts_of(&rt, &heap, &day, 2)?;
+    let mut turns = Turns::new(&heap, &parts, &day)?;
     same("a turn of no worker", &turns.turn(2)?, &None)?;
     look_at_both("before the first turn", &turns, [0; 4], [0; 4])?;
     take_of_day(&mut turns, 1, 1, Outcome::Applied)?;

@@ -17,10 +17,9 @@ use stock_workers::{FreeGate, Worker};
 use support::{AAPL, MSFT, Ticker, crossed_book, same, same_list, two_stocks};
 use top_cell::{Board, Reading, Screen, TopWriter};
 
-// What the only worker of a day is made of, and a screen of the day's first stock.
+// The writers of the only worker of a day, their board, and a screen of the day's first stock.
 #[derive(Drop)]
 struct Waiting<'a, A: Allocator> {
-    parts: Parts<A>,
     board: Board<'a, A>,
     writers: Vec<TopWriter, A>,
     screen: Screen,
@@ -30,39 +29,40 @@ fn prepare<'a, R: Threads + Wait + Sync, A: Allocator + Copy + Send + Sync>(
     rt: &R,
     alloc: &'a A,
     day: &Day<A>,
-) -> Result<Waiting<'a, A>, Fail>
-    ensures day { IfOk result (λ made. made.parts.day ≡ day.now.payloads) }
-    ensures waits { IfOk result (λ made. IsWaiting made.parts made.board 0 made.writers.items) }
-    ensures screen { IfOk result (λ made. IsOn made.board made.screen.place) }
+) -> Result<(Parts<A>, Waiting<'a, A>), Fail>
+    ensures day { IfOk result (λ made. made.0.day ≡ day.now.payloads) }
+    ensures waits { IfOk result (λ made. IsWaiting made.0 made.1.board 0 made.1.writers.items) }
+    ensures screen { IfOk result (λ made. IsOn made.1.board made.1.screen.place) }
 {
     let parts = split(rt, *alloc, day, 1)?;
     let (board, mut writers) = Board::new(alloc, day)?;
     let screen = first_screen(&board, &mut writers)?;
-    Ok(Waiting {
-        parts,
+    let waiting = Waiting {
         board,
         writers,
         screen,
-    })
+    };
+    Ok((parts, waiting))
 }
 
 // The only worker of a day, its board, and a screen of the day's first stock.
-fn only_worker<'a, R: Threads + Wait + Sync, A: Allocator + Copy + Send + Sync>(
-    rt: &R,
-    alloc: &'a A,
-    day: &Day<A>,
-) -> Result<(Worker<A>, Board<'a, A>, Screen), Fail>
-    ensures day { IfOk result (λ made. made.0.state.day ≡ day.now.payloads) }
+fn only_worker<'p, 'a, A: Allocator + Copy>(
+    alloc: A,
+    parts: &'p Parts<A>,
+    waiting: Waiting<'a, A>,
+) -> Result<(Worker<'p, A>, Board<'a, A>, Screen), AllocError>
+    requires waits { IsWaiting parts.now waiting.board 0 waiting.writers.items }
+    requires screen { IsOn waiting.board waiting.screen.place }
+    ensures day { IfOk result (λ made. made.0.state.day ≡ parts.now.day) }
     ensures worker { IfOk result (λ made. All (IsOn made.1) made.0.places) }
     ensures screen { IfOk result (λ made. IsOn made.1 made.2.place) }
 {
     let Waiting {
-        parts,
         board,
         writers,
         screen,
-    } = prepare(rt, alloc, day)?;
-    let worker = Worker::new(*alloc, &parts, 0, writers)?;
+    } = waiting;
+    let worker = Worker::new(alloc, parts, 0, writers)?;
     Ok((worker, board, screen))
 }
 
@@ -71,7 +71,7 @@ fn turn<R: Threads + Wait + Sync, A: Allocator + Copy>(
     rt: &R,
     day: &Day<A>,
     board: &Board<'_, A>,
-    worker: &mut Worker<A>,
+    worker: &mut Worker<'_, A>,
 ) -> Result<Option<Piece>, AllocError>
     requires day { day.now.payloads ≡ worker.old.state.day }
     requires board { All (IsOn board.now) worker.old.places }
@@ -110,7 +110,7 @@ fn follow<R: Threads + Wait + Sync, A: Allocator + Copy>(
     rt: &R,
     day: &Day<A>,
     board: &Board<'_, A>,
-    worker: &mut Worker<A>,
+    worker: &mut Worker<'_, A>,
     screen: &mut Screen,
     turns: &mut Turns<'_, A>,
     wanted: &[(Option<Piece>, [u64; 4])],
@@ -133,8 +133,9 @@ fn follow<R: Threads + Wait + Sync, A: Allocator + Copy>(
 fn a_screen_reads_what_each_turn_leaves(rt: HostRuntime) -> Result<(), Fail> {
     let alloc = rt.alloc();
     let day = crossed_book(alloc)?;
-    let (mut worker, board, mut screen) = only_worker(&rt, &alloc, &day)?;
-    let mut turns = Turns::new(&rt, alloc, &day, 1).map_err(|_| Fail::new("no turns"))?;
+    let (parts, waiting) = prepare(&rt, &alloc, &day)?;
+    let (mut worker, board, mut screen) = only_worker(alloc, &parts, waiting)?;
+    let mut turns = Turns::new(alloc, &parts, &day)?;
     let crossed = [3, 0x000f_6950_000f_4240, 100, 50];
     let wanted = [
         (piece(1, Outcome::Applied), [1, 0, 0, 0]),
@@ -165,14 +166,9 @@ fn try_worker<R: Threads + Wait + Sync>(
     refusal: Refusal,
 ) -> Result<Tried, Fail> {
     let day = two_stocks(heap)?;
-    let Waiting {
-        parts,
-        board: _board,
-        writers,
-        screen: _screen,
-    } = prepare(rt, &heap, &day)?;
+    let (parts, waiting) = prepare(rt, &heap, &day)?;
     heap.restart(refusal);
-    let made = Worker::new(heap, &parts, 0, writers).is_ok();
+    let made = only_worker(heap, &parts, waiting).is_ok();
     let tried = heap.tried(!made);
     if let Refusal::Only(growth) = refusal {
         let last = tried.growths == growth;
@@ -184,7 +180,8 @@ fn try_worker<R: Threads + Wait + Sync>(
             parts.own(0),
             &[1, 2, 3, 4, 5, 6, 7],
         )?;
-        only_worker(rt, &heap, &day)?;
+        let (parts, waiting) = prepare(rt, &heap, &day)?;
+        only_worker(heap, &parts, waiting)?;
     }
     Ok(tried)
 }
@@ -205,7 +202,7 @@ struct State {
     message: u32,
 }
 
-fn state_of<A: Allocator + Copy>(alloc: A, worker: &Worker<A>, locate: u16) -> Option<State> {
+fn state_of<A: Allocator + Copy>(alloc: A, worker: &Worker<'_, A>, locate: u16) -> Option<State> {
     let stock = said_by(alloc, worker.stock(locate)?)?;
     let message = worker.writer(locate)?.message();
     Some(State { stock, message })
@@ -216,7 +213,7 @@ fn see<R: Wait, A: Allocator + Copy>(
     rt: &R,
     alloc: A,
     board: &Board<'_, A>,
-    worker: &Worker<A>,
+    worker: &Worker<'_, A>,
     screen: &mut Screen,
 ) -> (Option<State>, Option<State>, Reading)
     requires { IsOn board.now screen.old.place }
@@ -270,7 +267,7 @@ fn turns_of_two_stocks() -> [After; 8] {
 // Finds a worker's stocks and writers, and none of a stock of no message, without memory.
 fn find_without_memory<'h>(
     heap: &'h Refusing<Global>,
-    worker: &Worker<&'h Refusing<Global>>,
+    worker: &Worker<'_, &'h Refusing<Global>>,
 ) -> Result<(), Fail> {
     heap.restart(Refusal::From(1));
     for (locate, has) in [(1, true), (2, true), (9, false)] {
@@ -292,7 +289,7 @@ fn lead<R: Threads + Wait + Sync, A: Allocator + Copy>(
     rt: &R,
     day: &Day<A>,
     board: &Board<'_, A>,
-    worker: &mut Worker<A>,
+    worker: &mut Worker<'_, A>,
     turns: &[After],
 ) -> Result<(), Fail>
     requires day { day.now.payloads ≡ worker.old.state.day }
@@ -319,7 +316,8 @@ fn try_turn<R: Threads + Wait + Sync>(
         return Err(Fail::new("no turn"));
     };
     let day = two_stocks(heap)?;
-    let (mut worker, board, mut screen) = only_worker(rt, &heap, &day)?;
+    let (parts, waiting) = prepare(rt, &heap, &day)?;
+    let (mut worker, board, mut screen) = only_worker(heap, &parts, waiting)?;
     lead(rt, &day, &board, &mut worker, earlier)?;
     find_without_memory(heap, &worker)?;
     let before = see(rt, heap, &board, &worker, &mut screen);

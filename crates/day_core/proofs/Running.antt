@@ -174,12 +174,12 @@ module _ (s : WorkerState) (n place : ℕ) (more : s.done < length (worker_messa
 
 -- ---- a worker's message at an index
 
-module _ (s : WorkerState) (own locates : List ℕ) (stocks : List StockMachine) (runner : IsRunner s own locates stocks) (n i : ℕ) (more : i < length own) (here : n ≡ get_or own i n) where
+module _ (s : WorkerState) (own : List ℕ) (own_is : own ≡ worker_messages s) (n i : ℕ) (more : i < length own) (here : n ≡ get_or own i 0) where
   own_index_within : i < length (worker_messages s)
-  own_index_within = omega (arith, ap length runner.own_is)
+  own_index_within = omega (arith, ap length own_is)
 
   pub own_is_at : n ≡ get_or (worker_messages s) i 0
-  own_is_at = here ∙ get_or_default own i n 0 more ∙ ap (λ (xs : List ℕ). get_or xs i 0) runner.own_is
+  own_is_at = here ∙ ap (λ (xs : List ℕ). get_or xs i 0) own_is
 
   pub own_is_within : (1 ≤ n) × (n ≤ length s.day)
   own_is_within = rw own_is_at (own_within s.workers s.worker s.day i 0 own_index_within)
@@ -189,18 +189,18 @@ module _ (s : WorkerState) (own locates : List ℕ) (stocks : List StockMachine)
 
 -- ---- a worker's next message
 
-module _ (s : WorkerState) (own locates : List ℕ) (stocks : List StockMachine) (runner : IsRunner s own locates stocks) (n : ℕ) (more : s.done < length own) (next : n ≡ get_or own s.done n) where
+module _ (s : WorkerState) (own locates : List ℕ) (stocks : List StockMachine) (own_is : own ≡ worker_messages s) (runner : IsRunner s locates stocks) (n : ℕ) (more : s.done < length own) (next : n ≡ get_or own s.done 0) where
   within_own : s.done < length (worker_messages s)
-  within_own = omega (arith, ap length runner.own_is)
+  within_own = omega (arith, ap length own_is)
 
   pub next_is : n ≡ get_or (worker_messages s) s.done 0
-  next_is = own_is_at s own locates stocks runner n s.done more next
+  next_is = own_is_at s own own_is n s.done more next
 
   pub next_within : (1 ≤ n) × (n ≤ length s.day)
-  next_within = own_is_within s own locates stocks runner n s.done more next
+  next_within = own_is_within s own own_is n s.done more next
 
   pub next_own : is_own s.workers s.worker (part_at s.day n) ≡ true
-  next_own = own_is_own s own locates stocks runner n s.done more next
+  next_own = own_is_own s own own_is n s.done more next
 
   -- the stock is as the messages before it have left it
   pub stock_before : (place : ℕ) (d : StockMachine) → place < length locates → get_or stocks place d ≡ machine_of s.day (get_or locates place 0) (n - 1)
@@ -248,10 +248,9 @@ module _ (s : WorkerState) (own locates : List ℕ) (stocks : List StockMachine)
         machine_stepped s.day (get_or locates place 0) n before m o next_within.0 own_part stands code steps
         (gives ∙ ap (step before.world) (here ∙ ap (λ (d : List (List ℕ)). payload_at d n) same))
 
-    pub runner_after : (m : StockMachine) → m ≡ machine_of s.day (get_or locates place 0) n → IsRunner (record s { done = s.done + 1 }) own locates (set stocks place m)
+    pub runner_after : (m : StockMachine) → m ≡ machine_of s.day (get_or locates place 0) n → IsRunner (record s { done = s.done + 1 }) locates (set stocks place m)
     runner_after m stepped = record {
-      own_is = runner.own_is;
-      within = omega arith;
+      within = omega (arith, within_own);
       locates_are = runner.locates_are;
       stocks_are = stocks_after place m listed own_part stepped;
     }
@@ -316,11 +315,10 @@ pub codes_are : (workers worker : ℕ) (day : List (List ℕ)) → filter (λ l.
 unfolding own_locates
 codes_are workers worker day = refl
 
-pub runner_new : (split : Split) (worker : ℕ) (own locates : List ℕ) (stocks : List StockMachine)
-    → own ≡ own_of split.workers worker split.day → locates ≡ own_locates split.workers worker split.day → stocks ≡ map new_machine locates
-    → IsRunner (state_in split worker 0) own locates stocks
-runner_new split worker own locates stocks own_is codes made = record {
-  own_is = own_is;
+pub runner_new : (split : Split) (worker : ℕ) (locates : List ℕ) (stocks : List StockMachine)
+    → locates ≡ own_locates split.workers worker split.day → stocks ≡ map new_machine locates
+    → IsRunner (state_in split worker 0) locates stocks
+runner_new split worker locates stocks codes made = record {
   within = omega arith;
   locates_are = codes;
   stocks_are = made ∙ begins split.day split.workers locates;

@@ -72,9 +72,8 @@ pub record MayGrowNext (s : WorkerState) : Type 0 where
   pub adds : (locate : ℕ) → part_at s.day (next_message s) ≡ Locate locate
       → IsTrue (shape_adds_row (Some locate) (shape_of (payload_at s.day (next_message s))))
 
--- what a runner keeps: its messages, its stocks' locate codes, and their machines as far as it has come
-pub record IsRunner (s : WorkerState) (own locates : List ℕ) (stocks : List StockMachine) : Type 0 where
-  pub own_is : own ≡ worker_messages s
-  pub within : s.done ≤ length own
+-- what a runner keeps: its stocks' locate codes, and their machines as far as it has come
+pub record IsRunner (s : WorkerState) (locates : List ℕ) (stocks : List StockMachine) : Type 0 where
+  pub within : s.done ≤ length (worker_messages s)
   pub locates_are : locates ≡ worker_locates s
   pub stocks_are : stocks ≡ map (machine_at s) locates

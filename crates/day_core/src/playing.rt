@@ -3,7 +3,7 @@ ghost use Rattle.std.specs.Prelude.{◌≡◌, ◌++◌, ◌<◌, ◌⊎◌, ◌
 ghost use Rattle.day_core.specs.Turns.{workers_of};
 ghost use Rattle.day_core.specs.Schedules.{Changes, seen_by, seen_of};
 
-use crate::splitting::SplitFault;
+use crate::splitting::{SplitFault, split};
 use crate::turns::Turns;
 use binaryfile::Day;
 use std::alloc::{AllocError, Allocator};
@@ -97,8 +97,11 @@ pub fn play<R: Threads + Sync, A: Allocator + Copy + Send + Sync>(
     ensures seen { IfOk result (λ seen. seen.items ≡ seen_by day.now.payloads workers events.now) }
     ensures workers { IsErrOf result SplitFault.Workers ↔ ((workers ≡ 0) ⊎ (64 < workers)) }
 {
-    match Turns::new(rt, alloc, day, workers) {
-        Ok(turns) => Ok(watch(alloc, turns, events)?),
+    match split(rt, alloc, day, workers) {
+        Ok(parts) => {
+            let turns = Turns::new(alloc, &parts, day)?;
+            Ok(watch(alloc, turns, events)?)
+        }
         Err(fault) => Err(fault),
     }
 }

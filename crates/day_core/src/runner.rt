@@ -13,7 +13,6 @@ use binaryfile::Day;
 use itch_table::{Part, part};
 use std::alloc::{AllocError, Allocator};
 use std::marker::Model;
-use std::snapshot::Snapshot;
 use stock_machine::Stock;
 
 /// What a worker's turn did.
@@ -25,30 +24,29 @@ pub struct Turned {
     pub place: usize,
 }
 
-/// One worker of a day that is split: the machines of its stocks, and how many of its messages it has done.
+/// One worker of a day that is split: the machines of its stocks, and how many of its messages it has done. It borrows
+/// the parts of the day, and reads its list of messages there.
 ///
 /// It does its messages in their order, one a turn, whatever other workers do. The effects of messages are those
 /// of Nasdaq TotalView-ITCH 5.0; the rest is of this project.
 #[derive(Drop)]
-pub struct Runner<A: Allocator> {
+pub struct Runner<'p, A: Allocator> {
+    parts: &'p Parts<A>,
     worker: u32,
-    own: Vec<u32, A>,
     done: usize,
     places: Places<A>,
     stocks: Vec<Stock<A>, A>,
-    parts: Snapshot<Parts<A>>,
 }
 
-impl<A: Allocator> Model for Runner<A> {
+impl<'p, A: Allocator> Model for Runner<'p, A> {
     ghost use Rattle.day_core.specs.Splitting.{Split};
     ghost use Rattle.day_core.specs.Workers.{IsRunner, WorkerState, state_in};
 
     ghost Value = { WorkerState };
 
-    ghost view = { λ r. state_in r.parts.value r.worker r.done };
+    ghost view = { λ r. state_in r.parts.now r.worker r.done };
 
-    ghost invariant = { λ r. IsRunner (state_in r.parts.value r.worker r.done)
-        r.own.items r.places r.stocks.items };
+    ghost invariant = { λ r. IsRunner (state_in r.parts.now r.worker r.done) r.places r.stocks.items };
 }
 
 // The locate codes of a worker's stocks.
@@ -108,25 +106,21 @@ fn message_of<'d, A: Allocator>(
     (payload, place)
 }
 
-impl<A: Allocator + Copy> Runner<A> {
+impl<'p, A: Allocator + Copy> Runner<'p, A> {
     /// A worker that has done nothing yet. Workers are numbered from 0; a number from `parts.workers()` on has no
     /// messages and no stocks. An error says that memory was refused.
-    pub fn new(alloc: A, parts: &Parts<A>, worker: u32) -> Result<Runner<A>, AllocError>
+    pub fn new(alloc: A, parts: &'p Parts<A>, worker: u32) -> Result<Runner<'p, A>, AllocError>
         ensures { IfOk result (λ runner. runner ≡ first_state parts.now worker) }
     {
-        let messages = parts.own(worker);
-        let mut own = Vec::with_capacity(alloc, messages.len())?;
-        own.extend_from_slice(messages)?;
         let locates = own_codes(alloc, parts, worker)?;
         let stocks = new_stocks(alloc, &locates)?;
         let places = Places::new(alloc, locates)?;
         Ok(Runner {
+            parts,
             worker,
-            own,
             done: 0,
             places,
             stocks,
-            parts: Snapshot::of(parts),
         })
     }
 
@@ -143,10 +137,11 @@ impl<A: Allocator + Copy> Runner<A> {
         ensures err { OnErr result (self.new ≡ self.old) }
         ensures grows { OnErr result (MayGrowNext self.old) }
     {
-        if self.done == self.own.len() {
+        let own = self.parts.own(self.worker);
+        if self.done == own.len() {
             return Ok(None);
         }
-        let message = self.own[self.done];
+        let message = own[self.done];
         let (payload, place) = message_of(day, &self.places, message);
         let outcome = self.stocks[place].step(payload)?;
         self.done += 1;
@@ -157,7 +152,7 @@ impl<A: Allocator + Copy> Runner<A> {
     }
 }
 
-impl<A: Allocator + Copy> Runner<A> {
+impl<'p, A: Allocator + Copy> Runner<'p, A> {
     /// The place of the stock of a message to come, `ahead` messages after the worker's next one; none after its last
     /// message. The caller hands the day that was split.
     pub fn place_ahead(&self, day: &Day<A>, ahead: usize) -> Option<usize>
@@ -165,16 +160,17 @@ impl<A: Allocator + Copy> Runner<A> {
         ensures { IfSome result (λ place. place < length (worker_locates self.now)) }
     {
         let index = self.done.saturating_add(ahead);
-        if index >= self.own.len() {
+        let own = self.parts.own(self.worker);
+        if index >= own.len() {
             return None;
         }
-        let message = self.own[index];
+        let message = own[index];
         let (_, place) = message_of(day, &self.places, message);
         Some(place)
     }
 }
 
-impl<A: Allocator> Runner<A> {
+impl<'p, A: Allocator> Runner<'p, A> {
     /// The worker's number, from 0.
     pub fn worker(&self) -> u32
         ensures { result ≡ self.now.worker }
@@ -186,14 +182,14 @@ impl<A: Allocator> Runner<A> {
     pub fn message_count(&self) -> usize
         ensures { result ≡ length (worker_messages self.now) }
     {
-        self.own.len()
+        self.parts.own(self.worker).len()
     }
 
     /// The number of the worker's next message; none where it has done all of them.
     pub fn next_message(&self) -> Option<u32>
         ensures { result ≡ slice_get (worker_messages self.now) self.now.done }
     {
-        self.own.get(self.done).copied()
+        self.parts.own(self.worker).get(self.done).copied()
     }
 
     /// How many stocks the worker has.
@@ -223,7 +219,7 @@ impl<A: Allocator> Runner<A> {
 
     /// The machines of the worker's stocks, by rising locate code.
     pub fn into_stocks(self) -> Vec<Stock<A>, A>
-        ensures { result.items ≡ map (machine_at self) (worker_locates self) }
+        ensures { result.items ≡ map (machine_at self.entry) (worker_locates self.entry) }
     {
         self.stocks
     }

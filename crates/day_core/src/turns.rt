@@ -1,5 +1,5 @@
 //! All workers of a day without threads, in any order.
-ghost use Rattle.std.specs.Prelude.{◌≡◌, ◌<◌, ◌⊎◌, ◌↔◌, IfOk, IsErrOf, MatchOption, OnErr, map, replicate};
+ghost use Rattle.std.specs.Prelude.{◌≡◌, ◌<◌, IfOk, MatchOption, OnErr, map, replicate};
 ghost use Rattle.std.specs.List.{Contains, range_with_len};
 ghost use Rattle.itch_table.specs.Shows.{Shows, locates_of_day};
 ghost use Rattle.day_core.specs.Owners.{machine_of};
@@ -8,21 +8,20 @@ ghost use Rattle.day_core.specs.Turns.{MayGrowAt, TurnsWorker, progress_in};
 
 use crate::merging::Piece;
 use crate::parts::Parts;
-use crate::splitting::{SplitFault, split};
 use crate::worker_cells::WorkerCells;
 use binaryfile::Day;
 use std::alloc::{AllocError, Allocator};
 use std::marker::Model;
-use std::thread::Threads;
 use stock_machine::Stock;
 
 /// All workers of a day without threads, whose turns come in any order, and the words that screens read of each stock.
+/// They borrow the day and its parts.
 ///
 /// It is seen as the day, and how many of its own messages each worker has done. All is of this project.
 #[derive(Drop)]
 pub struct Turns<'d, A: Allocator> {
     day: &'d Day<A>,
-    workers: Vec<WorkerCells<A>, A>,
+    workers: Vec<WorkerCells<'d, A>, A>,
 }
 
 impl<'d, A: Allocator> Model for Turns<'d, A> {
@@ -37,10 +36,10 @@ impl<'d, A: Allocator> Model for Turns<'d, A> {
 }
 
 // The workers of a day before their first turn, in the order of their numbers.
-fn new_worker_cells<A: Allocator + Copy>(
+fn new_worker_cells<'p, A: Allocator + Copy>(
     alloc: A,
-    parts: &Parts<A>,
-) -> Result<Vec<WorkerCells<A>, A>, AllocError>
+    parts: &'p Parts<A>,
+) -> Result<Vec<WorkerCells<'p, A>, A>, AllocError>
     ensures first { IfOk result (λ workers.
         workers.items ≡ map (first_state parts.now) (range_with_len 0 parts.now.workers)) }
     ensures some { 0 < parts.now.workers }
@@ -53,31 +52,18 @@ fn new_worker_cells<A: Allocator + Copy>(
     Ok(workers)
 }
 
-impl<'d, A: Allocator + Copy + Send + Sync> Turns<'d, A> {
-    /// The workers of a day, from 1 to 64, before their first turn.
-    ///
-    /// [`SplitFault::Workers`] where the number is another, which is looked at first, and else [`SplitFault::Memory`]
-    /// where memory is refused.
-    pub fn new<R: Threads + Sync>(
-        rt: &R,
-        alloc: A,
-        day: &'d Day<A>,
-        workers: u32,
-    ) -> Result<Turns<'d, A>, SplitFault>
-        ensures new { IfOk result (λ turns.
-            turns ≡ record { day = day.now.payloads; done = replicate workers 0 }) }
-        ensures workers { IsErrOf result SplitFault.Workers ↔ ((workers ≡ 0) ⊎ (64 < workers)) }
+impl<'d, A: Allocator + Copy> Turns<'d, A> {
+    /// The workers of the parts of a day, before their first turn. The caller hands the day that was split. An error
+    /// says that memory was refused.
+    pub fn new(alloc: A, parts: &'d Parts<A>, day: &'d Day<A>) -> Result<Turns<'d, A>, AllocError>
+        requires { day.now.payloads ≡ parts.now.day }
+        ensures { IfOk result (λ turns.
+            turns ≡ record { day = day.now.payloads; done = replicate parts.now.workers 0 }) }
     {
-        let parts = match split(rt, alloc, day, workers) {
-            Ok(parts) => parts,
-            Err(fault) => return Err(fault),
-        };
-        let workers = new_worker_cells(alloc, &parts)?;
+        let workers = new_worker_cells(alloc, parts)?;
         Ok(Turns { day, workers })
     }
-}
 
-impl<'d, A: Allocator + Copy> Turns<'d, A> {
     /// Does the next message of a worker, sets the words of its stock, and answers what became of it; none, with
     /// nothing changed, exactly where the worker has done all of its messages or isn't one. An error says that memory
     /// was refused, which comes only where a message is left that would be applied and may need a new order or trade.

@@ -11,14 +11,15 @@ use std::alloc::{AllocError, Allocator};
 use std::marker::Model;
 use stock_machine::Stock;
 
-/// One worker, and for each of its stocks the four words that screens read. It is seen as where the worker stands.
+/// One worker, and for each of its stocks the four words that screens read. It borrows the parts of the day, and is
+/// seen as where the worker stands.
 #[derive(Drop)]
-pub(crate) struct WorkerCells<A: Allocator> {
-    runner: Runner<A>,
+pub(crate) struct WorkerCells<'p, A: Allocator> {
+    runner: Runner<'p, A>,
     cells: Vec<[u64; 4], A>,
 }
 
-impl<A: Allocator> Model for WorkerCells<A> {
+impl<'p, A: Allocator> Model for WorkerCells<'p, A> {
     ghost use Rattle.day_core.specs.Cells.{CellsShow};
     ghost use Rattle.day_core.specs.Workers.{WorkerState};
 
@@ -29,9 +30,9 @@ impl<A: Allocator> Model for WorkerCells<A> {
     ghost invariant = { λ d. CellsShow d.runner d.cells.items };
 }
 
-impl<A: Allocator + Copy> WorkerCells<A> {
+impl<'p, A: Allocator + Copy> WorkerCells<'p, A> {
     /// A worker that has done nothing yet. An error says that memory was refused.
-    pub fn new(alloc: A, parts: &Parts<A>, worker: u32) -> Result<WorkerCells<A>, AllocError>
+    pub fn new(alloc: A, parts: &'p Parts<A>, worker: u32) -> Result<WorkerCells<'p, A>, AllocError>
         ensures { IfOk result (λ cells. cells ≡ first_state parts.now worker) }
     {
         let runner = Runner::new(alloc, parts, worker)?;

@@ -25,14 +25,15 @@ const MANY_STOCKS: usize = 512;
 
 /// One worker of a day that is split, with the writers of its stocks' cells: whatever it has done is shown there.
 ///
-/// It is seen as where it stands in the day, and the cells of its stocks. All is of this project.
+/// It borrows the parts of the day. It is seen as where it stands in the day, and the cells of its stocks. All is of this
+/// project.
 #[derive(Drop)]
-pub struct Worker<A: Allocator> {
-    runner: Runner<A>,
+pub struct Worker<'p, A: Allocator> {
+    runner: Runner<'p, A>,
     writers: Vec<TopWriter, A>,
 }
 
-impl<A: Allocator> Model for Worker<A> {
+impl<'p, A: Allocator> Model for Worker<'p, A> {
     ghost use Rattle.std.specs.Prelude.{map};
     ghost use Rattle.stock_workers.specs.Working.{Working, WritersStand};
 
@@ -43,17 +44,17 @@ impl<A: Allocator> Model for Worker<A> {
     ghost invariant = { λ w. WritersStand w.runner w.writers.items };
 }
 
-impl<A: Allocator + Copy> Worker<A> {
+impl<'p, A: Allocator + Copy> Worker<'p, A> {
     /// A worker that has done nothing yet. The caller hands the writers of its stocks, by rising locate code, none of
     /// which has published anything. A number from `parts.workers()` on has no messages and no stocks.
     ///
     /// An error says that memory was refused; the writers are gone.
     pub fn new(
         alloc: A,
-        parts: &Parts<A>,
+        parts: &'p Parts<A>,
         worker: u32,
         writers: Vec<TopWriter, A>,
-    ) -> Result<Worker<A>, AllocError>
+    ) -> Result<Worker<'p, A>, AllocError>
         requires { WritersAt parts.now.day (λ _. 0)
             (own_locates parts.now.workers worker parts.now.day) writers.items }
         ensures { IfOk result (λ made. made
@@ -97,7 +98,7 @@ impl<A: Allocator + Copy> Worker<A> {
     }
 }
 
-impl<A: Allocator + Copy> Worker<A> {
+impl<'p, A: Allocator + Copy> Worker<'p, A> {
     /// Reads what the worker's next messages are likely to need, where `wait` is 0, so that the processor fetches the
     /// memory of all of them at once: a publish waits for all reads before it, so turns by themselves would wait for the
     /// memory of one message after another. First the machines and cells are read, and then the rows that the machines
@@ -133,7 +134,7 @@ impl<A: Allocator + Copy> Worker<A> {
     }
 }
 
-impl<A: Allocator> Worker<A> {
+impl<'p, A: Allocator> Worker<'p, A> {
     /// The machine of one of the worker's stocks, after the last of its messages that the worker has done; none where
     /// it isn't one of them.
     pub fn stock(&self, locate: u16) -> Option<&Stock<A>>
@@ -161,9 +162,10 @@ impl<A: Allocator> Worker<A> {
 
     // The machines of its stocks and their writers, by rising locate code.
     pub(crate) fn into_stocks(self) -> (VecDeque<Stock<A>, A>, VecDeque<TopWriter, A>)
-        ensures stocks { result.0.items ≡ map (machine_at self.state) (worker_locates self.state) }
-        ensures writers { WritersStand self.state result.1.items }
-        ensures places { map (λ w. w.place) result.1.items ≡ self.places }
+        ensures stocks { result.0.items
+            ≡ map (machine_at self.entry.state) (worker_locates self.entry.state) }
+        ensures writers { WritersStand self.entry.state result.1.items }
+        ensures places { map (λ w. w.place) result.1.items ≡ self.entry.places }
     {
         let Worker { runner, writers } = self;
         (

@@ -4,5 +4,5 @@ use Rattle.conformance_workers.proofs.turns.only_worker.Goals as goal
 
 pub returns-clause-worker : goal.returns-clause-worker
 returns-clause-worker g c =
-    let waiting = c.in_ok-parts.field-0 in
-    on_board waiting.board waiting.writers.items c.in_ok-worker.worker (first_state waiting.parts 0) c.in_ok-worker.ensures c.in_ok-parts.ensures.waits.on_board
+    let waiting = c.args.waiting in
+    on_board waiting.board waiting.writers.items c.in_ok-worker.worker (first_state c.args.parts.now 0) c.in_ok-worker.ensures c.requires.waits.on_board
