@@ -7,7 +7,7 @@ use Rattle.std.proofs.lemmas.Bool.{cases_eq, eq-eqb, ne_eqb}
 use Rattle.std.proofs.lemmas.Bool.Decides.{nat_tests}
 use Rattle.std.proofs.lemmas.Grind.{common_steps}
 use Rattle.std.proofs.lemmas.List.{get_or_default, get_or_read, get_or-set_same, get_or-set_other, length-set, length-take, take_all}
-use Rattle.std.proofs.lemmas.List.Sums.{count_by-le-length}
+use Rattle.std.proofs.lemmas.List.Sums.{count_by-le-length, sum_by-cons}
 use Rattle.itch_table.specs.declared.outcome.Outcome.{Outcome}
 use Rattle.itch_table.specs.declared.outcome.Part.TheVariants.{Locate, Nowhere}
 use Rattle.itch_table.specs.Parts.{part}
@@ -26,7 +26,42 @@ steps_all : (day : List (List ℕ)) (locate : ℕ) → steps_of day locate (leng
 unfolding steps_of
 steps_all day locate = ap (count_by (is_of_stock locate)) (take_all (length day) day (omega arith))
 
--- ---- one message more
+-- ---- the count of a stock, one more
+
+-- what a message adds to the count of a stock
+abbrev adds : ℕ → List ℕ → ℕ
+adds code payload = cond (is_of_stock code payload) 1 0
+
+-- one of no stock adds nothing
+adds_none : (payload : List ℕ) (fixed : Outcome) → Nowhere fixed ≡ part payload → (code : ℕ) → adds code payload ≡ 0
+adds_none payload fixed is code =
+    let off : is_of_stock code payload ≡ false = rw (← is) refl in
+    ap (λ (b : Bool). let n : ℕ = cond b 1 0 in n) off
+
+module _ (payload counts : List ℕ) (long : length counts ≡ 0x1_0000) (locate : ℕ) (is : Locate locate ≡ part payload) (fits : locate < 0x1_0000) (item : ℕ) (read : item ≡ get_or counts locate item) where
+  own : adds locate payload ≡ 1
+  own =
+      let mine : is_of_stock locate payload ≡ true = rw (← is) (eq-eqb locate locate refl) in
+      ap (λ (b : Bool). let n : ℕ = cond b 1 0 in n) mine
+
+  other : (code : ℕ) → code ≢ locate → adds code payload ≡ 0
+  other code differ =
+      let off : is_of_stock code payload ≡ false = rw (← is) (ne_eqb locate code (λ e. differ (sym e))) in
+      ap (λ (b : Bool). let n : ℕ = cond b 1 0 in n) off
+
+  room : locate < length counts
+  room = omega (arith, long)
+
+  count : item ≡ get_or counts locate 0
+  count = get_or_read counts locate item room read 0
+
+  raised : (code : ℕ) → get_or (set counts locate (item + 1)) code 0 ≡ get_or counts code 0 + adds code payload
+  raised code = elim (cases_eq code locate) [
+    | inl same ↦ rw (same, get_or-set_same counts locate (item + 1) 0 room) (omega (arith, count, own))
+    | inr differ ↦ rw (get_or-set_other counts locate code (item + 1) 0 differ) (omega (arith, other code differ))
+  ]
+
+-- ---- one message of a stretch of a day more
 
 module _ (day : List (List ℕ)) (from n : ℕ) (counts : List ℕ) (before : AreCounts day from n counts) (lt : n < length day) (payload : List ℕ) (at : payload ≡ get_or day (n + 1 - 1) payload) where
   here : get_or day n [] ≡ payload
@@ -34,45 +69,61 @@ module _ (day : List (List ℕ)) (from n : ℕ) (counts : List ℕ) (before : Ar
       let same : n + 1 - 1 ≡ n = omega arith in
       sym (at ∙ ap (λ (k : ℕ). get_or day k payload) same ∙ get_or_default day n payload [] lt)
 
-  next : (locate : ℕ) (own : Bool) → is_of_stock locate payload ≡ own → locate < 0x1_0000
-      → get_or counts locate 0 + steps_of day locate from + cond own 1 0 ≡ steps_of day locate (n + 1)
-  next locate own is fits =
-      ap (λ (m : ℕ). m + cond own 1 0) (before.each locate fits)
-      ∙ ap (λ (b : Bool). steps_of day locate n + cond b 1 0) (sym (ap (is_of_stock locate) here ∙ is))
-      ∙ sym (steps-next day locate n)
+  next : (code : ℕ) → code < 0x1_0000 → get_or counts code 0 + steps_of day code from + adds code payload ≡ steps_of day code (n + 1)
+  next code low =
+      ap (λ (m : ℕ). m + adds code payload) (before.each code low)
+      ∙ ap (λ (p : List ℕ). steps_of day code n + adds code p) (sym here)
+      ∙ sym (steps-next day code n)
 
   module _ (locate : ℕ) (is : Locate locate ≡ part payload) (fits : locate < 0x1_0000) (item : ℕ) (read : item ≡ get_or counts locate item) where
-    own : is_of_stock locate payload ≡ true
-    own = rw (← is) (eq-eqb locate locate refl)
-
-    other : (code : ℕ) → code ≢ locate → is_of_stock code payload ≡ false
-    other code differ = rw (← is) (ne_eqb locate code (λ e. differ (sym e)))
-
-    room : locate < length counts
-    room = omega (arith, before.long)
-
-    count : item ≡ get_or counts locate 0
-    count = get_or_read counts locate item room read 0
-
     pub count_fits : item + 1 ≤ length day
-    count_fits = omega (arith, count, next locate true own fits, steps_few day locate (n + 1))
+    count_fits =
+        omega (arith, count payload counts before.long locate is fits item read, own payload counts before.long locate is fits item read, next locate fits, steps_few day locate (n + 1))
 
     pub counted : AreCounts day from (n + 1) (set counts locate (item + 1))
     counted = record {
       long = length-set counts locate (item + 1) ∙ before.long;
-      each = λ code low. elim (cases_eq code locate) [
-        | inl same ↦ rw (same, get_or-set_same counts locate (item + 1) 0 room) (omega (arith, count, next locate true own fits))
-        | inr differ ↦ rw (get_or-set_other counts locate code (item + 1) 0 differ) (omega (arith, next code false (other code differ) low))
-      ];
+      each = λ code low. omega (arith, raised payload counts before.long locate is fits item read code, next code low);
     }
 
   pub counted_none : (fixed : Outcome) → Nowhere fixed ≡ part payload → AreCounts day from (n + 1) counts
-  counted_none fixed is = record {
-    long = before.long;
-    each = λ code low.
-        let off : is_of_stock code payload ≡ false = rw (← is) refl in
-        omega (arith, next code false off low);
-  }
+  counted_none fixed is = record { long = before.long; each = λ code low. omega (arith, next code low, adds_none payload fixed is code) }
+
+-- ---- one pass over a day
+
+-- what is counted of a day while these payloads of it are left
+pub record IsCounting (day left : List (List ℕ)) (counts : List ℕ) : Type 0 where
+  pub long : length counts ≡ 0x1_0000
+  pub each : (code : ℕ) → code < 0x1_0000 → get_or counts code 0 + count_by (is_of_stock code) left ≡ count_by (is_of_stock code) day
+
+pub pass_none : (day left : List (List ℕ)) (counts : List ℕ) → left ≡ day → length counts ≡ 0x1_0000 → ((k : ℕ) → k < 0x1_0000 → get_or counts k 0 ≡ 0)
+    → IsCounting day left counts
+pass_none day left counts is long none =
+    record { long = long; each = λ code low. omega (arith, none code low, ap (count_by (is_of_stock code)) is) }
+
+pub pass_all : (day left : List (List ℕ)) (counts : List ℕ) → IsCounting day left counts → left ≡ [] → AreCounts day 0 (length day) counts
+pass_all day left counts before none = record {
+  long = before.long;
+  each = λ code low. omega (arith, before.each code low, ap (count_by (is_of_stock code)) none, steps-none day code, steps_all day code);
+}
+
+module _ (day left rest : List (List ℕ)) (counts : List ℕ) (before : IsCounting day left counts) (payload : List ℕ) (goes_on : left ≡ payload ∷ rest) where
+  left_is : (code : ℕ) → count_by (is_of_stock code) left ≡ adds code payload + count_by (is_of_stock code) rest
+  left_is code = ap (count_by (is_of_stock code)) goes_on ∙ sum_by-cons (adds code) payload rest
+
+  module _ (locate : ℕ) (is : Locate locate ≡ part payload) (fits : locate < 0x1_0000) (item : ℕ) (read : item ≡ get_or counts locate item) where
+    pub pass_fits : item + 1 ≤ length day
+    pass_fits =
+        omega (arith, count payload counts before.long locate is fits item read, own payload counts before.long locate is fits item read, before.each locate fits, left_is locate, count_by-le-length (is_of_stock locate) day)
+
+    pub passed : IsCounting day rest (set counts locate (item + 1))
+    passed = record {
+      long = length-set counts locate (item + 1) ∙ before.long;
+      each = λ code low. omega (arith, raised payload counts before.long locate is fits item read code, before.each code low, left_is code);
+    }
+
+  pub passed_none : (fixed : Outcome) → Nowhere fixed ≡ part payload → IsCounting day rest counts
+  passed_none fixed is = record { long = before.long; each = λ code low. omega (arith, before.each code low, left_is code, adds_none payload fixed is code) }
 
 -- ---- the counts up to a message, and from it on
 

@@ -48,6 +48,19 @@ fn counts_between<A: Allocator + Copy>(
     Ok(counts)
 }
 
+// How many messages of a day each stock has, by its locate code, in one pass.
+fn counts_of_day<A: Allocator + Copy>(alloc: A, day: &Day<A>) -> Result<Vec<u32, A>, AllocError>
+    ensures { IfOk result (λ counts. AreCounts day.now.payloads 0 (length day.now.payloads) counts.items) }
+{
+    let mut counts = no_counts(alloc, LOCATES)?;
+    for payload in day.payloads() {
+        if let Part::Locate(locate) = part(payload) {
+            counts[locate as usize] += 1;
+        }
+    }
+    Ok(counts)
+}
+
 // Where a chunk of a day begins.
 fn start_of(messages: u32, chunk: u32) -> u32
     ensures { result ≡ cut messages chunk }
@@ -109,7 +122,7 @@ pub(crate) fn messages_by_locate<R: Threads + Sync, A: Allocator + Copy + Send +
     ensures { IfOk result (λ counts. AreCounts day.now.payloads 0 (length day.now.payloads) counts.items) }
 {
     if day.len() < MANY {
-        return counts_between(alloc, day, 0, day.len());
+        return counts_of_day(alloc, day);
     }
     let mut counts = no_counts(alloc, LOCATES)?;
     for chunk in &counts_by_chunk(rt, alloc, day)? {
@@ -145,6 +158,6 @@ pub(crate) fn locates_counted<A: Allocator + Copy>(
 pub fn locates<A: Allocator + Copy>(alloc: A, day: &Day<A>) -> Result<Vec<u16, A>, AllocError>
     ensures { IfOk result (λ locates. locates.items ≡ locates_of_day day.now.payloads) }
 {
-    let counts = counts_between(alloc, day, 0, day.len())?;
+    let counts = counts_of_day(alloc, day)?;
     locates_counted(alloc, &counts)
 }
