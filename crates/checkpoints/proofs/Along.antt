@@ -20,7 +20,7 @@ use Rattle.day_core.specs.Owners.{last_or, machine_of, of_stock, part_at}
 use Rattle.day_core.proofs.Kept.{kept_before, kept_within}
 use Rattle.day_core.proofs.Progress.{last_push, machine_until}
 use Rattle.day_core.proofs.Running.{machine_stepped, payload_is}
-use Rattle.checkpoints.specs.Copies.{IsTrack, copies_of, distance_of, machine_after_own, numbers_of}
+use Rattle.checkpoints.specs.Copies.{IsTrack, copies_of, machine_after_own, numbers_of}
 use Rattle.checkpoints.proofs.Splitting.{found, parted, taken}
 
 -- so many messages are there for another copy
@@ -189,20 +189,18 @@ module _ (day : List (List ℕ)) (locate : ℕ) where
           ∙ sym (map-range_with_len_more copy 0 (last + 1) (last + 1) (omega arith))
 
 -- the last copy before a number of the stock's messages
-module _ (day : List (List ℕ)) (locate every : ℕ) (numbers : List ℕ) (copies : List StockMachine) (track : IsTrack day locate every numbers copies) (distance : ℕ) (is : distance ≡ distance_of every (length numbers)) (taken : ℕ) (le : taken ≤ length numbers) where
+module _ (day : List (List ℕ)) (locate every : ℕ) (numbers : List ℕ) (copies : List StockMachine) (track : IsTrack day locate every numbers copies) (taken : ℕ) (le : taken ≤ length numbers) where
   abbrev most : ℕ
-  most = length (numbers_of day locate) / distance
+  most = length (numbers_of day locate) / every
 
-  here : taken / distance ≤ most
-  here =
-      let some : 0 < distance = omega (arith, is) in
-      omega (arith, last_within taken (length numbers) distance some le, ap (λ (xs : List ℕ). length xs / distance) track.numbers_are)
+  here : taken / every ≤ most
+  here = omega (arith, last_within taken (length numbers) every track.some le, ap (λ (xs : List ℕ). length xs / every) track.numbers_are)
 
-  along : copies ≡ map (λ (k : ℕ). machine_after_own day locate (k * distance)) (range_with_len 0 (most + 1))
-  along = copies_are day locate distance copies (track.copies_are ∙ ap (copies_of day locate) (sym is))
+  along : copies ≡ map (λ (k : ℕ). machine_after_own day locate (k * every)) (range_with_len 0 (most + 1))
+  along = copies_are day locate every copies track.copies_are
 
-  pub copy_there : taken / distance < length copies
-  copy_there = omega (arith, here, copies_len day locate distance most copies along)
+  pub copy_there : taken / every < length copies
+  copy_there = omega (arith, here, copies_len day locate every most copies along)
 
-  pub copy_stands : (d : StockMachine) → get_or copies (taken / distance) d ≡ machine_after_own day locate (taken / distance * distance)
-  copy_stands d = copies_at day locate distance most copies along (taken / distance) d here
+  pub copy_stands : (d : StockMachine) → get_or copies (taken / every) d ≡ machine_after_own day locate (taken / every * every)
+  copy_stands d = copies_at day locate every most copies along (taken / every) d here

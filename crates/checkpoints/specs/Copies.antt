@@ -1,6 +1,6 @@
 -- A stock's own messages of a day, and the copies of its machine that are kept along them. All is of this
 -- project.
-use Rattle.std.specs.Prelude.{◌≡◌, ◌<◌, ◌+◌, ◌*◌, ◌/◌, [], ℕ, List, length, map, max, slice_index_or, take}
+use Rattle.std.specs.Prelude.{◌≡◌, ◌<◌, ◌+◌, ◌*◌, ◌/◌, [], ℕ, List, length, map, slice_index_or, take}
 use Rattle.std.specs.List.{range_with_len}
 use Rattle.day_core.specs.Owners.{last_or, machine_of, of_stock}
 use Rattle.stock_machine.specs.StockRows.{StockMachine}
@@ -15,14 +15,9 @@ machine_after_own day locate count = machine_of day locate (last_or 0 (take coun
 
 -- a stock's machine before its first message, and after every so many of its own messages
 unfoldable pub copies_of : List (List ℕ) → ℕ → ℕ → List StockMachine
-copies_of day locate distance =
-    map (λ k. machine_after_own day locate (k * distance))
-    (range_with_len 0 (length (numbers_of day locate) / distance + 1))
-
--- how many of a stock's messages lie from one copy to the next: the greater of what is asked for and the least
--- number that leaves at most 48 copies, the first among them
-abbrev pub distance_of : ℕ → ℕ → ℕ
-distance_of every count = max every (count / 48 + 1)
+copies_of day locate every =
+    map (λ k. machine_after_own day locate (k * every))
+    (range_with_len 0 (length (numbers_of day locate) / every + 1))
 
 -- the numbers in the list of a locate code, none where there is no list
 abbrev pub listed : List (List ℕ) → ℕ → List ℕ
@@ -32,14 +27,16 @@ listed lists locate = slice_index_or lists locate []
 abbrev pub IsIndex : List (List ℕ) → List (List ℕ) → Type 0
 IsIndex day lists = (locate : ℕ) → listed lists locate ≡ numbers_of day locate
 
--- what a track is seen as: the day, and the stock's locate code
+-- what a track is seen as: the day, the stock's locate code, and how many of its messages lie from one copy to
+-- the next
 pub record Tracked : Type 0 where
   pub day : List (List ℕ)
   pub locate : ℕ
+  pub every : ℕ
 
--- the stock's messages are kept by their numbers, and copies of its machine along them
+-- the stock's messages are kept by their numbers, and a copy of its machine after every so many of them
 pub record IsTrack (day : List (List ℕ)) (locate every : ℕ) (numbers : List ℕ)
     (copies : List StockMachine) : Type 0 where
   pub some : 0 < every
   pub numbers_are : numbers ≡ numbers_of day locate
-  pub copies_are : copies ≡ copies_of day locate (distance_of every (length numbers))
+  pub copies_are : copies ≡ copies_of day locate every

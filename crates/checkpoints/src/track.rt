@@ -1,7 +1,7 @@
 //! One stock along a day.
 ghost use Rattle.std.specs.Prelude.{◌≡◌, ◌*◌, ◌<◌, ◌≤◌, IfOk, length};
 ghost use Rattle.day_core.specs.Owners.{machine_of};
-ghost use Rattle.checkpoints.specs.Copies.{IsTrack, copies_of, distance_of, machine_after_own, numbers_of};
+ghost use Rattle.checkpoints.specs.Copies.{IsTrack, copies_of, machine_after_own, numbers_of};
 
 use crate::index::StockIndex;
 use crate::own::{advance, numbers_of};
@@ -12,15 +12,14 @@ use stock_machine::Stock;
 
 /// One stock along a day: its machine after any number of the day's messages.
 ///
-/// The stock's messages are kept by their numbers, four bytes each, and a copy of its machine after every so many of
-/// them, so that fewer than so many are stepped to any place. The copies lie as many messages apart as is asked for, or
-/// further where that would make more than 48, the first among them. It is seen as the day and the stock's locate code.
-/// All is of this project.
+/// The stock's messages are kept by their numbers, four bytes each, and a copy of its machine before the first and after
+/// every so many of them, so that fewer than so many are stepped to any place. It is seen as the day, the stock's locate
+/// code and how many messages lie from one copy to the next. All is of this project.
 #[derive(Drop)]
 pub struct Track<'d, A: Allocator> {
     day: &'d Day<A>,
     locate: u16,
-    every: u32,
+    every: usize,
     numbers: Vec<u32, A>,
     copies: Vec<Stock<A>, A>,
 }
@@ -30,19 +29,9 @@ impl<'d, A: Allocator> Model for Track<'d, A> {
 
     ghost Value = { Tracked };
 
-    ghost view = { λ t. record { day = t.day.now.payloads; locate = t.locate } };
+    ghost view = { λ t. record { day = t.day.now.payloads; locate = t.locate; every = t.every } };
 
     ghost invariant = { λ t. IsTrack t.day.now.payloads t.locate t.every t.numbers.items t.copies.items };
-}
-
-// The most copies of a machine, the first among them.
-const MOST_COPIES: usize = 48;
-
-// How many messages lie from one copy to the next, where a stock has messages with these numbers.
-fn distance_of(every: u32, numbers: &[u32]) -> usize
-    ensures { result ≡ distance_of every (length numbers.now) }
-{
-    (every as usize).max(numbers.len() / MOST_COPIES + 1)
 }
 
 // A stock's machine before its first message, and after every so many of its messages: copies of one that goes along
@@ -51,18 +40,18 @@ fn copies_of<A: Allocator + Copy>(
     alloc: A,
     day: &Day<A>,
     locate: u16,
-    distance: usize,
+    every: usize,
     numbers: &[u32],
 ) -> Result<Vec<Stock<A>, A>, AllocError>
-    requires some { 0 < distance }
+    requires some { 0 < every }
     requires numbers { numbers.now ≡ numbers_of day.now.payloads locate }
-    ensures { IfOk result (λ copies. copies.items ≡ copies_of day.now.payloads locate distance) }
+    ensures { IfOk result (λ copies. copies.items ≡ copies_of day.now.payloads locate every) }
 {
     let mut copies = Vec::new(alloc);
     let mut stock = Stock::new(alloc, locate);
     copies.push(stock.copy(alloc)?)?;
-    for last in 0..numbers.len() / distance {
-        let (from, to) = (last * distance, (last + 1) * distance);
+    for last in 0..numbers.len() / every {
+        let (from, to) = (last * every, (last + 1) * every);
         advance(&mut stock, day, numbers, from, to)?;
         copies.push(stock.copy(alloc)?)?;
     }
@@ -75,15 +64,18 @@ impl<'d, A: Allocator + Copy> Track<'d, A> {
         alloc: A,
         day: &'d Day<A>,
         locate: u16,
-        every: u32,
+        every: usize,
         numbers: Vec<u32, A>,
     ) -> Result<Track<'d, A>, AllocError>
         requires some { 0 < every }
         requires numbers { numbers.items ≡ numbers_of day.now.payloads locate }
-        ensures { IfOk result (λ track. track ≡ record { day = day.now.payloads; locate = locate }) }
+        ensures { IfOk result (λ track. track ≡ record {
+          day = day.now.payloads;
+          locate = locate;
+          every = every;
+        }) }
     {
-        let distance = distance_of(every, &numbers);
-        let copies = copies_of(alloc, day, locate, distance, &numbers)?;
+        let copies = copies_of(alloc, day, locate, every, &numbers)?;
         Ok(Track {
             day,
             locate,
@@ -93,16 +85,20 @@ impl<'d, A: Allocator + Copy> Track<'d, A> {
         })
     }
 
-    /// Goes through the day once, and keeps copies of the stock's machine `every` of its messages apart, or further
-    /// apart where they would be many. `every` is at least 1. An error says that memory was refused.
+    /// Goes through the day once, and keeps a copy of the stock's machine after every `every` of its messages. `every`
+    /// is at least 1. An error says that memory was refused.
     pub fn make(
         alloc: A,
         day: &'d Day<A>,
         locate: u16,
-        every: u32,
+        every: usize,
     ) -> Result<Track<'d, A>, AllocError>
         requires { 0 < every }
-        ensures { IfOk result (λ track. track ≡ record { day = day.now.payloads; locate = locate }) }
+        ensures { IfOk result (λ track. track ≡ record {
+          day = day.now.payloads;
+          locate = locate;
+          every = every;
+        }) }
     {
         let numbers = numbers_of(alloc, day, locate)?;
         Track::along(alloc, day, locate, every, numbers)
@@ -114,10 +110,10 @@ impl<'d, A: Allocator + Copy> Track<'d, A> {
         alloc: A,
         index: &StockIndex<'d, A>,
         locate: u16,
-        every: u32,
+        every: usize,
     ) -> Result<Track<'d, A>, AllocError>
         requires { 0 < every }
-        ensures { IfOk result (λ track. track ≡ record { day = index.now; locate = locate }) }
+        ensures { IfOk result (λ track. track ≡ record { day = index.now; locate = locate; every = every }) }
     {
         let numbers = Vec::from_slice(alloc, index.numbers(locate))?;
         Track::along(alloc, index.day(), locate, every, numbers)
@@ -129,11 +125,16 @@ impl<'d, A: Allocator + Copy> Track<'d, A> {
         requires { n ≤ length self.now.day }
         ensures { IfOk result (λ stock. stock ≡ machine_of self.now.day self.now.locate n) }
     {
-        let distance = distance_of(self.every, &self.numbers);
         let taken = self.numbers.partition_point(|number| *number <= n);
-        let last = taken / distance;
+        let last = taken / self.every;
         let mut stock = self.copies[last].copy(alloc)?;
-        advance(&mut stock, self.day, &self.numbers, last * distance, taken)?;
+        advance(
+            &mut stock,
+            self.day,
+            &self.numbers,
+            last * self.every,
+            taken,
+        )?;
         Ok(stock)
     }
 }

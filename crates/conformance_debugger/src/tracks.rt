@@ -56,7 +56,7 @@ fn track_by<A: Allocator + Copy>(
     alloc: A,
     day: &Day<A>,
     way: Way,
-    every: u32,
+    every: usize,
 ) -> Result<Track<'_, A>, AllocError>
     requires { 0 < every }
     ensures { IfOk result (λ track. track.day ≡ day.now.payloads) }

@@ -1,5 +1,5 @@
 -- What a debugger is seen as, and what it keeps. All is of this project.
-use Rattle.std.specs.Prelude.{◌≡◌, ◌≤◌, ◌<◌, ◌++◌, ◌∷◌, [], ℕ, Bool, false, true, zero, suc, List, filter, length, Option, Some, None}
+use Rattle.std.specs.Prelude.{◌≡◌, ◌≤◌, ◌<◌, ◌+◌, ◌/◌, ◌++◌, ◌∷◌, [], ℕ, Bool, false, true, zero, suc, List, filter, length, max, Option, Some, None}
 use Rattle.std.specs.List.{All, remove, range_with_len}
 use Rattle.itch_layouts.specs.Shapes.{shape_of}
 use Rattle.itch_layouts.specs.declared.message.Msg.TheVariants.{System}
@@ -8,19 +8,20 @@ use Rattle.itch_layouts.specs.declared.shape.Shape.TheVariants.{Known}
 use Rattle.itch_table.specs.declared.outcome.Outcome.{Outcome}
 use Rattle.itch_table.specs.After.{outcome}
 use Rattle.itch_table.specs.Projection.{payload_at}
-use Rattle.checkpoints.specs.Copies.{Tracked}
+use Rattle.checkpoints.specs.Copies.{Tracked, numbers_of}
 use Rattle.debugger.specs.declared.breakpoint.Break.{Break}
 
--- the day, the number of messages up to the position, and the breakpoints in the order in which they were
--- added
+-- the day, the fewest messages of a stock from one copy of its machine to the next, the number of messages up to
+-- the position, and the breakpoints in the order in which they were added
 pub record Session : Type 0 where
   pub day : List (List ℕ)
+  pub every : ℕ
   pub position : ℕ
   pub breaks : List Break
 
 -- a session at position 0, without breakpoints
-abbrev pub new_session : List (List ℕ) → Session
-new_session day = record { day = day; position = 0; breaks = [] }
+abbrev pub new_session : List (List ℕ) → ℕ → Session
+new_session day every = record { day = day; every = every; position = 0; breaks = [] }
 
 -- a session that moved to another position
 abbrev pub moved_to : Session → ℕ → Session
@@ -55,22 +56,33 @@ pub record Marked : Type 0 where
   pub day : List (List ℕ)
   pub breaks : List Break
 
--- every track is of the day
-abbrev pub AreOf : List (List ℕ) → List Tracked → Type 0
-AreOf day tracks = All (λ t. t.day ≡ day) tracks
+-- a day with the fewest messages of a stock from one copy of its machine to the next
+pub record Copied : Type 0 where
+  pub day : List (List ℕ)
+  pub every : ℕ
+
+-- how many messages of a stock that has so many lie from one copy of its machine to the next: the fewest that are
+-- asked for, or the least number that leaves at most 48 copies, the first among them, where it is greater
+abbrev pub distance_of : ℕ → ℕ → ℕ
+distance_of every messages = max every (messages / 48 + 1)
+
+-- a track of the day, with copies so far apart
+pub record IsOf (day : List (List ℕ)) (every : ℕ) (track : Tracked) : Type 0 where
+  pub day_is : track.day ≡ day
+  pub every_is : track.every ≡ distance_of every (length (numbers_of day track.locate))
 
 -- every track is of the day, and those of the stocks that were asked for last are few
 pub record AreTracks (day : List (List ℕ)) (every : ℕ) (busy recent : List Tracked) : Type 0 where
   pub some : 0 < every
-  pub busy_of : AreOf day busy
-  pub recent_of : AreOf day recent
+  pub busy_of : All (IsOf day every) busy
+  pub recent_of : All (IsOf day every) recent
   pub few : length recent ≤ 64
 
 -- what a debugger keeps beside its breakpoints, each of the same day
 pub record IsSession (day : List (List ℕ)) (position : ℕ) (outcome : Option Outcome) (systems : List ℕ)
-    (marked : Marked) (tracked : List (List ℕ)) : Type 0 where
+    (marked : Marked) (copied : Copied) : Type 0 where
   pub within : position ≤ length day
   pub outcome_is : outcome ≡ outcome_at day position
   pub systems_are : systems ≡ systems_of day
   pub breaks_of : marked.day ≡ day
-  pub tracks_of : tracked ≡ day
+  pub tracks_of : copied.day ≡ day

@@ -49,8 +49,9 @@ pub struct Stop {
 /// A position in a day, which moves both ways, and breakpoints, at which it stops.
 ///
 /// A position is a number of messages, from 0 to all of the day's, and shows what the day has built up after exactly
-/// so many, however it was reached. The debugger is seen as the day, the position and the list of the breakpoints. An
-/// error leaves all three as they were. All is of this project.
+/// so many, however it was reached. The debugger is seen as the day, the position, the list of the breakpoints, and how
+/// many messages of a stock lie at least from one copy of its machine to the next. An error leaves all as they were. All
+/// is of this project.
 #[derive(Drop)]
 pub struct Debugger<'d, A: Allocator> {
     day: &'d Day<A>,
@@ -67,7 +68,12 @@ impl<'d, A: Allocator> Model for Debugger<'d, A> {
     ghost Value = { Session };
 
     ghost view = { λ d.
-        record { day = d.day.now.payloads; position = d.position; breaks = d.breakpoints.breaks } };
+        record {
+          day = d.day.now.payloads;
+          every = d.tracks.every;
+          position = d.position;
+          breaks = d.breakpoints.breaks;
+        } };
 
     ghost invariant = { λ d.
         IsSession d.day.now.payloads d.position d.outcome d.systems.items d.breakpoints d.tracks };
@@ -75,12 +81,12 @@ impl<'d, A: Allocator> Model for Debugger<'d, A> {
 
 impl<'d, A: Allocator + Copy> Debugger<'d, A> {
     /// A debugger of a day at position 0, without breakpoints. It keeps copies of a stock's machine `every` of its
-    /// messages apart, or further apart where they would be many ([`Track`](checkpoints::Track)); `every` is at least
-    /// 1. It goes through the day twice, steps the stocks with very many messages along it, so that no later move has
-    /// to, and keeps copies of these and four to eight bytes a message. An error says that memory was refused.
+    /// messages apart, or further apart where that would make more than 48 ([`Track`](checkpoints::Track)); `every` is
+    /// at least 1. It goes through the day twice, steps the stocks with very many messages along it, so that no later
+    /// move has to, and keeps copies of these and four to eight bytes a message. An error says that memory was refused.
     pub fn new(alloc: A, day: &'d Day<A>, every: u32) -> Result<Debugger<'d, A>, AllocError>
         requires { 0 < every }
-        ensures { IfOk result (λ debugger. debugger ≡ new_session day.now.payloads) }
+        ensures { IfOk result (λ debugger. debugger ≡ new_session day.now.payloads every) }
     {
         Ok(Debugger {
             day,

@@ -16,7 +16,7 @@ pub fn outcome_at<A: Allocator + Copy>(
     n: u32,
 ) -> Result<Option<Outcome>, AllocError>
     requires within { n ≤ length day.now.payloads }
-    requires tracks { tracks.old ≡ day.now.payloads }
+    requires tracks { tracks.old.day ≡ day.now.payloads }
     ensures outcome { IfOk result (λ outcome. outcome ≡ outcome_at day.now.payloads n) }
     ensures tracks { tracks.new ≡ tracks.old }
 {

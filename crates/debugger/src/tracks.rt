@@ -1,7 +1,8 @@
 //! The stocks that were asked for last, along the day, and those with the most messages.
-ghost use Rattle.std.specs.Prelude.{◌≡◌, ◌<◌, ◌≤◌, IfOk, IfSome, OnOk, length, slice_index_or};
+ghost use Rattle.std.specs.Prelude.{◌≡◌, ◌<◌, ◌≤◌, ◌/◌, IfOk, IfSome, OnOk, length, slice_index_or};
+ghost use Rattle.std.specs.List.{All};
 ghost use Rattle.checkpoints.specs.Copies.{Tracked};
-ghost use Rattle.debugger.specs.Sessions.{AreOf};
+ghost use Rattle.debugger.specs.Sessions.{IsOf, distance_of};
 ghost use Rattle.day_core.specs.Owners.{machine_of};
 
 use binaryfile::Day;
@@ -13,6 +14,9 @@ use stock_machine::Stock;
 // The most tracks that are kept of the stocks that were asked for last.
 const MOST_TRACKS: usize = 64;
 
+// The most copies of a stock's machine, the first among them.
+const MOST_COPIES: usize = 48;
+
 // A stock is busy that has more messages than this.
 const BUSY_MESSAGES: u32 = 60_000;
 
@@ -20,7 +24,7 @@ const BUSY_MESSAGES: u32 = 60_000;
 const BUSY_SHARE: u32 = 200;
 
 /// Tracks of the busy stocks, and of the stocks that were asked for last, at most 64 of them, seen as the day that they
-/// are of.
+/// are of and the fewest messages of a stock from one copy to the next.
 #[derive(Drop)]
 pub struct Tracks<'d, A: Allocator> {
     index: StockIndex<'d, A>,
@@ -32,12 +36,11 @@ pub struct Tracks<'d, A: Allocator> {
 }
 
 impl<'d, A: Allocator> Model for Tracks<'d, A> {
-    ghost use Rattle.std.specs.Prelude.{ℕ, List};
-    ghost use Rattle.debugger.specs.Sessions.{AreTracks};
+    ghost use Rattle.debugger.specs.Sessions.{AreTracks, Copied};
 
-    ghost Value = { List (List ℕ) };
+    ghost Value = { Copied };
 
-    ghost view = { λ t. t.index };
+    ghost view = { λ t. record { day = t.index; every = t.every } };
 
     ghost invariant = { λ t. AreTracks t.index t.every t.busy.items t.recent.items };
 }
@@ -51,6 +54,29 @@ fn place_of<A: Allocator>(tracks: &[Track<'_, A>], locate: u16) -> Option<usize>
     tracks.iter().position(|track| track.locate() == locate)
 }
 
+// How many messages of a stock that has so many lie from one copy of its machine to the next.
+fn distance_of(every: u32, messages: usize) -> usize
+    ensures distance { result ≡ distance_of every messages }
+    ensures few { messages / result < 48 }
+{
+    (every as usize).max(messages / MOST_COPIES + 1)
+}
+
+// The track of a stock.
+fn track_of<'d, A: Allocator + Copy>(
+    alloc: A,
+    index: &StockIndex<'d, A>,
+    locate: u16,
+    every: u32,
+) -> Result<Track<'d, A>, AllocError>
+    requires { 0 < every }
+    ensures of { IfOk result (λ track. IsOf index.now every track) }
+    ensures locate { IfOk result (λ track. track.locate ≡ locate) }
+{
+    let distance = distance_of(every, index.numbers(locate).len());
+    Track::from_index(alloc, index, locate, distance)
+}
+
 // Adds the track of a stock that has more than so many messages.
 fn add_busy<'d, A: Allocator + Copy>(
     alloc: A,
@@ -61,13 +87,13 @@ fn add_busy<'d, A: Allocator + Copy>(
     busy: &mut Vec<Track<'d, A>, A>,
 ) -> Result<(), AllocError>
     requires some { 0 < every }
-    requires tracks { AreOf index.now busy.old.items }
-    ensures { OnOk result (AreOf index.now busy.new.items) }
+    requires tracks { All (IsOf index.now every) busy.old.items }
+    ensures { OnOk result (All (IsOf index.now every) busy.new.items) }
 {
     if index.numbers(locate).len() <= messages as usize {
         return Ok(());
     }
-    busy.push(Track::from_index(alloc, index, locate, every)?)?;
+    busy.push(track_of(alloc, index, locate, every)?)?;
     Ok(())
 }
 
@@ -79,7 +105,7 @@ fn busy_tracks<'d, A: Allocator + Copy>(
     messages: u32,
 ) -> Result<Vec<Track<'d, A>, A>, AllocError>
     requires { 0 < every }
-    ensures { IfOk result (λ tracks. AreOf index.now tracks.items) }
+    ensures { IfOk result (λ tracks. All (IsOf index.now every) tracks.items) }
 {
     let mut busy = Vec::new(alloc);
     for locate in 0..=u16::MAX {
@@ -90,10 +116,10 @@ fn busy_tracks<'d, A: Allocator + Copy>(
 
 impl<'d, A: Allocator + Copy> Tracks<'d, A> {
     /// The tracks of the busy stocks. Each track keeps copies of its stock's machine `every` of the stock's messages
-    /// apart, or further apart where they would be many. An error says that memory was refused.
+    /// apart, or further apart where that would make more than 48. An error says that memory was refused.
     pub fn new(alloc: A, day: &'d Day<A>, every: u32) -> Result<Tracks<'d, A>, AllocError>
         requires { 0 < every }
-        ensures { IfOk result (λ tracks. tracks ≡ day.now.payloads) }
+        ensures { IfOk result (λ tracks. tracks ≡ record { day = day.now.payloads; every = every }) }
     {
         let index = StockIndex::new(alloc, day)?;
         let messages = (day.len() / BUSY_SHARE).max(BUSY_MESSAGES);
@@ -108,19 +134,20 @@ impl<'d, A: Allocator + Copy> Tracks<'d, A> {
 
     // Takes out a stock's track, or makes one where there is none.
     fn take(&mut self, alloc: A, locate: u16) -> Result<Track<'d, A>, AllocError>
-        ensures track { IfOk result (λ track. track ≡ record { day = self.old; locate = locate }) }
-        ensures day { self.new ≡ self.old }
+        ensures of { IfOk result (λ track. IsOf self.old.day self.old.every track) }
+        ensures locate { IfOk result (λ track. track.locate ≡ locate) }
+        ensures unchanged { self.new ≡ self.old }
     {
         match place_of(&self.recent, locate) {
             Some(place) => Ok(self.recent.remove(place)),
-            None => Track::from_index(alloc, &self.index, locate, self.every),
+            None => track_of(alloc, &self.index, locate, self.every),
         }
     }
 
     // Keeps a track as the one that was asked for last. Where there are too many, the one that wasn't asked
     // for the longest is dropped.
     fn keep(&mut self, track: Track<'d, A>) -> Result<(), AllocError>
-        requires { track.day ≡ self.old }
+        requires { IsOf self.old.day self.old.every track }
         ensures { self.new ≡ self.old }
     {
         self.recent.truncate(MOST_TRACKS - 1);
@@ -131,9 +158,9 @@ impl<'d, A: Allocator + Copy> Tracks<'d, A> {
     /// A stock's machine after the first `n` messages of the day, of which there are as many, by its track, which is
     /// made where there is none. An error says that memory was refused.
     pub fn stock_at(&mut self, alloc: A, locate: u16, n: u32) -> Result<Stock<A>, AllocError>
-        requires { n ≤ length self.old }
-        ensures stock { IfOk result (λ stock. stock ≡ machine_of self.old locate n) }
-        ensures day { self.new ≡ self.old }
+        requires { n ≤ length self.old.day }
+        ensures stock { IfOk result (λ stock. stock ≡ machine_of self.old.day locate n) }
+        ensures unchanged { self.new ≡ self.old }
     {
         if let Some(place) = place_of(&self.busy, locate) {
             return self.busy[place].at(alloc, n);

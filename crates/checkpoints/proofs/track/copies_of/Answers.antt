@@ -8,8 +8,8 @@ pub loop-last-init : goal.loop-last-init
 loop-last-init g c =
     let new = c.new-stock.ensures in
     let day = c.args.day.now.payloads in
-    let none : 0 * c.args.distance ≡ 0 = omega arith in
-    let first = copies_first day c.args.locate c.args.distance c.new-stock.result new.locate new.world new.steps in
+    let none : 0 * c.args.every ≡ 0 = omega arith in
+    let first = copies_first day c.args.locate c.args.every c.new-stock.result new.locate new.world new.steps in
     record {
       kept =
           c.in_ok-push.ensures.items ∙ ap (λ (ms : List StockMachine). ms ++ c.in_ok-copy.field-0 ∷ []) c.new-copies.ensures.items
@@ -29,16 +29,16 @@ advance-requires-clause-to g c = room_left _ _ _ c.loop-last-test.true
 pub loop-last-preserved : goal.loop-last-preserved
 loop-last-preserved g c =
     let day = c.args.day.now.payloads in
-    let moved = c.in_ok-advance.ensures ∙ ap (λ l. machine_after_own day l ((c.loop-last.last + 1) * c.args.distance)) (locate_is _ _ _ _ c.loop-last.invariant.stands) in
+    let moved = c.in_ok-advance.ensures ∙ ap (λ l. machine_after_own day l ((c.loop-last.last + 1) * c.args.every)) (locate_is _ _ _ _ c.loop-last.invariant.stands) in
     record {
       kept =
-          copies_more day c.args.locate c.args.distance _ _ c.loop-last.invariant.kept _ _ (c.in_ok-copy-2.ensures ∙ moved) c.in_ok-push-2.ensures.items;
+          copies_more day c.args.locate c.args.every _ _ c.loop-last.invariant.kept _ _ (c.in_ok-copy-2.ensures ∙ moved) c.in_ok-push-2.ensures.items;
       stands = moved;
     }
 
 pub returns : goal.returns
 returns g c =
     let all = ap length c.requires.numbers in
-    copies_made c.args.day.now.payloads c.args.locate c.args.distance c.loop-last.last _
-    (let last : c.loop-last.last ≡ length c.args.numbers.now / c.args.distance = omega arith in last ∙ ap (λ n. n / c.args.distance) all)
+    copies_made c.args.day.now.payloads c.args.locate c.args.every c.loop-last.last _
+    (let last : c.loop-last.last ≡ length c.args.numbers.now / c.args.every = omega arith in last ∙ ap (λ n. n / c.args.every) all)
     c.loop-last.invariant.kept

@@ -13,5 +13,5 @@ returns-clause-new g c =
     let breaks = ap (λ (s : Session). s.breaks) c.self.view_is in
     IfOk-weaker c.add.result _ _ (λ place added absent.
     let new = added (λ there. absent (subst (λ (ks : List Break). Contains ks b) breaks there)) in
-    ap (λ (bs : List Break). let s : Session = record { day = day; position = inside.position; breaks = bs } in s) new
+    ap (λ (bs : List Break). let s : Session = record { day = day; every = inside.tracks.every; position = inside.position; breaks = bs } in s) new
     ∙ ap (λ (s : Session). with_break s b) c.self.view_is) c.add.ensures.new
