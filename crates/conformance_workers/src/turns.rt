@@ -308,28 +308,28 @@ fn lead<R: Threads + Wait + Sync, A: Allocator + Copy>(
 // is taken with memory.
 fn try_turn<R: Threads + Wait + Sync>(
     rt: &R,
-    heap: &Refusing<Global>,
+    heap: &&Refusing<Global>,
     turns: &[After],
     refusal: Refusal,
 ) -> Result<Tried, Fail> {
     let Some((wanted, earlier)) = turns.split_last() else {
         return Err(Fail::new("no turn"));
     };
-    let day = two_stocks(heap)?;
-    let (parts, waiting) = prepare(rt, &heap, &day)?;
-    let (mut worker, board, mut screen) = only_worker(heap, &parts, waiting)?;
+    let day = two_stocks(*heap)?;
+    let (parts, waiting) = prepare(rt, heap, &day)?;
+    let (mut worker, board, mut screen) = only_worker(*heap, &parts, waiting)?;
     lead(rt, &day, &board, &mut worker, earlier)?;
-    find_without_memory(heap, &worker)?;
-    let before = see(rt, heap, &board, &worker, &mut screen);
+    find_without_memory(*heap, &worker)?;
+    let before = see(rt, *heap, &board, &worker, &mut screen);
     heap.restart(refusal);
     let mut answer = turn(rt, &day, &board, &mut worker);
     let tried = heap.tried(answer.is_err());
     if tried.refused {
-        let after = see(rt, heap, &board, &worker, &mut screen);
+        let after = see(rt, *heap, &board, &worker, &mut screen);
         same("a refused turn", &after, &before)?;
         answer = turn(rt, &day, &board, &mut worker);
     }
-    let (first, second, reading) = see(rt, heap, &board, &worker, &mut screen);
+    let (first, second, reading) = see(rt, *heap, &board, &worker, &mut screen);
     let (piece, one, two) = *wanted;
     same("a turn", &answer, &Ok(piece))?;
     same(
@@ -348,7 +348,7 @@ fn a_turn_without_memory_is_tried_again(rt: HostRuntime) -> Result<(), Fail> {
     for last in 1..=turns.len() {
         let some = turns.get(..last).unwrap_or(&[]);
         let more = refuse_any(|refusal: Refusal| -> Result<Tried, Fail> {
-            try_turn(&rt, &heap, some, refusal)
+            try_turn(&rt, &&heap, some, refusal)
         })?;
         growths = growths.saturating_add(more);
     }
