@@ -1,5 +1,6 @@
 pub mod Consoles
 pub mod Numbers
+pub mod Quotes
 pub mod Replying
 pub mod Serving
 pub mod StockLines

@@ -1,8 +1,9 @@
 -- Which lines are which commands. The commands are of this project.
-use Rattle.std.specs.Prelude.{ℕ, ◌^◌, nat_lt, if◌then◌else◌, List, [], ◌∷◌, length, codes, Option, Some, None, option_map}
+use Rattle.std.specs.Prelude.{◌≡◌, ℕ, ◌^◌, nat_lt, if◌then◌else◌, List, [], ◌∷◌, length, codes, Contains, Option, Some, None, option_map}
 use Rattle.std.specs.Str.{bytes_eq}
 use Rattle.itch_table.specs.declared.order.Side.{Side}
 use Rattle.itch_table.specs.declared.order.Side.TheVariants.{Buy, Sell}
+use Rattle.itch_text.specs.Characters.{quote_mark}
 use Rattle.itch_text.specs.Parsing.{number_in}
 use Rattle.itch_text.specs.Words.{words}
 use Rattle.debugger.specs.declared.breakpoint.Break.{Break}
@@ -104,3 +105,7 @@ longest_line = 1000
 -- the command of a line; a line that is too long is none, whatever stands in it
 unfoldable pub command_of : List ℕ → Option Command
 command_of line = if nat_lt longest_line (length line) then None else command_of_words (words line)
+
+-- no line with a quote in it is a command
+abbrev pub QuotesAreInNone : Type 0
+QuotesAreInNone = (line : List ℕ) → Contains line quote_mark → command_of line ≡ None

@@ -7,11 +7,13 @@
 mod answer;
 mod command;
 mod console;
+mod laws;
 mod lines;
 mod run;
 mod session;
 mod stock;
 
 pub use command::Command;
+pub use laws::quotes_are_in_no_command;
 pub use run::{MOST_COMMAND_BYTES, debug_run};
 pub use session::{Next, answer_line};
