@@ -6,11 +6,11 @@ use Rattle.std.specs.List.{slice_split}
 use Rattle.std.specs.Io.KnownBytes.{Appends, Consumes, IsAtEnd, Keeps}
 use Rattle.std.proofs.KnownBytes.{Appends-nil, Consumes-trans}
 use Rattle.std.proofs.lemmas.List.Elements.{All-nil}
-use Rattle.debugger.specs.Sessions.{Session, new_session}
+use Rattle.debugger.specs.Sessions.{Session}
 use Rattle.itch_engine.specs.declared.fault.ProgFault.{ProgFault}
 use Rattle.itch_engine.specs.declared.fault.ProgFault.TheVariants.{Memory, Read, Write}
-use Rattle.itch_debug.specs.Runs.{Answers, AnswersWhole, Cause, ChangesNothing, EndsEarly, Fails, Faults, Halts, Interrupts, Serves, ServesAll, Stands, most_command_bytes, start}
-use Rattle.itch_debug.specs.Sessions.{answers, is_line_feed, replies}
+use Rattle.itch_debug.specs.Runs.{Answers, AnswersWhole, Cause, ChangesNothing, EndsEarly, Fails, Faults, Halts, Interrupts, Serves, ServesAll, Stands, most_command_bytes}
+use Rattle.itch_debug.specs.Sessions.{answers, is_line_feed, replies, start}
 use Rattle.itch_debug.proofs.Consoles.{given_of, more_whole, replies_more, whole_of}
 
 kept_consumes : (a b : Option (List ℕ)) → Keeps a b → Consumes a b []
@@ -65,7 +65,7 @@ consumes_none : (a : Option (List ℕ)) → Consumes a a []
 consumes_none None = tt
 consumes_none (Some xs) = refl
 
-stands_first : (day : List (List ℕ)) (before : Option (List ℕ)) (session : Option Session) (kept : List ℕ) → session ≡ Some (new_session day) → kept ≡ [] → Stands day before before [] session kept
+stands_first : (day : List (List ℕ)) (before : Option (List ℕ)) (session : Option Session) (kept : List ℕ) → session ≡ start day → kept ≡ [] → Stands day before before [] session kept
 stands_first day before session kept is empty = record {
   lines = [];
   begun = [];
@@ -76,7 +76,7 @@ stands_first day before session kept is empty = record {
   kept_is = empty;
 }
 
-pub serves_first : (day : List (List ℕ)) (unread before : Option (List ℕ)) (session : Option Session) (kept : List ℕ) → session ≡ Some (new_session day) → kept ≡ [] → Serves day unread unread before before session kept most_command_bytes
+pub serves_first : (day : List (List ℕ)) (unread before : Option (List ℕ)) (session : Option Session) (kept : List ℕ) → session ≡ start day → kept ≡ [] → Serves day unread unread before before session kept most_command_bytes
 serves_first day unread before session kept is empty = record {
   commands = [];
   gave = consumes_none unread;
@@ -85,13 +85,13 @@ serves_first day unread before session kept is empty = record {
 }
 
 whole_first : (day : List (List ℕ)) (before : Option (List ℕ)) → AnswersWhole day before before []
-whole_first day before = whole_of day before before [] [] (Some (new_session day)) (stands_first day before (Some (new_session day)) [] refl refl)
+whole_first day before = whole_of day before before [] [] (start day) (stands_first day before (start day) [] refl refl)
 
 pub read_first : (day : List (List ℕ)) (unread before : Option (List ℕ)) (failed : Bool) → failed ≡ true → Fails day unread unread before before failed Read
 read_first day unread before failed fails = record {
   commands = [];
   gave = consumes_none unread;
-  halts = inl (given_of day before before [] [] (Some (new_session day)) failed (stands_first day before (Some (new_session day)) [] refl refl));
+  halts = inl (given_of day before before [] [] (start day) failed (stands_first day before (start day) [] refl refl));
   cause = inl fails;
 }
 

@@ -1,19 +1,15 @@
 -- What a debugging session reads, writes and answers. All is of this project.
-use Rattle.std.specs.Prelude.{◌≡◌, ◌≤◌, ◌<◌, ◌⊎◌, ℕ, ◌+◌, ◌^◌, Bool, false, IsTrue, List, [], ◌++◌, length, take, Option, Some, IfSome}
+use Rattle.std.specs.Prelude.{◌≡◌, ◌≤◌, ◌<◌, ◌⊎◌, ℕ, ◌+◌, ◌^◌, Bool, false, IsTrue, List, [], ◌++◌, length, take, Option, IfSome}
 use Rattle.std.specs.Io.KnownBytes.{Appends, Consumes}
 use Rattle.std.specs.List.{All, slice_split}
 use Rattle.itch_engine.specs.declared.fault.ProgFault.{ProgFault}
 use Rattle.itch_engine.specs.declared.fault.ProgFault.TheVariants.{Memory, Read, Write}
-use Rattle.debugger.specs.Sessions.{Session, new_session}
-use Rattle.itch_debug.specs.Sessions.{answers, is_line_feed, replies, session_after}
+use Rattle.debugger.specs.Sessions.{Session}
+use Rattle.itch_debug.specs.Sessions.{answers, is_line_feed, replies, session_after, start}
 
 -- the most bytes of commands that a session takes
 abbrev pub most_command_bytes : ℕ
 most_command_bytes = 2 ^ 30
-
--- a session of a day that begins
-abbrev pub start : List (List ℕ) → Option Session
-start day = Some (new_session day)
 
 -- These are the first lines of the commands, each of which a line feed has ended, and this is the rest,
 -- whatever follows.

@@ -24,7 +24,11 @@ session_after (line ∷ lines) session = session_after lines (reply_of session l
 abbrev pub is_line_feed : ℕ → Bool
 is_line_feed byte = byte == line_feed
 
+-- a session of a day that begins: of no stock two copies lie fewer than 1,000 of its messages apart
+abbrev pub start : List (List ℕ) → Option Session
+start day = Some (new_session day 1000)
+
 -- What is written for a text of commands on a day, line by line. A blank line answers nothing, so neither does what
 -- follows a line feed that ends the text.
 unfoldable pub answers : List (List ℕ) → List ℕ → List ℕ
-answers day commands = replies (slice_split is_line_feed commands) (Some (new_session day))
+answers day commands = replies (slice_split is_line_feed commands) (start day)

@@ -1,9 +1,10 @@
 //! The engine of a debugging session.
-ghost use Rattle.std.specs.Prelude.{◌≡◌, ◌≤◌, ◌<◌, ◌-◌, [], ℕ, List, Option, length, vec_len, false, None, Ok, IfErr, IfOk, IsErrOf, OnOk};
+ghost use Rattle.std.specs.Prelude.{◌≡◌, ◌≤◌, ◌<◌, ◌-◌, [], ℕ, List, Option, length, vec_len, false, None, Ok, Some, IfErr, IfOk, IsErrOf, OnOk};
 ghost use Rattle.std.specs.Io.KnownBytes.{IsAtEnd};
 ghost use Rattle.binaryfile.specs.Devices.{HasFailed};
 ghost use Rattle.itch_debug.specs.Going.{session_of};
 ghost use Rattle.itch_debug.specs.Runs.{Answers, Fails, Faults, Serves, ServesAll, most_command_bytes};
+ghost use Rattle.itch_debug.specs.Sessions.{start};
 
 use crate::console::Console;
 use binaryfile::{Day, Feed, Sink};
@@ -20,6 +21,13 @@ const EVERY: u32 = 1000;
 
 // The reader is asked for at most this number of bytes at once.
 const PIECE: usize = 1 << 13;
+
+// The debugger of a session that begins.
+fn begin<'d, A: Allocator + Copy>(alloc: A, day: &'d Day<A>) -> Result<Debugger<'d, A>, AllocError>
+    ensures { IfOk result (λ debugger. Some debugger ≡ start day.now.payloads) }
+{
+    Debugger::new(alloc, day, EVERY)
+}
 
 // Room for the bytes of one read.
 fn piece_room<A: Allocator>(alloc: A) -> Result<Vec<u8, A>, AllocError>
@@ -128,7 +136,7 @@ pub fn debug_run<A: Allocator + Copy, R: Read, W: Write>(
         return Err(ProgFault::Read);
     }
     let mut room = piece_room(alloc)?;
-    let debugger = Debugger::new(alloc, day, EVERY)?;
+    let debugger = begin(alloc, day)?;
     let mut console = Console::new(alloc, debugger);
     serve(alloc, &mut console, &mut room, commands, sink)?;
     console.finish(alloc, sink)

@@ -1,9 +1,9 @@
-use Rattle.std.proofs.Common.{◌≡◌, [], Some, true, false, rules}
+use Rattle.std.proofs.Common.{◌≡◌, [], true, false, rules}
 use Rattle.std.specs.Prelude.{IfErr}
-use Rattle.debugger.specs.Sessions.{new_session}
 use Rattle.itch_engine.specs.declared.fault.ProgFault.TheVariants.{Memory}
 use Rattle.itch_debug.specs.Going.{session_of}
 use Rattle.itch_debug.specs.Runs.{Faults}
+use Rattle.itch_debug.specs.Sessions.{start}
 use Rattle.itch_debug.proofs.Serving.{all_served, end_fails, faults_fail, memory_first, read_first, serves_first}
 use Rattle.itch_debug.proofs.run.debug_run.Goals as goal
 
@@ -38,7 +38,7 @@ returns-in_err-serve-clause-err g c =
     let s = g.R.Read.remaining c.serve.new.feed.device in
     let v = g.W.Write.contents c.serve.new.sink.device in
     let first = c.new-console.result in
-    let is : session_of first.next first.debugger ≡ Some (new_session day) = search rules in
+    let is : session_of first.next first.debugger ≡ start day = search rules in
     let empty : first.begun.items ≡ [] = search rules in
     let halted = c.serve.ensures.err day r w (serves_first day r w (session_of first.next first.debugger) first.begun.items is empty) in
     let part : IfErr c.from_residual-in_err-serve.result (Faults day r s w v c.serve.new.feed.failed) = search rules in
@@ -54,7 +54,7 @@ returns-clause-ok g c =
     let u = g.W.Write.contents c.finish.new.sink.device in
     let first = c.new-console.result in
     let then = c.serve.new.console in
-    let is : session_of first.next first.debugger ≡ Some (new_session day) = search rules in
+    let is : session_of first.next first.debugger ≡ start day = search rules in
     let empty : first.begun.items ≡ [] = search rules in
     let served = c.in_ok-serve.ensures.ok day r w (serves_first day r w (session_of first.next first.debugger) first.begun.items is empty) in
     all_served c.finish.result day r s w v u (session_of then.next then.debugger) then.begun.items served (c.finish.ensures.ok day w served.commands served.stands)
@@ -69,7 +69,7 @@ returns-clause-err g c =
     let u = g.W.Write.contents c.finish.new.sink.device in
     let first = c.new-console.result in
     let then = c.serve.new.console in
-    let is : session_of first.next first.debugger ≡ Some (new_session day) = search rules in
+    let is : session_of first.next first.debugger ≡ start day = search rules in
     let empty : first.begun.items ≡ [] = search rules in
     let served = c.in_ok-serve.ensures.ok day r w (serves_first day r w (session_of first.next first.debugger) first.begun.items is empty) in
     let working : c.serve.new.feed.failed ≡ false = search rules in
