@@ -1,12 +1,12 @@
 -- Which replies the searches have, and a breakpoint that is added.
-use Rattle.std.proofs.Common.{◌≡◌, ◌≢◌, inl, inr, ℕ, zero, suc, ◌+◌, ◌-◌, ◌<◌, ◌≤◌, ◌==◌, ◌++◌, ◌∷◌, [], List, Bool, true, false, length, Option, Some, None, refl, sym, ap, subst, ◌∙◌, arith, ne_eqb, filter, cond, append-nil, get_or, eqb-true, eq-eqb, length-append, lt-ltb, ltb, ◌&&◌}
+use Rattle.std.proofs.Common.{◌≡◌, ◌≢◌, ◌⊎◌, inl, inr, ℕ, zero, suc, ◌+◌, ◌-◌, ◌<◌, ◌≤◌, ◌==◌, ◌++◌, ◌∷◌, [], List, Bool, true, false, length, Option, Some, None, refl, sym, ap, subst, ◌∙◌, arith, ne_eqb, filter, cond, append-nil, get_or, eqb-true, eq-eqb, length-append, lt-ltb, ltb, ◌&&◌}
 use Rattle.std.specs.List.{position, position_or_len}
 use Rattle.std.proofs.lemmas.List.Sums.{fails_before_first}
 use Rattle.itch_table.specs.declared.order.Side.{Side}
 use Rattle.itch_table.specs.declared.order.Side.TheVariants.{Buy, Sell}
 use Rattle.itch_table.specs.Levels.{same_side}
 use Rattle.debugger.specs.declared.breakpoint.Break.TheVariants.{Price, Reference, Time}
-use Rattle.std.specs.Prelude.{Contains, slice_get, Result, Ok, Err, OnOk}
+use Rattle.std.specs.Prelude.{Contains, slice_get, Result, Ok, Err, OnErr, OnOk}
 use Rattle.std.proofs.Math.ListN.{get_or-append}
 use Rattle.std.specs.List.{range_with_len}
 use Rattle.std.proofs.lemmas.Bool.{cases_Bool, cases_lt, false≢true}
@@ -200,3 +200,8 @@ added s t b place at first there new = added_by s t b place (place_of s.breaks b
 pub replied : {A E : Type 0} (result : Result A E) (old new text : List ℕ) (reply : Reply) (t : Session) → (let other : Reply = record { text = text; next = Some t } in reply ≡ other) → OnOk result (new ≡ old ++ text) → OnOk result ((new ≡ old ++ reply.text) × (reply.next ≡ Some t))
 replied (Ok x) old new text reply t is added = (added ∙ ap (λ (r : Reply). old ++ r.text) (sym is), ap (λ (r : Reply). r.next) is)
 replied (Err e) old new text reply t is added = tt
+
+-- and the session is the one after the command, also where an error comes then
+pub came : {A E : Type 0} (result : Result A E) (old : Session) (text : List ℕ) (reply : Reply) (t : Session) → (let other : Reply = record { text = text; next = Some t } in reply ≡ other) → OnErr result ((t ≡ old) ⊎ (reply.next ≡ Some t))
+came (Ok x) old text reply t is = tt
+came (Err e) old text reply t is = inr (ap (λ (r : Reply). r.next) is)

@@ -1,5 +1,5 @@
 -- The answer of each command. The lines are of this project; each ends with a line feed, and its numbers are decimal.
-use Rattle.std.specs.Prelude.{◌≡◌, ℕ, ◌+◌, ◌-◌, ◌==◌, ◌&&◌, nat_le, Bool, false, if◌then◌else◌, zero, suc, List, [], ◌∷◌, ◌++◌, length, filter, position, codes, decimal, slice_get, Option, Some, None, Result, OnOk}
+use Rattle.std.specs.Prelude.{◌≡◌, ◌⊎◌, ℕ, ◌+◌, ◌-◌, ◌==◌, ◌&&◌, nat_le, Bool, false, if◌then◌else◌, zero, suc, List, [], ◌∷◌, ◌++◌, length, filter, position, codes, decimal, slice_get, Option, Some, None, Result, OnErr, OnOk}
 use Rattle.std.specs.declared.vec.Vec.{Vec}
 use Rattle.std.specs.List.{flat_map, range_with_len}
 use Rattle.itch_layouts.specs.declared.message.Directory.{Directory}
@@ -144,6 +144,10 @@ pub record Reply : Type 0 where
 -- the text follows what was there, and this session is the one after the command
 abbrev pub Replies : {A T E : Type 0} → Vec ℕ A → Vec ℕ A → Reply → Option Session → Result T E → Type 0
 Replies old new reply next result = OnOk result ((new.items ≡ old.items ++ reply.text) × (reply.next ≡ next))
+
+-- where memory was refused, the session is as it was or the one after the command
+abbrev pub IsBeforeOrAfter : {T E : Type 0} → Session → Reply → Session → Result T E → Type 0
+IsBeforeOrAfter old reply new result = OnErr result ((new ≡ old) ⊎ (reply.next ≡ Some new))
 
 -- a text alone
 abbrev pub says : Session → List ℕ → Reply

@@ -1,7 +1,7 @@
 //! The answers of commands.
 ghost use Rattle.std.specs.Prelude.{◌≡◌, ◌≢◌, ◌++◌, Some, None, OnOk, IfOk};
 ghost use Rattle.byte_strings.specs.Extending.{Extends};
-ghost use Rattle.itch_debug.specs.Answering.{Replies, add_reply, back_reply, goto_reply, onward_reply, rearward_reply, remove_reply, reply_or, reply_to, step_reply, stop_text};
+ghost use Rattle.itch_debug.specs.Answering.{IsBeforeOrAfter, Replies, add_reply, back_reply, goto_reply, onward_reply, rearward_reply, remove_reply, reply_or, reply_to, step_reply, stop_text};
 
 use crate::command::Command;
 use crate::lines::{
@@ -18,7 +18,8 @@ fn goto<A: Allocator + Copy>(
     debugger: &mut Debugger<'_, A>,
     n: u64,
 ) -> Result<(), AllocError>
-    ensures { Replies text.old text.new (goto_reply debugger.old n) (Some debugger.new) result }
+    ensures reply { Replies text.old text.new (goto_reply debugger.old n) (Some debugger.new) result }
+    ensures err { IsBeforeOrAfter debugger.old (goto_reply debugger.old n) debugger.new result }
 {
     if n > u64::from(debugger.last()) {
         return put_refusal(text, DebugFault::PastEnd);
@@ -35,7 +36,8 @@ fn step<A: Allocator + Copy>(
     text: &mut Vec<u8, A>,
     debugger: &mut Debugger<'_, A>,
 ) -> Result<(), AllocError>
-    ensures { Replies text.old text.new (step_reply debugger.old) (Some debugger.new) result }
+    ensures reply { Replies text.old text.new (step_reply debugger.old) (Some debugger.new) result }
+    ensures err { IsBeforeOrAfter debugger.old (step_reply debugger.old) debugger.new result }
 {
     match debugger.step(alloc) {
         Ok(()) => put_position_line(text, debugger),
@@ -49,7 +51,8 @@ fn back<A: Allocator + Copy>(
     text: &mut Vec<u8, A>,
     debugger: &mut Debugger<'_, A>,
 ) -> Result<(), AllocError>
-    ensures { Replies text.old text.new (back_reply debugger.old) (Some debugger.new) result }
+    ensures reply { Replies text.old text.new (back_reply debugger.old) (Some debugger.new) result }
+    ensures err { IsBeforeOrAfter debugger.old (back_reply debugger.old) debugger.new result }
 {
     match debugger.back(alloc) {
         Ok(()) => put_position_line(text, debugger),
@@ -77,7 +80,8 @@ fn onward<A: Allocator + Copy>(
     text: &mut Vec<u8, A>,
     debugger: &mut Debugger<'_, A>,
 ) -> Result<(), AllocError>
-    ensures { Replies text.old text.new (onward_reply debugger.old) (Some debugger.new) result }
+    ensures reply { Replies text.old text.new (onward_reply debugger.old) (Some debugger.new) result }
+    ensures err { IsBeforeOrAfter debugger.old (onward_reply debugger.old) debugger.new result }
 {
     match debugger.onward(alloc) {
         Ok(stop) => put_stop(text, debugger, stop),
@@ -91,7 +95,8 @@ fn rearward<A: Allocator + Copy>(
     text: &mut Vec<u8, A>,
     debugger: &mut Debugger<'_, A>,
 ) -> Result<(), AllocError>
-    ensures { Replies text.old text.new (rearward_reply debugger.old) (Some debugger.new) result }
+    ensures reply { Replies text.old text.new (rearward_reply debugger.old) (Some debugger.new) result }
+    ensures err { IsBeforeOrAfter debugger.old (rearward_reply debugger.old) debugger.new result }
 {
     match debugger.rearward(alloc) {
         Ok(stop) => put_stop(text, debugger, stop),
@@ -106,7 +111,8 @@ fn add_break<A: Allocator + Copy>(
     debugger: &mut Debugger<'_, A>,
     breakpoint: Break,
 ) -> Result<(), AllocError>
-    ensures { Replies text.old text.new (add_reply debugger.old breakpoint) (Some debugger.new) result }
+    ensures reply { Replies text.old text.new (add_reply debugger.old breakpoint) (Some debugger.new) result }
+    ensures err { IsBeforeOrAfter debugger.old (add_reply debugger.old breakpoint) debugger.new result }
 {
     let place = debugger.add_break(alloc, breakpoint)?;
     put_place(text, place)
@@ -118,7 +124,8 @@ fn remove_break<A: Allocator>(
     debugger: &mut Debugger<'_, A>,
     number: u64,
 ) -> Result<(), AllocError>
-    ensures { Replies text.old text.new (remove_reply debugger.old number) (Some debugger.new) result }
+    ensures reply { Replies text.old text.new (remove_reply debugger.old number) (Some debugger.new) result }
+    ensures err { IsBeforeOrAfter debugger.old (remove_reply debugger.old number) debugger.new result }
 {
     if number == 0 {
         return text.extend_from_slice(b"? no such break\n");
@@ -137,7 +144,8 @@ fn answer_command<A: Allocator + Copy>(
     command: Command,
 ) -> Result<(), AllocError>
     requires { command ≢ Command.Quit }
-    ensures { Replies text.old text.new (reply_to debugger.old command) (Some debugger.new) result }
+    ensures reply { Replies text.old text.new (reply_to debugger.old command) (Some debugger.new) result }
+    ensures err { IsBeforeOrAfter debugger.old (reply_to debugger.old command) debugger.new result }
 {
     match command {
         Command::Blank | Command::Quit => Ok(()),
@@ -155,7 +163,7 @@ fn answer_command<A: Allocator + Copy>(
 }
 
 /// Does what a line asks for, which is anything but to quit, and adds its answer. An error says that memory was
-/// refused; the debugger may have moved then.
+/// refused.
 pub(crate) fn answer<A: Allocator + Copy>(
     alloc: A,
     text: &mut Vec<u8, A>,
@@ -163,7 +171,8 @@ pub(crate) fn answer<A: Allocator + Copy>(
     command: Option<Command>,
 ) -> Result<(), AllocError>
     requires { command ≢ Some Command.Quit }
-    ensures { Replies text.old text.new (reply_or debugger.old command) (Some debugger.new) result }
+    ensures reply { Replies text.old text.new (reply_or debugger.old command) (Some debugger.new) result }
+    ensures err { IsBeforeOrAfter debugger.old (reply_or debugger.old command) debugger.new result }
 {
     match command {
         Some(command) => answer_command(alloc, text, debugger, command),

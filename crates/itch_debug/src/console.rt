@@ -6,7 +6,7 @@ ghost use Rattle.itch_debug.specs.Going.{session_of};
 ghost use Rattle.itch_debug.specs.Runs.{EndsEarly, Halts, Stands, Unfinished};
 ghost use Rattle.itch_debug.specs.Sessions.{answers, reply_of};
 
-use crate::session::{Next, answer_line};
+use crate::session::{Next, put_answer};
 use binaryfile::{Sink, send};
 use debugger::Debugger;
 use itch_engine::ProgFault;
@@ -61,7 +61,7 @@ impl<'d, A: Allocator + Copy> Console<'d, A> {
             return Ok(());
         }
         let mut text = Vec::new(alloc);
-        self.next = answer_line(alloc, &mut text, &mut self.debugger, &self.begun)?;
+        self.next = put_answer(alloc, &mut text, &mut self.debugger, &self.begun)?;
         send(sink, &text)?;
         Ok(())
     }
