@@ -28,9 +28,9 @@ has_by_symbol day locate (suc n) symbol within is =
     elim (symbol_until day locate n) as (λ (before : Option (List ℕ)). symbol_until day locate n ≡ before → HasMessage day locate) [
       | Some own ↦ λ e. has_by_symbol day locate n own (omega (arith, within)) e
       | None ↦ λ e. elim (cases_Bool (is_of_stock locate (get_or day n []))) [
-          | inl own ↦ has_next day locate n (omega (arith, within)) own
-          | inr other ↦ let never : ⊥ = grind (arith, common_steps, e, other, is) in absurd never
-        ]
+        | inl own ↦ has_next day locate n (omega (arith, within)) own
+        | inr other ↦ let never : ⊥ = grind (arith, common_steps, e, other, is) in absurd never
+      ]
     ] refl
 
 -- and where some of the first n messages are the stock's
@@ -67,13 +67,13 @@ pub named_has : (day : List (List ℕ)) (listed : List Listed) (name : StockName
     → AreListed day (length day) listed → locate_of listed name ≡ Some locate → HasMessage day locate
 named_has day listed (Locate code) locate are is = elim (slice_get_cases listed code).1 [
   | inl at ↦ elim (cases_Bool (nat_lt 0 at.0.messages)) [
-      | inl on ↦
-          let here : code ≡ locate = grind (arith, common_steps, at.2, on, is) in
-          let known : at.0 ≡ listed_until day (length day) code = sym at.3 ∙ are.each code at.0 (omega (arith, at.1, are.long)) in
-          let some : 0 < steps_of day code (length day) = omega (arith, ltb-true 0 at.0.messages on, ap (λ (l : Listed). l.messages) known) in
-          subst (HasMessage day) here (has_by_steps day code (length day) (omega arith) some)
-      | inr off ↦ let never : ⊥ = grind (arith, common_steps, at.2, off, is) in absurd never
-    ]
+    | inl on ↦
+        let here : code ≡ locate = grind (arith, common_steps, at.2, on, is) in
+        let known : at.0 ≡ listed_until day (length day) code = sym at.3 ∙ are.each code at.0 (omega (arith, at.1, are.long)) in
+        let some : 0 < steps_of day code (length day) = omega (arith, ltb-true 0 at.0.messages on, ap (λ (l : Listed). l.messages) known) in
+        subst (HasMessage day) here (has_by_steps day code (length day) (omega arith) some)
+    | inr off ↦ let never : ⊥ = grind (arith, common_steps, at.2, off, is) in absurd never
+  ]
   | inr none ↦ let never : ⊥ = grind (arith, common_steps, none.1, is) in absurd never
 ]
 named_has day listed (Symbol symbol) locate are is =
