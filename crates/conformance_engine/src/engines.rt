@@ -2,9 +2,11 @@
 use binaryfile::{Feed, Sink};
 use itch_engine::{ProgFault, asm_run, dis_between_run, dis_run, hex_run, replay_run};
 use itch_readings::{Selection, StockName, stocks_run, tops_run};
+use itch_watch::watch_run;
 use std::alloc::Allocator;
 use std::io::{Read, Write};
 use std::sync::Wait;
+use std::sync::atomic::AtomicU64;
 use std::thread::Threads;
 use stock_workers::FreeGate;
 use support::{DIGITS, FILE, REPORT, TEXT};
@@ -23,10 +25,12 @@ pub(crate) enum Engine {
     Stocks,
     /// The tops of the file's stock, by its symbol.
     Tops,
+    /// What a screen sees of the stock that has one message in the file of two stocks, and no directory message.
+    Watch,
 }
 
 /// All of them, where the replay has one worker.
-pub(crate) const ENGINES: [Engine; 7] = [
+pub(crate) const ENGINES: [Engine; 8] = [
     Engine::Replay,
     Engine::Digits,
     Engine::Disassembler,
@@ -34,6 +38,7 @@ pub(crate) const ENGINES: [Engine; 7] = [
     Engine::Assembler,
     Engine::Stocks,
     Engine::Tops,
+    Engine::Watch,
 ];
 
 // The bytes of examples/two-stocks.itch: two stocks with a bid each, and three deletes, two of which are refused.
@@ -68,6 +73,9 @@ const STOCKS: &[u8] = b"stock 1 \"AAPL\" messages 2\n";
 const TOPS: &[u8] = b"message,time,bid_price,bid_shares,ask_price,ask_shares\n\
       2,1,1010000,100,,\n";
 
+// What a screen sees of the stock that is deleted from without a directory message.
+const SEEN: &[u8] = b"at 6 bid none ask none\n";
+
 impl Engine {
     /// A file in the form that the engine reads.
     pub(crate) fn input(self) -> &'static [u8] {
@@ -77,7 +85,7 @@ impl Engine {
             | Engine::Between
             | Engine::Stocks
             | Engine::Tops => FILE,
-            Engine::TwoWorkers => TWO_STOCKS,
+            Engine::TwoWorkers | Engine::Watch => TWO_STOCKS,
             Engine::Digits => DIGITS,
             Engine::Assembler => TEXT,
         }
@@ -93,6 +101,7 @@ impl Engine {
             Engine::Assembler => FILE,
             Engine::Stocks => STOCKS,
             Engine::Tops => TOPS,
+            Engine::Watch => SEEN,
         }
     }
 
@@ -105,7 +114,8 @@ impl Engine {
             | Engine::Between
             | Engine::Assembler
             | Engine::Stocks
-            | Engine::Tops => Ok(0),
+            | Engine::Tops
+            | Engine::Watch => Ok(0),
         }
     }
 
@@ -132,6 +142,17 @@ impl Engine {
                 &mut sink,
                 StockName::Symbol(*b"AAPL    "),
                 Selection::Changes,
+            )
+            .map(|()| 0),
+            Engine::Watch => watch_run(
+                rt,
+                alloc,
+                &mut feed,
+                &mut sink,
+                StockName::Locate(3),
+                1,
+                &FreeGate,
+                &AtomicU64::new(0),
             )
             .map(|()| 0),
         }

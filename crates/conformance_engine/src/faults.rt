@@ -8,7 +8,7 @@ use std::thread::Threads;
 use support::{same, same_bytes};
 
 // An engine's input that it can't take, and the fault.
-const INPUTS: [(Engine, &[u8], ProgFault); 11] = [
+const INPUTS: [(Engine, &[u8], ProgFault); 12] = [
     (Engine::Digits, b"0", ProgFault::BadHex),
     (Engine::Digits, b"000", ProgFault::BadHex),
     (Engine::Digits, b"0g", ProgFault::BadHex),
@@ -17,6 +17,7 @@ const INPUTS: [(Engine, &[u8], ProgFault); 11] = [
     (Engine::Digits, b"00\r", ProgFault::BadHex),
     (Engine::Tops, b"", ProgFault::NoStock),
     (Engine::Tops, b"\x00\x01A", ProgFault::NoStock),
+    (Engine::Watch, b"\x00\x01A", ProgFault::NoStock),
     (
         Engine::Assembler,
         b"# a comment\nsistem",

@@ -8,3 +8,5 @@ mod engines;
 mod faults;
 #[cfg(test)]
 mod runs;
+#[cfg(test)]
+mod watching;

@@ -182,6 +182,7 @@ fn engines_send_nothing_without_memory(rt: HostRuntime) -> Result<(), Fail> {
         Engine::Assembler,
         Engine::Stocks,
         Engine::Tops,
+        Engine::Watch,
     ] {
         let growths = refuse_each(|refusal: Refusal| -> Result<Tried, Fail> {
             try_refusal(&rt, engine, refusal)

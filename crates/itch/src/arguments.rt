@@ -58,6 +58,12 @@ pub enum Task<'a> {
         stock: &'a str,
         selection: Selection,
     },
+    /// To replay a file, and write what a screen of one of its stocks sees meanwhile.
+    Watch {
+        file: &'a str,
+        stock: &'a str,
+        workers: u32,
+    },
     /// To make a file of a text.
     Assemble {
         text: &'a str,
@@ -81,9 +87,7 @@ fn workers<'a>(alloc: Global) -> Arg<'a> {
     Arg::new(alloc, "workers")
         .long("workers")
         .value_name("N")
-        .help(
-            "How many workers replay the day, from 1 to 64; the report is the same for each number",
-        )
+        .help("How many workers replay the day, from 1 to 64")
         .value_parser(value_parser!(u32).range(1..=64))
         .default_value("1")
 }
@@ -100,14 +104,14 @@ fn number<'a>(alloc: Global, name: &'a str, help: &'a str) -> Arg<'a> {
 // The arguments that replay a file.
 fn replay_command<'a>(alloc: Global) -> Result<Command<'a>, AllocError> {
     Command::new(alloc, "replay")
-        .about("Replays a day and prints its report")
+        .about("Replays a day and prints its report, which is the same for every number of workers")
         .arg(path(alloc, "FILE", DAY_HELP))?
         .arg(workers(alloc))?
         .arg(
             Arg::new(alloc, "progress")
                 .long("progress")
                 .action(ArgAction::SetTrue)
-                .help("Says on standard error each time that another million messages are done"),
+                .help("Says on standard error each time that workers come to another million messages"),
         )
 }
 
@@ -135,6 +139,15 @@ fn stocks_command<'a>(alloc: Global) -> Result<Command<'a>, AllocError> {
         .arg(path(alloc, "FILE", DAY_HELP))
 }
 
+// The stock that must be given.
+fn stock<'a>(alloc: Global) -> Arg<'a> {
+    path(
+        alloc,
+        "STOCK",
+        "A symbol, between quotes where it has digits alone, or a locate code in digits",
+    )
+}
+
 // The arguments that print a stock's best bid and ask.
 fn tops_command<'a>(alloc: Global) -> Result<Command<'a>, AllocError> {
     Command::new(alloc, "tops")
@@ -142,17 +155,24 @@ fn tops_command<'a>(alloc: Global) -> Result<Command<'a>, AllocError> {
             "Prints the best bid and ask of a stock wherever they change, as comma-separated lines",
         )
         .arg(path(alloc, "FILE", DAY_HELP))?
-        .arg(path(
-            alloc,
-            "STOCK",
-            "A symbol, between quotes where it has digits alone, or a locate code in digits",
-        ))?
+        .arg(stock(alloc))?
         .arg(
             Arg::new(alloc, "every")
                 .long("every")
                 .action(ArgAction::SetTrue)
                 .help("Prints them after each message of the stock"),
         )
+}
+
+// The arguments that print what a screen of a stock sees.
+fn watch_command<'a>(alloc: Global) -> Result<Command<'a>, AllocError> {
+    Command::new(alloc, "watch")
+        .about(
+            "Replays a day, and prints what a screen of a stock sees of its best bid and ask meanwhile",
+        )
+        .arg(path(alloc, "FILE", DAY_HELP))?
+        .arg(stock(alloc))?
+        .arg(workers(alloc))
 }
 
 // The arguments that make the file of a text.
@@ -190,6 +210,7 @@ fn itch_command<'a>(alloc: Global) -> Result<Command<'a>, AllocError> {
         .subcommand(dis_command(alloc)?)?
         .subcommand(stocks_command(alloc)?)?
         .subcommand(tops_command(alloc)?)?
+        .subcommand(watch_command(alloc)?)?
         .subcommand(asm_command(alloc)?)?
         .subcommand(debug_command(alloc)?)
 }
@@ -273,6 +294,17 @@ pub fn chosen_task<'a>(matches: &ArgMatches<'a>) -> Task<'a> {
             file,
             stock,
             selection,
+        };
+    }
+    if let Some(watch) = matches.subcommand_matches("watch")
+        && let Some(file) = watch.get_str("FILE")
+        && let Some(stock) = watch.get_str("STOCK")
+    {
+        let workers = watch.get_one("workers").unwrap_or(1);
+        return Task::Watch {
+            file,
+            stock,
+            workers,
         };
     }
     if let Some(asm) = matches.subcommand_matches("asm")

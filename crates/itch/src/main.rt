@@ -12,11 +12,13 @@ use itch_debug::debug_run;
 use itch_engine::limits::{MOST_FILE_BYTES, MOST_MESSAGES};
 use itch_engine::{ProgFault, asm_run, dis_between_run, dis_run, hex_run, replay_run, status};
 use itch_readings::{Selection, stocks_run, tops_run};
+use itch_watch::watch_run;
 use output::Created;
 use progress::Progress;
 use std::process::ExitCode;
 use std::rt::Runtime;
 use std::sync::Wait;
+use std::sync::atomic::AtomicU64;
 use std::thread::Threads;
 use std::{env, fs, io};
 use stock_workers::{FreeGate, Gate};
@@ -119,6 +121,35 @@ fn print_tops<R: Runtime + AllocGlobal>(
     Ok(0)
 }
 
+// Replays a file, and writes what a screen of one of its stocks sees meanwhile on standard output. The arguments give no
+// number of workers but from 1 to 64.
+fn watch<R: Runtime + AllocGlobal + Threads + Wait + Sync>(
+    rt: &R,
+    path: &str,
+    stock: &str,
+    workers: u32,
+) -> Result<u32, ProgFault> {
+    let Some(name) = arguments::stock_name(stock) else {
+        return Err(ProgFault::NoStock);
+    };
+    let Ok(file) = fs::open(rt, path) else {
+        return Err(ProgFault::Read);
+    };
+    let mut feed = Feed::new(file);
+    let mut sink = Sink::new(io::writer(rt));
+    watch_run(
+        rt,
+        rt.alloc(),
+        &mut feed,
+        &mut sink,
+        name,
+        workers.clamp(1, MOST_WORKERS),
+        &FreeGate,
+        &AtomicU64::new(0),
+    )?;
+    Ok(0)
+}
+
 // Makes the file that a text denotes. Where the text is faulty, the path of the output is not touched.
 fn assemble<R: Runtime + AllocGlobal>(rt: &R, text: &str, out: &str) -> Result<u32, ProgFault> {
     let Ok(file) = fs::open(rt, text) else {
@@ -197,6 +228,11 @@ fn run<R: Runtime + AllocGlobal + Threads + Wait + Sync>(rt: &R, arguments: &[St
             stock,
             selection,
         } => end(rt, print_tops(rt, file, stock, selection)),
+        Task::Watch {
+            file,
+            stock,
+            workers,
+        } => end(rt, watch(rt, file, stock, workers)),
         Task::Assemble { text, out } => end(rt, assemble(rt, text, out)),
         Task::Debug { file } => end(rt, debug(rt, file)),
         Task::ReplayDigits => end(rt, replay_digits(rt)),

@@ -1,5 +1,5 @@
 //! Callers of the libraries, each a page to copy from: the messages of one kind, a report to a writer of one's own, and a
-//! screen beside a replay.
+//! display beside a replay.
 //!
 //! They stand on the libraries' public contracts alone. What each promises of its result is in its own contract, in the
 //! libraries' words.
@@ -11,4 +11,4 @@ mod watching;
 
 pub use kinds::messages_of_kind;
 pub use lines::{LineCounter, report_lines};
-pub use watching::{Counter, watch, watch_first_stock};
+pub use watching::{Counter, next_frame};

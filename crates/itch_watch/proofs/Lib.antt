@@ -1,0 +1,4 @@
+mod Rising
+mod Quiet
+mod Seen
+mod Ends

@@ -1,0 +1,31 @@
+-- What the engine of a screen makes of an input, and the faults that it finds in one.
+use Rattle.std.specs.Prelude.{◌≡◌, ◌⊎◌, ◌^◌, ℕ, List, Some}
+use Rattle.binaryfile.specs.Entries.{Contents}
+use Rattle.itch_engine.specs.ReplayEngines.{HasTooManyMessages}
+use Rattle.itch_engine.specs.Runs.{Engine}
+use Rattle.itch_readings.specs.Engines.{HasStocks, LacksStock}
+use Rattle.itch_readings.specs.Naming.{locate_of}
+use Rattle.itch_readings.specs.declared.naming.Listed.{Listed}
+use Rattle.itch_readings.specs.declared.naming.StockName.{StockName}
+use Rattle.top_cell.specs.declared.reading.Reading.{Reading}
+use Rattle.itch_watch.specs.Lines.{reading_lines}
+use Rattle.itch_watch.specs.Watching.{AreSeenToTheEnd}
+
+-- The file has the stock that is named, and the text is what a screen has seen of it to the end of the day.
+pub record PrintsSeen (name : StockName) (input text : List ℕ) : Type 0 where
+  pub contents : Contents
+  pub listed : List Listed
+  pub stocks : HasStocks input contents listed
+  pub locate : ℕ
+  pub named : locate_of listed name ≡ Some locate
+  pub readings : List Reading
+  pub seen : AreSeenToTheEnd contents.payloads locate readings
+  pub printed : text ≡ reading_lines readings
+
+-- the engine that reads a day file, replays it, and writes what a screen of one of its stocks sees meanwhile
+abbrev pub watcher : StockName → Engine (Unit {0})
+watcher name = record {
+  most = 2 ^ 40;
+  Makes = λ input output _. PrintsSeen name input output;
+  Finds = λ input fault. HasTooManyMessages input fault ⊎ LacksStock name input fault;
+}

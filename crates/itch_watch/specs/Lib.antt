@@ -1,0 +1,3 @@
+pub mod Watching
+pub mod Lines
+pub mod Engines

@@ -1,0 +1,78 @@
+//! The engine that reads a day file, replays it, and writes what a screen of one of its stocks sees meanwhile.
+ghost use Rattle.std.specs.Prelude.{◌≡◌, ◌≤◌, IfOk, IfErr};
+ghost use Rattle.itch_engine.specs.Runs.{Fails, Runs};
+ghost use Rattle.itch_watch.specs.Engines.{PrintsSeen, watcher};
+
+use crate::lines::put_readings;
+use crate::watching::watch_stock;
+use binaryfile::{Day, Feed, Sink, read_to_end, send};
+use itch_engine::ProgFault;
+use itch_engine::limits::{MOST_FILE_BYTES, MOST_MESSAGES};
+use itch_readings::{StockName, list_stocks, locate_of, named_stocks_have_messages};
+use std::alloc::Allocator;
+use std::io::{Read, Write};
+use std::sync::Wait;
+use std::sync::atomic::AtomicU64;
+use std::thread::Threads;
+use stock_workers::Gate;
+
+// The lines of what a screen sees of a file's stock.
+fn seen_of_file<R: Threads + Wait + Sync, A: Allocator + Copy + Send + Sync, G: Gate>(
+    rt: &R,
+    alloc: A,
+    input: Vec<u8, A>,
+    name: StockName,
+    workers: u32,
+    gate: &G,
+    seen: &AtomicU64,
+) -> Result<Vec<u8, A>, ProgFault>
+    requires { (1 ≤ workers) × (workers ≤ 64) }
+    ensures text { IfOk result (λ text. PrintsSeen name input.items text.items) }
+    ensures fault { IfErr result (Fails (watcher name) input.items) }
+{
+    // A law that the proof cites: it does nothing.
+    named_stocks_have_messages();
+    let day = Day::from_bytes(alloc, input, MOST_MESSAGES)?;
+    let listed = list_stocks(alloc, &day)?;
+    let Some(locate) = locate_of(&listed, name) else {
+        return Err(ProgFault::NoStock);
+    };
+    let readings = watch_stock(rt, alloc, &day, locate, workers, gate, seen)?;
+    let mut text = Vec::new(alloc);
+    put_readings(&mut text, &readings)?;
+    Ok(text)
+}
+
+/// Reads a day file, replays it by 1 to 64 workers, and writes what a screen of one of its stocks sees meanwhile: a line for
+/// each reading, which is the stock's best bid and ask after the message that it names. The numbers of the messages rise, and
+/// the last is the stock's last. How many lines there are between depends on how the threads run; [`itch_readings::tops_run`]
+/// writes all of them. Prices are in 1/10,000 of a currency unit.
+///
+/// The screen has a thread of its own beside those of the workers; each of these calls the gate before each message, and may
+/// wait there. The number of the message that the screen has seen last is stored in `seen`.
+/// [`ProgFault::NoStock`] comes where the day has no message of the stock; other faults are those of
+/// [`itch_engine::replay_run`]. The form is of this project.
+pub fn watch_run<
+    T: Threads + Wait + Sync,
+    A: Allocator + Copy + Send + Sync,
+    R: Read,
+    W: Write,
+    G: Gate,
+>(
+    rt: &T,
+    alloc: A,
+    feed: &mut Feed<R>,
+    sink: &mut Sink<W>,
+    name: StockName,
+    workers: u32,
+    gate: &G,
+    seen: &AtomicU64,
+) -> Result<(), ProgFault>
+    requires { (1 ≤ workers) × (workers ≤ 64) }
+    ensures { Runs (watcher name) R.remaining W.contents feed.old feed.new sink.old sink.new result }
+{
+    let input = read_to_end(alloc, feed, MOST_FILE_BYTES)?;
+    let text = seen_of_file(rt, alloc, input, name, workers, gate, seen)?;
+    send(sink, &text)?;
+    Ok(())
+}

@@ -1,0 +1,13 @@
+//! A screen of one stock, which looks at its best bid and ask while workers replay the day.
+//!
+//! [`watch_stock`] gives what the screen has seen, and [`watch_run`] writes it: the engine reads a day file, and meets the
+//! contract of the engines of `itch_engine`, `Runs`. What a screen sees depends on how the threads run; that each reading is
+//! the stock's top after its message, that their numbers rise and that the last is the stock's last doesn't.
+#![tactic(auto)]
+
+mod engine;
+mod lines;
+mod watching;
+
+pub use engine::watch_run;
+pub use watching::{watch, watch_stock};

@@ -1,0 +1,196 @@
+//! A screen of one stock, beside the workers that replay its day.
+ghost use Rattle.std.specs.Prelude.{◌≡◌, ◌<◌, ◌≤◌, ℕ, List, All, IfOk, length, map, slice_index};
+ghost use Rattle.std.specs.List.{Contains};
+ghost use Rattle.day_core.specs.Owners.{last_message};
+ghost use Rattle.itch_table.specs.Projection.{IsQuiet};
+ghost use Rattle.itch_table.specs.Shows.{HasMessage, locates_of_day};
+ghost use Rattle.byte_strings.specs.Bytes.{AreBytes};
+ghost use Rattle.stock_workers.specs.Running.{at_last};
+ghost use Rattle.top_cell.specs.Boards.{AreNew, IsOn};
+ghost use Rattle.itch_watch.specs.Watching.{AreSeen, AreSeenToTheEnd, IsReading, IsScreenOf};
+
+use binaryfile::Day;
+use itch_table::one_row_of_words;
+use std::alloc::{AllocError, Allocator};
+use std::sync::Wait;
+use std::sync::atomic::{AtomicU64, Ordering};
+use std::thread::{Threads, join, yield_now};
+use stock_workers::{Gate, Replayed, RunFault, run};
+use top_cell::{Board, Reading, Screen, TopWriter};
+
+// How often a glance tries to read a cell before other threads get their turn.
+const TRIES: u32 = 4;
+
+/// What a screen sees from where it stands until `ended` isn't 0: a reading for each glance that shows a later message than
+/// the one before. The number of that message is stored in `seen`. The caller hands the screen's own board.
+///
+/// It returns only once `ended` isn't 0. An error says that memory was refused.
+pub fn watch<R: Wait, A: Allocator + Copy>(
+    rt: &R,
+    alloc: A,
+    board: &Board<'_, A>,
+    mut screen: Screen,
+    seen: &AtomicU64,
+    ended: &AtomicU64,
+) -> Result<Vec<Reading, A>, AllocError>
+    requires { IsOn board.now screen.place }
+    ensures { IfOk result (λ readings.
+        AreSeen screen.place.day screen.place.locate readings.items) }
+{
+    let mut readings = Vec::new(alloc);
+    let mut last = 0;
+    for _ in rt.forever() {
+        if ended.load(Ordering::SeqCst) != 0 {
+            return Ok(readings);
+        }
+        if let Ok(reading) = screen.glance(board, TRIES)
+            && reading.message > last
+        {
+            last = reading.message;
+            readings.push(reading)?;
+            seen.store(u64::from(last), Ordering::SeqCst);
+        }
+        yield_now();
+    }
+    unreachable!()
+}
+
+// The index of the writer of a stock.
+fn index_of(writers: &[TopWriter], locate: u16) -> usize
+    requires { Contains (map (λ w. w.place.locate) writers.now) locate }
+    ensures within { result < length writers.now }
+    ensures own { slice_index (map (λ w. w.place.locate) writers.now) result ≡ locate }
+{
+    for (index, writer) in writers.iter().enumerate() {
+        if writer.locate() == locate {
+            return index;
+        }
+    }
+    unreachable!()
+}
+
+// A screen of a stock, and the index of the stock's writer.
+fn screen_of<A: Allocator>(
+    board: &Board<'_, A>,
+    writers: &mut Vec<TopWriter, A>,
+    locate: u16,
+) -> (usize, Screen)
+    requires on { All (λ w. IsOn board.now w.place) writers.old.items }
+    requires stock { Contains (map (λ w. w.place.locate) writers.old.items) locate }
+    ensures same { writers.new.items ≡ writers.old.items }
+    ensures own { IsScreenOf board.now writers.old.items locate result.0 result.1.place }
+{
+    let index = index_of(writers, locate);
+    (index, writers[index].screen(board))
+}
+
+// The reading of a stock's last message, at which its writer stands.
+fn last_reading<R: Wait, A: Allocator>(
+    rt: &R,
+    board: &Board<'_, A>,
+    writer: &mut TopWriter,
+) -> Reading
+    requires own { IsOn board.now writer.old.place }
+    requires quiet { IsQuiet writer.old.place.day writer.old.place.locate writer.old.message
+        (length writer.old.place.day) }
+    ensures shows { IsReading writer.old.place.day writer.old.place.locate result }
+    ensures message { result.message ≡ writer.old.message }
+{
+    // A law that the proof cites: it does nothing.
+    one_row_of_words();
+    let message = writer.message();
+    let reading = writer.screen(board).read(rt, board);
+    Reading { message, ..reading }
+}
+
+// What the screen has seen, with the last message instead of any reading from it on: the screen may have come to it, or not.
+fn to_the_end<A: Allocator>(
+    readings: Vec<Reading, A>,
+    last: Reading,
+) -> Result<Vec<Reading, A>, AllocError>
+    requires some { 0 < last.message }
+    ensures { IfOk result (λ all. (day : List (List ℕ)) (locate : ℕ) → AreSeen day locate readings.items
+        → IsReading day locate last → last.message ≡ last_message day locate
+        → AreSeenToTheEnd day locate all.items) }
+{
+    let mut readings = readings;
+    readings.retain(|reading: &Reading| -> bool { reading.message < last.message });
+    readings.push(last)?;
+    Ok(readings)
+}
+
+// What a screen sees while workers replay the day, and what they make of it. The screen has a thread of its own; where none
+// can be made, it looks once they are through.
+fn look_and_replay<R: Threads + Wait + Sync, A: Allocator + Copy + Send + Sync, G: Gate>(
+    rt: &R,
+    alloc: A,
+    day: &Day<A>,
+    board: &Board<'_, A>,
+    screen: Screen,
+    writers: Vec<TopWriter, A>,
+    workers: u32,
+    gate: &G,
+    seen: &AtomicU64,
+    ended: &AtomicU64,
+) -> (
+    Result<Vec<Reading, A>, AllocError>,
+    Result<Replayed<A>, RunFault>,
+)
+    requires workers { (1 ≤ workers) × (workers ≤ 64) }
+    requires screen { IsOn board.now screen.place }
+    requires new { AreNew day.now.payloads (locates_of_day day.now.payloads) board.now writers.items }
+    ensures seen { IfOk result.0 (λ readings.
+        AreSeen screen.place.day screen.place.locate readings.items) }
+    ensures ends { IfOk result.1 (λ made.
+        made.writers.items ≡ map (at_last day.now.payloads) writers.items) }
+{
+    let look = move || -> Result<Vec<Reading, A>, AllocError>
+        requires { IsOn board.now screen.place }
+        ensures { IfOk result (λ readings.
+            AreSeen screen.place.day screen.place.locate readings.items) }
+    { watch(rt, alloc, board, screen, seen, ended) };
+    let replay = || -> Result<Replayed<A>, RunFault>
+        requires { (1 ≤ workers) × (workers ≤ 64)
+            × AreNew day.now.payloads (locates_of_day day.now.payloads) board.now writers.items }
+        ensures { IfOk result (λ made.
+            made.writers.items ≡ map (at_last day.entry.now.payloads) writers.items) }
+    {
+        let replayed = run(rt, alloc, day, board, writers, workers, gate);
+        ended.store(1, Ordering::SeqCst);
+        replayed
+    };
+    join(rt, look, replay)
+}
+
+/// Replays a day by 1 to 64 workers, while a screen looks at one of its stocks in a thread of its own, and gives what the
+/// screen has seen, to the stock's last message. The number of the message that the screen has seen last is stored in `seen`
+/// meanwhile, for whoever asks how far it is: a gate, or a display.
+///
+/// The stock has a message in the day. Where no thread can be made, the screen sees the last message alone. An error says that
+/// memory was refused. It may wait at the gate, and for its threads. All is of this project.
+pub fn watch_stock<R: Threads + Wait + Sync, A: Allocator + Copy + Send + Sync, G: Gate>(
+    rt: &R,
+    alloc: A,
+    day: &Day<A>,
+    locate: u16,
+    workers: u32,
+    gate: &G,
+    seen: &AtomicU64,
+) -> Result<Vec<Reading, A>, AllocError>
+    requires workers { (1 ≤ workers) × (workers ≤ 64) }
+    requires bytes { All AreBytes day.now.payloads }
+    requires stock { HasMessage day.now.payloads locate }
+    ensures { IfOk result (λ readings. AreSeenToTheEnd day.now.payloads locate readings.items) }
+{
+    let (board, mut writers) = Board::new(&alloc, day)?;
+    let (index, screen) = screen_of(&board, &mut writers, locate);
+    let ended = AtomicU64::new(0);
+    let (readings, replayed) = look_and_replay(
+        rt, alloc, day, &board, screen, writers, workers, gate, seen, &ended,
+    );
+    let Ok(mut replayed) = replayed else {
+        return Err(AllocError);
+    };
+    let last = last_reading(rt, &board, &mut replayed.writers[index]);
+    to_the_end(readings?, last)
+}
