@@ -111,7 +111,9 @@ fn replay_command<'a>(alloc: Global) -> Result<Command<'a>, AllocError> {
             Arg::new(alloc, "progress")
                 .long("progress")
                 .action(ArgAction::SetTrue)
-                .help("Says on standard error each time that workers come to another million messages"),
+                .help(
+                    "Says on standard error each time that workers come to another million messages",
+                ),
         )
 }
 

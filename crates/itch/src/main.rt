@@ -4,6 +4,7 @@
 mod arguments;
 mod output;
 mod progress;
+mod prompt;
 
 use arguments::Task;
 use binaryfile::{Day, Feed, Limits, Sink};
@@ -15,12 +16,14 @@ use itch_readings::{Selection, stocks_run, tops_run};
 use itch_watch::watch_run;
 use output::Created;
 use progress::Progress;
+use prompt::Prompting;
+use std::io::{self, IsTerminal};
 use std::process::ExitCode;
 use std::rt::Runtime;
 use std::sync::Wait;
 use std::sync::atomic::AtomicU64;
 use std::thread::Threads;
-use std::{env, fs, io};
+use std::{env, fs};
 use stock_workers::{FreeGate, Gate};
 
 /// The status for invalid arguments.
@@ -164,8 +167,12 @@ fn assemble<R: Runtime + AllocGlobal>(rt: &R, text: &str, out: &str) -> Result<u
     }
 }
 
-// Answers the commands of standard input about a file, on standard output.
-fn debug<R: Runtime + AllocGlobal>(rt: &R, path: &str) -> Result<u32, ProgFault> {
+// Answers the commands of standard input about a file, on standard output. At a terminal each line is asked for.
+fn debug<R: Runtime + AllocGlobal>(
+    rt: &R,
+    path: &str,
+    at_terminal: bool,
+) -> Result<u32, ProgFault> {
     let Ok(file) = fs::open(rt, path) else {
         return Err(ProgFault::Read);
     };
@@ -174,9 +181,13 @@ fn debug<R: Runtime + AllocGlobal>(rt: &R, path: &str) -> Result<u32, ProgFault>
         messages: MOST_MESSAGES,
     };
     let day = Day::load(rt.alloc(), &mut Feed::new(file), limits)?;
-    let mut commands = Feed::new(rt.reader());
     let mut sink = Sink::new(io::writer(rt));
-    debug_run(rt.alloc(), &day, &mut commands, &mut sink)?;
+    if at_terminal {
+        let mut commands = Feed::new(Prompting::new(rt, rt.reader()));
+        debug_run(rt.alloc(), &day, &mut commands, &mut sink)?;
+    } else {
+        debug_run(rt.alloc(), &day, &mut Feed::new(rt.reader()), &mut sink)?;
+    }
     Ok(0)
 }
 
@@ -200,8 +211,12 @@ fn explain<R: Runtime>(rt: &R, error: &clap::Error) -> ExitCode {
     }
 }
 
-// Does what the arguments ask for.
-fn run<R: Runtime + AllocGlobal + Threads + Wait + Sync>(rt: &R, arguments: &[String]) -> ExitCode {
+// Does what the arguments ask for. Whether standard input and standard error are terminals is known to the caller.
+fn run<R: Runtime + AllocGlobal + Threads + Wait + Sync>(
+    rt: &R,
+    arguments: &[String],
+    at_terminal: bool,
+) -> ExitCode {
     let matches = match arguments::parse(rt.alloc(), arguments) {
         Ok(matches) => matches,
         Err(error) => return explain(rt, &error),
@@ -234,7 +249,7 @@ fn run<R: Runtime + AllocGlobal + Threads + Wait + Sync>(rt: &R, arguments: &[St
             workers,
         } => end(rt, watch(rt, file, stock, workers)),
         Task::Assemble { text, out } => end(rt, assemble(rt, text, out)),
-        Task::Debug { file } => end(rt, debug(rt, file)),
+        Task::Debug { file } => end(rt, debug(rt, file, at_terminal)),
         Task::ReplayDigits => end(rt, replay_digits(rt)),
     }
 }
@@ -260,8 +275,9 @@ fn main(rt: HostRuntime) -> ExitCode {
         Ok(arguments) => arguments,
         Err(error) => return refuse_arguments(&rt, error),
     };
+    let at_terminal = rt.stdin().is_terminal() && rt.stderr().is_terminal();
     match arguments.collect::<Vec<String>>(rt.alloc()) {
-        Ok(arguments) => run(&rt, &arguments),
+        Ok(arguments) => run(&rt, &arguments, at_terminal),
         Err(_) => end(&rt, Err(ProgFault::Memory)),
     }
 }
