@@ -1,5 +1,5 @@
 //! What a program that runs a day beside its replay may look like: a gate that counts, and a display.
-ghost use Rattle.std.specs.Prelude.{◌≡◌, ◌+◌, ◌≤◌};
+ghost use Rattle.std.specs.Prelude.{◌≡◌, ◌+◌, ◌≤◌, All, IfSome};
 ghost use Rattle.top_cell.specs.Boards.{IsOn};
 ghost use Rattle.itch_watch.specs.Watching.{IsReading};
 
@@ -58,8 +58,6 @@ pub fn next_frame<A: Allocator>(
 
 #[cfg(test)]
 mod tests {
-    ghost use Rattle.std.specs.Prelude.{All, IfSome};
-
     use super::*;
     use binaryfile::Day;
     use itch_text::assemble;
@@ -101,7 +99,12 @@ mod tests {
         run(&rt, alloc, &day, &board, writers, 2, &gate)?;
         let frame = next_frame(&board, &mut screen, first);
         assert_eq!(rt;
-            (first.message, frame.message, frame.bid_price, gate.messages()),
+            (
+                first.message,
+                frame.message,
+                frame.bid_price,
+                gate.messages()
+            ),
             (0, 3, 1_010_000, 3)
         );
         Ok(())
