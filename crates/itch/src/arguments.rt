@@ -261,17 +261,51 @@ pub fn stock_name(word: &str) -> Option<StockName> {
     Some(StockName::Symbol(symbol_of(symbol)?))
 }
 
+// To replay a file, where the arguments ask for it.
+fn replaying<'a>(matches: &ArgMatches<'a>) -> Option<Task<'a>> {
+    let replay = matches.subcommand_matches("replay")?;
+    Some(Task::Replay {
+        file: replay.get_str("FILE")?,
+        workers: replay.get_one("workers").unwrap_or(1),
+        progress: replay.get_flag("progress"),
+    })
+}
+
+// To write the best bid and ask of a stock, where the arguments ask for it.
+fn printing_tops<'a>(matches: &ArgMatches<'a>) -> Option<Task<'a>> {
+    let tops = matches.subcommand_matches("tops")?;
+    let selection = if tops.get_flag("every") {
+        Selection::Every
+    } else {
+        Selection::Changes
+    };
+    Some(Task::Tops {
+        file: tops.get_str("FILE")?,
+        stock: tops.get_str("STOCK")?,
+        selection,
+    })
+}
+
+// To write what a screen of a stock sees, where the arguments ask for it.
+fn watching<'a>(matches: &ArgMatches<'a>) -> Option<Task<'a>> {
+    let watch = matches.subcommand_matches("watch")?;
+    Some(Task::Watch {
+        file: watch.get_str("FILE")?,
+        stock: watch.get_str("STOCK")?,
+        workers: watch.get_one("workers").unwrap_or(1),
+    })
+}
+
 /// What the arguments ask for.
 pub fn chosen_task<'a>(matches: &ArgMatches<'a>) -> Task<'a> {
-    if let Some(replay) = matches.subcommand_matches("replay")
-        && let Some(file) = replay.get_str("FILE")
-    {
-        let workers = replay.get_one("workers").unwrap_or(1);
-        return Task::Replay {
-            file,
-            workers,
-            progress: replay.get_flag("progress"),
-        };
+    if let Some(task) = replaying(matches) {
+        return task;
+    }
+    if let Some(task) = printing_tops(matches) {
+        return task;
+    }
+    if let Some(task) = watching(matches) {
+        return task;
     }
     if let Some(dis) = matches.subcommand_matches("dis")
         && let Some(file) = dis.get_str("FILE")
@@ -282,32 +316,6 @@ pub fn chosen_task<'a>(matches: &ArgMatches<'a>) -> Task<'a> {
         && let Some(file) = stocks.get_str("FILE")
     {
         return Task::Stocks { file };
-    }
-    if let Some(tops) = matches.subcommand_matches("tops")
-        && let Some(file) = tops.get_str("FILE")
-        && let Some(stock) = tops.get_str("STOCK")
-    {
-        let selection = if tops.get_flag("every") {
-            Selection::Every
-        } else {
-            Selection::Changes
-        };
-        return Task::Tops {
-            file,
-            stock,
-            selection,
-        };
-    }
-    if let Some(watch) = matches.subcommand_matches("watch")
-        && let Some(file) = watch.get_str("FILE")
-        && let Some(stock) = watch.get_str("STOCK")
-    {
-        let workers = watch.get_one("workers").unwrap_or(1);
-        return Task::Watch {
-            file,
-            stock,
-            workers,
-        };
     }
     if let Some(asm) = matches.subcommand_matches("asm")
         && let Some(text) = asm.get_str("TEXT")

@@ -24,7 +24,7 @@ use std::sync::Wait;
 use std::sync::atomic::AtomicU64;
 use std::thread::Threads;
 use std::{env, fs};
-use stock_workers::{FreeGate, Gate};
+use stock_workers::FreeGate;
 
 /// The status for invalid arguments.
 const MISUSE: u8 = 2;
@@ -46,25 +46,24 @@ fn end(rt: &impl Eprint, answer: Result<u32, ProgFault>) -> ExitCode {
 
 // Replays a file by this many workers, and writes its report on standard output. The arguments give no number but from
 // 1 to 64.
-fn replay<R: Runtime + AllocGlobal + Threads + Wait + Sync, G: Gate>(
+fn replay<R: Runtime + AllocGlobal + Threads + Wait + Sync>(
     rt: &R,
     path: &str,
     workers: u32,
-    gate: &G,
+    progress: bool,
 ) -> Result<u32, ProgFault> {
     let Ok(file) = fs::open(rt, path) else {
         return Err(ProgFault::Read);
     };
     let mut feed = Feed::new(file);
     let mut sink = Sink::new(io::writer(rt));
-    replay_run(
-        rt,
-        rt.alloc(),
-        &mut feed,
-        &mut sink,
-        workers.clamp(1, MOST_WORKERS),
-        gate,
-    )
+    let workers = workers.clamp(1, MOST_WORKERS);
+    if progress {
+        let gate = Progress::new(rt);
+        replay_run(rt, rt.alloc(), &mut feed, &mut sink, workers, &gate)
+    } else {
+        replay_run(rt, rt.alloc(), &mut feed, &mut sink, workers, &FreeGate)
+    }
 }
 
 // Writes the text of a file on standard output.
@@ -225,11 +224,8 @@ fn run<R: Runtime + AllocGlobal + Threads + Wait + Sync>(
         Task::Replay {
             file,
             workers,
-            progress: false,
-        } => end(rt, replay(rt, file, workers, &FreeGate)),
-        Task::Replay { file, workers, .. } => {
-            end(rt, replay(rt, file, workers, &Progress::new(rt)))
-        }
+            progress,
+        } => end(rt, replay(rt, file, workers, progress)),
         Task::Disassemble { file } => end(rt, disassemble(rt, file)),
         Task::DisassembleBetween { first, last, .. } if last < first => {
             refuse(rt, "--to is before --from")

@@ -43,13 +43,15 @@ fn seen_of_file<R: Threads + Wait + Sync, A: Allocator + Copy + Send + Sync, G: 
     Ok(text)
 }
 
-/// Reads a day file, replays it by 1 to 64 workers, and writes what a screen of one of its stocks sees meanwhile: a line for
-/// each reading, which is the stock's best bid and ask after the message that it names. The numbers of the messages rise, and
-/// the last is the stock's last. How many lines there are between depends on how the threads run; [`itch_readings::tops_run`]
-/// writes all of them. Prices are in 1/10,000 of a currency unit.
+/// Reads a day file, replays it by 1 to 64 workers, and writes what a screen of one of its stocks sees meanwhile: a line
+/// for each reading, which is the stock's best bid and ask after the message that it names. The numbers of the messages
+/// rise, and the last is that of the stock's last message, which is read after the run. How many lines come before it
+/// depends on how the threads run; [`itch_readings::tops_run`] writes one for every message. Prices are in 1/10,000 of a
+/// currency unit.
 ///
-/// The screen has a thread of its own beside those of the workers; each of these calls the gate before each message, and may
-/// wait there. The number of the message that the screen has seen last is stored in `seen`.
+/// The screen has a thread of its own beside those of the workers; each worker calls the gate before each of its
+/// messages, and may wait there. What `seen` is for, and what such a gate has to heed, is said at
+/// [`crate::watch_stock`].
 /// [`ProgFault::NoStock`] comes where the day has no message of the stock; other faults are those of
 /// [`itch_engine::replay_run`]. The form is of this project.
 pub fn watch_run<

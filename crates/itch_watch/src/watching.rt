@@ -21,10 +21,11 @@ use top_cell::{Board, Reading, Screen, TopWriter};
 // How often a glance tries to read a cell before other threads get their turn.
 const TRIES: u32 = 4;
 
-/// What a screen sees from where it stands until `ended` isn't 0: a reading for each glance that shows a later message than
-/// the one before. The number of that message is stored in `seen`. The caller hands the screen's own board.
+/// What a screen sees until `ended` isn't 0: a reading for each glance that shows a later message than those before. The
+/// number of that message is stored in `seen`. The caller hands the screen's own board.
 ///
-/// It returns only once `ended` isn't 0. An error says that memory was refused.
+/// An error says that memory was refused, and comes at once. Else it returns only once `ended` isn't 0, which it looks
+/// at before each glance.
 pub fn watch<R: Wait, A: Allocator + Copy>(
     rt: &R,
     alloc: A,
@@ -103,7 +104,8 @@ fn last_reading<R: Wait, A: Allocator>(
     Reading { message, ..reading }
 }
 
-// What the screen has seen, with the last message instead of any reading from it on: the screen may have come to it, or not.
+// What the screen has seen, with the last message in place of any reading from it on: the screen may have come to it, or
+// not.
 fn to_the_end<A: Allocator>(
     readings: Vec<Reading, A>,
     last: Reading,
@@ -119,8 +121,8 @@ fn to_the_end<A: Allocator>(
     Ok(readings)
 }
 
-// What a screen sees while workers replay the day, and what they make of it. The screen has a thread of its own; where none
-// can be made, it looks once they are through.
+// What a screen sees while workers replay the day, and what they make of it. The screen has a thread of its own; where
+// none can be made, it sees nothing.
 fn look_and_replay<R: Threads + Wait + Sync, A: Allocator + Copy + Send + Sync, G: Gate>(
     rt: &R,
     alloc: A,
@@ -141,8 +143,7 @@ fn look_and_replay<R: Threads + Wait + Sync, A: Allocator + Copy + Send + Sync, 
     requires new { AreNew day.now.payloads (locates_of_day day.now.payloads) board.now writers.items }
     ensures seen { IfOk result.0 (λ readings.
         AreSeen screen.place.day screen.place.locate readings.items) }
-    ensures ends { IfOk result.1 (λ made.
-        made.writers.items ≡ map (at_last day.now.payloads) writers.items) }
+    ensures ends { IfOk result.1 (λ made. made.writers.items ≡ map (at_last day.now.payloads) writers.items) }
 {
     let look = move || -> Result<Vec<Reading, A>, AllocError>
         requires { IsOn board.now screen.place }
@@ -163,11 +164,15 @@ fn look_and_replay<R: Threads + Wait + Sync, A: Allocator + Copy + Send + Sync, 
 }
 
 /// Replays a day by 1 to 64 workers, while a screen looks at one of its stocks in a thread of its own, and gives what the
-/// screen has seen, to the stock's last message. The number of the message that the screen has seen last is stored in `seen`
-/// meanwhile, for whoever asks how far it is: a gate, or a display.
+/// screen has seen, to the stock's last message. Prices are in 1/10,000 of a currency unit. The stock has a message in
+/// the day.
 ///
-/// The stock has a message in the day. Where no thread can be made, the screen sees the last message alone. An error says that
-/// memory was refused. It may wait at the gate, and for its threads. All is of this project.
+/// The number of the message that the screen has seen last is stored in `seen` while the workers run, for whoever asks
+/// how far it is: a gate, or a display. A gate that waits for it has to give up after a while, since the screen may pass
+/// over messages, and sees none where it has no thread or was refused memory. The last message is read after the run,
+/// and isn't stored.
+///
+/// An error says that memory was refused. It may wait at the gate, and for its threads. All is of this project.
 pub fn watch_stock<R: Threads + Wait + Sync, A: Allocator + Copy + Send + Sync, G: Gate>(
     rt: &R,
     alloc: A,
