@@ -21,7 +21,7 @@ struct Following<'a> {
 impl Gate for Following<'_> {
     fn at<R: Threads + Wait + Sync>(&self, _rt: &R, _worker: u32, message: u32) {
         for _ in 0..LOOKS {
-            if self.seen.load(Ordering::SeqCst) + 1 >= u64::from(message) {
+            if self.seen.load(Ordering::SeqCst) >= u64::from(message.saturating_sub(1)) {
                 return;
             }
             yield_now();
