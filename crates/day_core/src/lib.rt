@@ -24,5 +24,5 @@ pub use parts::Parts;
 pub use playing::{Event, Seen, play};
 pub use replaying::replay_parts;
 pub use runner::{Runner, Turned};
-pub use splitting::{SplitFault, split};
+pub use splitting::{SplitFault, parts_of, split};
 pub use turns::Turns;

@@ -104,8 +104,8 @@ fn deal<A: Allocator + Copy>(
     Ok(event)
 }
 
-// The parts of a day for some workers.
-fn parts_of<R: Threads + Sync, A: Allocator + Copy + Send + Sync>(
+/// Splits a day as [`split`] does, for a number of workers that is from 1 to 64. An error says that memory was refused.
+pub fn parts_of<R: Threads + Sync, A: Allocator + Copy + Send + Sync>(
     rt: &R,
     alloc: A,
     day: &Day<A>,

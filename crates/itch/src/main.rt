@@ -44,6 +44,14 @@ fn end(rt: &impl Eprint, answer: Result<u32, ProgFault>) -> ExitCode {
     ExitCode::from(status(&answer))
 }
 
+// A file, to be read from its start.
+fn open<R: Runtime>(rt: &R, path: &str) -> Result<Feed<R::File>, ProgFault> {
+    match fs::open(rt, path) {
+        Ok(file) => Ok(Feed::new(file)),
+        Err(_) => Err(ProgFault::Read),
+    }
+}
+
 // Replays a file by this many workers, and writes its report on standard output. The arguments give no number but from
 // 1 to 64.
 fn replay<R: Runtime + AllocGlobal + Threads + Wait + Sync>(
@@ -52,10 +60,7 @@ fn replay<R: Runtime + AllocGlobal + Threads + Wait + Sync>(
     workers: u32,
     progress: bool,
 ) -> Result<u32, ProgFault> {
-    let Ok(file) = fs::open(rt, path) else {
-        return Err(ProgFault::Read);
-    };
-    let mut feed = Feed::new(file);
+    let mut feed = open(rt, path)?;
     let mut sink = Sink::new(io::writer(rt));
     let workers = workers.clamp(1, MOST_WORKERS);
     if progress {
@@ -68,10 +73,7 @@ fn replay<R: Runtime + AllocGlobal + Threads + Wait + Sync>(
 
 // Writes the text of a file on standard output.
 fn disassemble<R: Runtime + AllocGlobal>(rt: &R, path: &str) -> Result<u32, ProgFault> {
-    let Ok(file) = fs::open(rt, path) else {
-        return Err(ProgFault::Read);
-    };
-    let mut feed = Feed::new(file);
+    let mut feed = open(rt, path)?;
     let mut sink = Sink::new(io::writer(rt));
     dis_run(rt.alloc(), &mut feed, &mut sink)?;
     Ok(0)
@@ -84,10 +86,7 @@ fn disassemble_between<R: Runtime + AllocGlobal>(
     first: u32,
     last: u32,
 ) -> Result<u32, ProgFault> {
-    let Ok(file) = fs::open(rt, path) else {
-        return Err(ProgFault::Read);
-    };
-    let mut feed = Feed::new(file);
+    let mut feed = open(rt, path)?;
     let mut sink = Sink::new(io::writer(rt));
     dis_between_run(rt.alloc(), &mut feed, &mut sink, first, last)?;
     Ok(0)
@@ -95,10 +94,7 @@ fn disassemble_between<R: Runtime + AllocGlobal>(
 
 // Lists a file's stocks on standard output.
 fn list_stocks<R: Runtime + AllocGlobal>(rt: &R, path: &str) -> Result<u32, ProgFault> {
-    let Ok(file) = fs::open(rt, path) else {
-        return Err(ProgFault::Read);
-    };
-    let mut feed = Feed::new(file);
+    let mut feed = open(rt, path)?;
     let mut sink = Sink::new(io::writer(rt));
     stocks_run(rt.alloc(), &mut feed, &mut sink)?;
     Ok(0)
@@ -114,10 +110,7 @@ fn print_tops<R: Runtime + AllocGlobal>(
     let Some(name) = arguments::stock_name(stock) else {
         return Err(ProgFault::NoStock);
     };
-    let Ok(file) = fs::open(rt, path) else {
-        return Err(ProgFault::Read);
-    };
-    let mut feed = Feed::new(file);
+    let mut feed = open(rt, path)?;
     let mut sink = Sink::new(io::writer(rt));
     tops_run(rt.alloc(), &mut feed, &mut sink, name, selection)?;
     Ok(0)
@@ -134,10 +127,7 @@ fn watch<R: Runtime + AllocGlobal + Threads + Wait + Sync>(
     let Some(name) = arguments::stock_name(stock) else {
         return Err(ProgFault::NoStock);
     };
-    let Ok(file) = fs::open(rt, path) else {
-        return Err(ProgFault::Read);
-    };
-    let mut feed = Feed::new(file);
+    let mut feed = open(rt, path)?;
     let mut sink = Sink::new(io::writer(rt));
     watch_run(
         rt,
@@ -154,10 +144,7 @@ fn watch<R: Runtime + AllocGlobal + Threads + Wait + Sync>(
 
 // Makes the file that a text denotes. Where the text is faulty, the path of the output is not touched.
 fn assemble<R: Runtime + AllocGlobal>(rt: &R, text: &str, out: &str) -> Result<u32, ProgFault> {
-    let Ok(file) = fs::open(rt, text) else {
-        return Err(ProgFault::Read);
-    };
-    let mut feed = Feed::new(file);
+    let mut feed = open(rt, text)?;
     let mut created = Created::new(rt, out);
     asm_run(rt.alloc(), &mut feed, &mut Sink::new(&mut created))?;
     match created.make() {
@@ -172,14 +159,11 @@ fn debug<R: Runtime + AllocGlobal>(
     path: &str,
     at_terminal: bool,
 ) -> Result<u32, ProgFault> {
-    let Ok(file) = fs::open(rt, path) else {
-        return Err(ProgFault::Read);
-    };
     let limits = Limits {
         bytes: MOST_FILE_BYTES,
         messages: MOST_MESSAGES,
     };
-    let day = Day::load(rt.alloc(), &mut Feed::new(file), limits)?;
+    let day = Day::load(rt.alloc(), &mut open(rt, path)?, limits)?;
     let mut sink = Sink::new(io::writer(rt));
     if at_terminal {
         let mut commands = Feed::new(Prompting::new(rt, rt.reader()));

@@ -1,6 +1,6 @@
 -- A day file that is given in hexadecimal digits of either case, two a byte. Spaces and line feeds may stand anywhere,
 -- also between the two digits of a byte. It is of this project.
-use Rattle.std.specs.Prelude.{◌≡◌, ℕ, ◌==◌, ◌%◌, ◌&&◌, ◌||◌, not, Bool, List, filter, length, Option}
+use Rattle.std.specs.Prelude.{ℕ, ◌==◌, ◌%◌, ◌&&◌, ◌||◌, not, Bool, List, filter, length, Option}
 use Rattle.std.specs.Result.{result_ok}
 use Rattle.std.specs.List.{list_all}
 use Rattle.hex.specs.Hex.{decode_of, is_hex_digit}

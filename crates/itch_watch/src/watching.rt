@@ -10,12 +10,13 @@ ghost use Rattle.top_cell.specs.Boards.{AreNew, IsOn};
 ghost use Rattle.itch_watch.specs.Watching.{AreSeen, AreSeenToTheEnd, IsReading, IsScreenOf};
 
 use binaryfile::Day;
+use day_core::{Parts, parts_of};
 use itch_table::one_row_of_words;
 use std::alloc::{AllocError, Allocator};
 use std::sync::Wait;
 use std::sync::atomic::{AtomicU64, Ordering};
 use std::thread::{Threads, join, yield_now};
-use stock_workers::{Gate, Replayed, RunFault, run};
+use stock_workers::{Gate, Replayed, run_parts};
 use top_cell::{Board, Reading, Screen, TopWriter};
 
 // How often a glance tries to read a cell before other threads get their turn.
@@ -127,18 +128,18 @@ fn look_and_replay<R: Threads + Wait + Sync, A: Allocator + Copy + Send + Sync, 
     rt: &R,
     alloc: A,
     day: &Day<A>,
+    parts: &Parts<A>,
     board: &Board<'_, A>,
     screen: Screen,
     writers: Vec<TopWriter, A>,
-    workers: u32,
     gate: &G,
     seen: &AtomicU64,
     ended: &AtomicU64,
 ) -> (
     Result<Vec<Reading, A>, AllocError>,
-    Result<Replayed<A>, RunFault>,
+    Result<Replayed<A>, AllocError>,
 )
-    requires workers { (1 ≤ workers) × (workers ≤ 64) }
+    requires day { day.now.payloads ≡ parts.now.day }
     requires screen { IsOn board.now screen.place }
     requires new { AreNew day.now.payloads (locates_of_day day.now.payloads) board.now writers.items }
     ensures seen { IfOk result.0 (λ readings.
@@ -150,17 +151,43 @@ fn look_and_replay<R: Threads + Wait + Sync, A: Allocator + Copy + Send + Sync, 
         ensures { IfOk result (λ readings.
             AreSeen screen.place.day screen.place.locate readings.items) }
     { watch(rt, alloc, board, screen, seen, ended) };
-    let replay = || -> Result<Replayed<A>, RunFault>
-        requires { (1 ≤ workers) × (workers ≤ 64)
+    let replay = || -> Result<Replayed<A>, AllocError>
+        requires { (day.now.payloads ≡ parts.now.day)
             × AreNew day.now.payloads (locates_of_day day.now.payloads) board.now writers.items }
         ensures { IfOk result (λ made.
             made.writers.items ≡ map (at_last day.entry.now.payloads) writers.items) }
     {
-        let replayed = run(rt, alloc, day, board, writers, workers, gate);
+        let replayed = run_parts(rt, alloc, parts, day, board, writers, gate);
         ended.store(1, Ordering::SeqCst);
         replayed
     };
     join(rt, look, replay)
+}
+
+// Replays a day that is split, while a screen looks at one of its stocks, as `watch_stock` does.
+fn watch_parts<R: Threads + Wait + Sync, A: Allocator + Copy + Send + Sync, G: Gate>(
+    rt: &R,
+    alloc: A,
+    day: &Day<A>,
+    parts: &Parts<A>,
+    locate: u16,
+    gate: &G,
+    seen: &AtomicU64,
+) -> Result<Vec<Reading, A>, AllocError>
+    requires day { day.now.payloads ≡ parts.now.day }
+    requires bytes { All AreBytes day.now.payloads }
+    requires stock { HasMessage day.now.payloads locate }
+    ensures { IfOk result (λ readings. AreSeenToTheEnd day.now.payloads locate readings.items) }
+{
+    let (board, mut writers) = Board::of_stocks(&alloc, day, parts.locates())?;
+    let (index, screen) = screen_of(&board, &mut writers, locate);
+    let ended = AtomicU64::new(0);
+    let (readings, replayed) = look_and_replay(
+        rt, alloc, day, parts, &board, screen, writers, gate, seen, &ended,
+    );
+    let mut replayed = replayed?;
+    let last = last_reading(rt, &board, &mut replayed.writers[index]);
+    to_the_end(readings?, last)
 }
 
 /// Replays a day by 1 to 64 workers, while a screen looks at one of its stocks in a thread of its own, and gives what the
@@ -187,15 +214,6 @@ pub fn watch_stock<R: Threads + Wait + Sync, A: Allocator + Copy + Send + Sync, 
     requires stock { HasMessage day.now.payloads locate }
     ensures { IfOk result (λ readings. AreSeenToTheEnd day.now.payloads locate readings.items) }
 {
-    let (board, mut writers) = Board::new(&alloc, day)?;
-    let (index, screen) = screen_of(&board, &mut writers, locate);
-    let ended = AtomicU64::new(0);
-    let (readings, replayed) = look_and_replay(
-        rt, alloc, day, &board, screen, writers, workers, gate, seen, &ended,
-    );
-    let Ok(mut replayed) = replayed else {
-        return Err(AllocError);
-    };
-    let last = last_reading(rt, &board, &mut replayed.writers[index]);
-    to_the_end(readings?, last)
+    let parts = parts_of(rt, alloc, day, workers)?;
+    watch_parts(rt, alloc, day, &parts, locate, gate, seen)
 }

@@ -7,5 +7,5 @@ mod running;
 mod worker;
 
 pub use gate::{FreeGate, Gate};
-pub use running::{Replayed, RunFault, run};
+pub use running::{Replayed, RunFault, run, run_parts};
 pub use worker::Worker;

@@ -121,8 +121,9 @@ fn gather<A: Allocator + Copy>(
     })
 }
 
-// A day that is split, replayed by all of its workers.
-fn run_parts<R: Threads + Wait + Sync, A: Allocator + Copy + Send + Sync, G: Gate>(
+/// The same as [`run`], of a day that is split already: the caller hands its parts, one for each worker. An error says
+/// that memory was refused.
+pub fn run_parts<R: Threads + Wait + Sync, A: Allocator + Copy + Send + Sync, G: Gate>(
     rt: &R,
     alloc: A,
     parts: &Parts<A>,

@@ -89,9 +89,25 @@ impl<'a, A: Allocator + Copy> Board<'a, A> {
             AreNew day.now.payloads (locates_of_day day.now.payloads) made.0 made.1.items) }
     {
         let locates = locates(*alloc, day)?;
+        Board::of_stocks(alloc, day, &locates)
+    }
+
+    /// The same, where the caller hands the locate codes of the stocks that have messages in the day, rising, as
+    /// [`Parts::locates`] has them, so that the day isn't walked.
+    ///
+    /// [`Parts::locates`]: day_core::Parts::locates
+    pub fn of_stocks(
+        alloc: &'a A,
+        day: &Day<A>,
+        locates: &[u16],
+    ) -> Result<(Board<'a, A>, Vec<TopWriter, A>), AllocError>
+        requires { locates.now ≡ locates_of_day day.now.payloads }
+        ensures { IfOk result (λ made.
+            AreNew day.now.payloads (locates_of_day day.now.payloads) made.0 made.1.items) }
+    {
         let mut cells = Vec::with_capacity(*alloc, locates.len())?;
         let mut writers = Vec::with_capacity(*alloc, locates.len())?;
-        for locate in &locates {
+        for locate in locates {
             let (cell, writer) = new_cell(alloc, day, *locate, cells.len())?;
             cells.push(cell)?;
             writers.push(writer)?;

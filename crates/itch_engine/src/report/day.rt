@@ -9,12 +9,13 @@ ghost use Rattle.itch_engine.specs.Report.{machine_lines, report_of_file, refuse
 use crate::report::messages::{count_refused, put_refused_lines, put_summary};
 use crate::report::stock::put_stock;
 use binaryfile::Day;
+use day_core::{Parts, parts_of};
 use itch_table::Side;
 use std::alloc::{AllocError, Allocator};
 use std::sync::Wait;
 use std::thread::Threads;
 use stock_machine::Stock;
-use stock_workers::{Gate, Replayed, RunFault, run};
+use stock_workers::{Gate, Replayed, run_parts};
 use top_cell::Board;
 
 /// The report of a day, and how many of its messages were refused.
@@ -24,24 +25,20 @@ pub(crate) struct Report<A: Allocator> {
     pub refused: u32,
 }
 
-// A day, replayed by this many workers in threads, on a board of its own.
+// A day that is split, replayed by its workers in threads, on a board of its own.
 fn replay<R: Threads + Wait + Sync, A: Allocator + Copy + Send + Sync, G: Gate>(
     rt: &R,
     alloc: A,
     day: &Day<A>,
-    workers: u32,
+    parts: &Parts<A>,
     gate: &G,
 ) -> Result<Replayed<A>, AllocError>
-    requires { (1 ≤ workers) × (workers ≤ 64) }
+    requires { day.now.payloads ≡ parts.now.day }
     ensures { IfOk result (λ replayed. IsReplayed day.now.payloads
         replayed.outcomes.items replayed.stocks.items replayed.event) }
 {
-    let (board, writers) = Board::new(&alloc, day)?;
-    match run(rt, alloc, day, &board, writers, workers, gate) {
-        Ok(replayed) => Ok(replayed),
-        Err(RunFault::Memory) => Err(AllocError),
-        Err(RunFault::Workers) => unreachable!(),
-    }
+    let (board, writers) = Board::of_stocks(&alloc, day, parts.locates())?;
+    run_parts(rt, alloc, parts, day, &board, writers, gate)
 }
 
 // Adds the lines of a stock.
@@ -119,7 +116,8 @@ pub(crate) fn report_of_day<R: Threads + Wait + Sync, A: Allocator + Copy + Send
     ensures text { IfOk result (λ found. found.text.items ≡ report_of_file day.now) }
     ensures refused { IfOk result (λ found. found.refused ≡ refused_count day.now.payloads) }
 {
-    let replayed = replay(rt, alloc, day, workers, gate)?;
+    let parts = parts_of(rt, alloc, day, workers)?;
+    let replayed = replay(rt, alloc, day, &parts, gate)?;
     let text = report_text(alloc, day, &replayed)?;
     let refused = count_refused(&replayed.outcomes) as u32;
     Ok(Report { text, refused })

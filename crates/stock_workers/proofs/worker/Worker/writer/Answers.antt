@@ -2,7 +2,7 @@ use Rattle.std.proofs.Common.{◌≡◌, ◌<◌, ℕ, List, length, map, get_or
 use Rattle.std.specs.List.{Contains}
 use Rattle.std.proofs.lemmas.List.{get_or-map, length-map}
 use Rattle.day_core.specs.Workers.{worker_locates}
-use Rattle.top_cell.specs.Boards.{Place, WriterAt}
+use Rattle.top_cell.specs.Boards.{WriterAt}
 use Rattle.stock_workers.specs.Working.{Working, stands, writer_state}
 use Rattle.stock_workers.proofs.Writing.{stands_at}
 use Rattle.stock_workers.proofs.worker.Worker.writer.Goals as goal

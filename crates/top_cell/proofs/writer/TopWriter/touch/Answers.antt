@@ -1,4 +1,4 @@
-use Rattle.std.proofs.Common.{◌≡◌, sym, ap, subst, ◌∙◌, arith}
+use Rattle.std.proofs.Common.{sym, ap, subst, ◌∙◌, arith}
 use Rattle.top_cell.specs.Boards.{WriterAt, IsOn}
 use Rattle.top_cell.proofs.Places.{same_table, within}
 use Rattle.top_cell.proofs.writer.TopWriter.touch.Goals as goal

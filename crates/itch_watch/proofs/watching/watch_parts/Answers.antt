@@ -9,7 +9,7 @@ use Rattle.day_core.specs.Owners.{last_message}
 use Rattle.itch_watch.specs.Watching.{AreSeen, AreSeenToTheEnd, IsReading}
 use Rattle.itch_watch.proofs.Ends.{ends, quiet_at, screens_day}
 use Rattle.itch_watch.proofs.Quiet.{some_last}
-use Rattle.itch_watch.proofs.watching.watch_stock.Goals as goal
+use Rattle.itch_watch.proofs.watching.watch_parts.Goals as goal
 
 pub screen_of-index-requires-clause-stock : goal.screen_of-index-requires-clause-stock
 screen_of-index-requires-clause-stock g c =
@@ -18,27 +18,27 @@ screen_of-index-requires-clause-stock g c =
 
 pub index_mut-requires : goal.index_mut-requires
 index_mut-requires g c =
-    let all = IfOk-at_ok (λ m. m.writers.items ≡ map (at_last c.args.day.now.payloads) c.screen_of-index.new.writers.items) c.in-Ok.is c.look_and_replay-readings.ensures.ends in
+    let all = IfOk-at_ok (λ m. m.writers.items ≡ map (at_last c.args.day.now.payloads) c.screen_of-index.new.writers.items) c.in_ok-replayed.was c.look_and_replay-readings.ensures.ends in
     omega (
       arith,
       c.screen_of-index.ensures.own.within,
       ap length c.screen_of-index.ensures.same,
       ap length all,
       length-map c.screen_of-index.new.writers.items (at_last c.args.day.now.payloads),
-      c.in-Ok.replayed.writers.ok.0,
+      c.in_ok-replayed.replayed.writers.ok.0,
     )
 
 pub last_reading-last-requires-clause-own : goal.last_reading-last-requires-clause-own
 last_reading-last-requires-clause-own g c =
     let day = c.args.day.now.payloads in
-    let all = IfOk-at_ok (λ m. m.writers.items ≡ map (at_last day) c.screen_of-index.new.writers.items) c.in-Ok.is c.look_and_replay-readings.ensures.ends in
+    let all = IfOk-at_ok (λ m. m.writers.items ≡ map (at_last day) c.screen_of-index.new.writers.items) c.in_ok-replayed.was c.look_and_replay-readings.ensures.ends in
     (ends day (locates_of_day day) c.in_ok-board.board c.in_ok-board.writers.items _ _ c.args.locate c.screen_of-index.result.0 _ c.index_mut.result.now
     c.in_ok-board.ensures c.screen_of-index.ensures.own c.screen_of-index.ensures.same all c.index_mut.ensures.value).on
 
 pub last_reading-last-requires-clause-quiet : goal.last_reading-last-requires-clause-quiet
 last_reading-last-requires-clause-quiet g c =
     let day = c.args.day.now.payloads in
-    let all = IfOk-at_ok (λ m. m.writers.items ≡ map (at_last day) c.screen_of-index.new.writers.items) c.in-Ok.is c.look_and_replay-readings.ensures.ends in
+    let all = IfOk-at_ok (λ m. m.writers.items ≡ map (at_last day) c.screen_of-index.new.writers.items) c.in_ok-replayed.was c.look_and_replay-readings.ensures.ends in
     quiet_at day c.in_ok-board.board c.args.locate c.index_mut.result.now
     (ends day (locates_of_day day) c.in_ok-board.board c.in_ok-board.writers.items _ _ c.args.locate c.screen_of-index.result.0 _ c.index_mut.result.now
     c.in_ok-board.ensures c.screen_of-index.ensures.own c.screen_of-index.ensures.same all c.index_mut.ensures.value)
@@ -46,7 +46,7 @@ last_reading-last-requires-clause-quiet g c =
 pub to_the_end-requires : goal.to_the_end-requires
 to_the_end-requires g c =
     let day = c.args.day.now.payloads in
-    let all = IfOk-at_ok (λ m. m.writers.items ≡ map (at_last day) c.screen_of-index.new.writers.items) c.in-Ok.is c.look_and_replay-readings.ensures.ends in
+    let all = IfOk-at_ok (λ m. m.writers.items ≡ map (at_last day) c.screen_of-index.new.writers.items) c.in_ok-replayed.was c.look_and_replay-readings.ensures.ends in
     let end = ends day (locates_of_day day) c.in_ok-board.board c.in_ok-board.writers.items _ _ c.args.locate c.screen_of-index.result.0 _ c.index_mut.result.now
     c.in_ok-board.ensures c.screen_of-index.ensures.own c.screen_of-index.ensures.same all c.index_mut.ensures.value in
     record { some = omega (arith, some_last day c.args.locate c.requires.stock, end.message_is, c.last_reading-last.ensures.message) }
@@ -55,7 +55,7 @@ pub returns : goal.returns
 returns g c =
     let day = c.args.day.now.payloads in
     let screen = c.screen_of-index.ensures.own in
-    let all = IfOk-at_ok (λ m. m.writers.items ≡ map (at_last day) c.screen_of-index.new.writers.items) c.in-Ok.is c.look_and_replay-readings.ensures.ends in
+    let all = IfOk-at_ok (λ m. m.writers.items ≡ map (at_last day) c.screen_of-index.new.writers.items) c.in_ok-replayed.was c.look_and_replay-readings.ensures.ends in
     let end = ends day (locates_of_day day) c.in_ok-board.board c.in_ok-board.writers.items _ _ c.args.locate c.screen_of-index.result.0 _ c.index_mut.result.now
     c.in_ok-board.ensures screen c.screen_of-index.ensures.same all c.index_mut.ensures.value in
     let own = c.screen_of-index.result.1.place in

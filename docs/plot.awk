@@ -1,0 +1,35 @@
+# Draws the lines of `itch tops` as a picture (SVG) that any browser shows: the best bid in green and the best ask in red,
+# message by message from left to right, each price as a step that lasts until the next line.
+BEGIN { FS = "," }
+NR > 1 {
+    if (NR == 2)
+        first = $1
+    last = $1
+    step("bid", $3)
+    step("ask", $5)
+}
+END {
+    printf "<svg xmlns=\"http://www.w3.org/2000/svg\" viewBox=\"%d %d %d %d\" preserveAspectRatio=\"none\" fill=\"none\">\n",
+        first, top, last + 1 - first, bottom + 1 - top
+    draw("bid", "green")
+    draw("ask", "red")
+    print "</svg>"
+}
+# Goes on with a side's line, which stops where the side is empty.
+function step(side, price) {
+    if (price == "") {
+        if (open[side])
+            path[side] = path[side] "H" $1
+        open[side] = 0
+        return
+    }
+    path[side] = path[side] (open[side] ? "H" $1 "V" : "M" $1 " ") (-price)
+    open[side] = 1
+    top = top == "" || -price < top ? -price : top
+    bottom = bottom == "" || -price > bottom ? -price : bottom
+}
+function draw(side, colour) {
+    if (open[side])
+        path[side] = path[side] "H" (last + 1)
+    printf "<path stroke=\"%s\" vector-effect=\"non-scaling-stroke\" d=\"%s\"/>\n", colour, path[side]
+}
