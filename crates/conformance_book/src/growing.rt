@@ -262,3 +262,24 @@ fn shares_and_orders_go_without_memory(rt: HostRuntime) -> Result<(), Fail> {
         &(6, 5, None, 2, 0),
     )
 }
+
+// A list that kept all of the orders that have gone would grow from a few rows to 10,000, and to do so by doubling takes
+// more growths than are allowed here.
+#[test]
+fn orders_that_have_gone_take_no_more_memory(rt: HostRuntime) -> Result<(), Fail> {
+    let heap = Refusing::new(rt.alloc(), Refusal::Never);
+    let mut book = Book::new(&heap);
+    for number in 1..=10_000u32 {
+        let reference = u64::from(number);
+        make_all(
+            &mut book,
+            &[bid(reference, 10, number), Call::Remove(reference)],
+        )?;
+    }
+    let growths = heap.asked();
+    same(
+        "the count, and whether there are few growths",
+        &(book.count(), growths > 0, growths < 8),
+        &(0, true, true),
+    )
+}
