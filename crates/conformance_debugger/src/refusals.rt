@@ -129,17 +129,32 @@ fn a_refused_call_leaves_the_debugger(rt: HostRuntime) -> Result<(), Fail> {
     Ok(())
 }
 
+// Makes a debugger of the tour under a refusal. One that is made stands at 0, and shows the stock after message 3.
+fn new_under<'h>(
+    heap: &'h Refusing<Global>,
+    day: &Day<&'h Refusing<Global>>,
+    refusal: Refusal,
+) -> Result<Tried, Fail> {
+    heap.restart(refusal);
+    let Ok(mut debugger) = Debugger::new(heap, day, 2) else {
+        return Ok(heap.tried(true));
+    };
+    let tried = heap.tried(false);
+    same("the position", &debugger.position(), &0)?;
+    set_at_3(heap, &mut debugger)?;
+    follow(heap, &mut debugger, &[(Call::Stock(1), Ok(AT_3))])?;
+    Ok(tried)
+}
+
 // Makes a debugger of the tour under a refusal. Where it is refused, the day is as it was, and one is made with memory.
 fn try_new(heap: &Refusing<Global>, refusal: Refusal) -> Result<Tried, Fail> {
     let day = tour(heap)?;
-    heap.restart(refusal);
-    let mut position = Debugger::new(heap, &day, 2).map(|debugger| debugger.position());
-    let tried = heap.tried(position.is_err());
+    let tried = new_under(heap, &day, refusal)?;
     if tried.refused {
         same_bytes("the day", day.bytes(), tour(heap)?.bytes())?;
-        position = Debugger::new(heap, &day, 2).map(|debugger| debugger.position());
+        let again = new_under(heap, &day, Refusal::Never)?;
+        same("a debugger with memory", &again.refused, &false)?;
     }
-    same("the position", &position.ok(), &Some(0))?;
     Ok(tried)
 }
 
