@@ -102,6 +102,57 @@ fn a_session_stops_at_breakpoints_both_ways(rt: HostRuntime) -> Result<(), Fail>
 }
 
 // Lines, and their answers.
+const CLOSED: &str = "break time 3\n\
+     break time 5\n\
+     break reference 1 1\n\
+     breaks\n\
+     remove 1\n\
+     breaks\n\
+     onward\n\
+     onward\n\
+     onward\n\
+     onward\n\
+     onward\n\
+     onward\n\
+     rearward\n\
+     rearward\n\
+     rearward\n\
+     rearward\n\
+     rearward\n\
+     rearward\n";
+
+// The breakpoint that is removed is the only one that stops at message 4.
+const CLOSED_ANSWERS: &str = "break 1\n\
+     break 2\n\
+     break 3\n\
+     1 time 3\n\
+     2 time 5\n\
+     3 reference 1 1\n\
+     removed\n\
+     1 time 5\n\
+     2 reference 1 1\n\
+     at 2 applied break 2\n\
+     at 3 applied break 2\n\
+     at 5 applied break 2\n\
+     at 6 applied break 1\n\
+     at 7 applied break 2\n\
+     ? past end\n\
+     at 6 applied break 1\n\
+     at 5 applied break 2\n\
+     at 3 applied break 2\n\
+     at 2 applied break 2\n\
+     at 0 start no break\n\
+     ? before start\n";
+
+#[test]
+fn later_breakpoints_close_up(rt: HostRuntime) -> Result<(), Fail> {
+    for every in [1, 3, 1000] {
+        follow(rt.alloc(), TRADED, every, CLOSED, CLOSED_ANSWERS)?;
+    }
+    Ok(())
+}
+
+// Lines, and their answers.
 const ORDER: &str = "break reference 1 1\n\
      onward\n\
      onward\n\
