@@ -38,28 +38,37 @@ fn engines_write_their_output(rt: HostRuntime) -> Result<(), Fail> {
     Ok(())
 }
 
-// Counts how often workers come to a message, and adds up the numbers of these messages.
+// Counts how often workers come to a message, and how often the one of this number does, and adds up the numbers of these
+// messages.
 #[derive(Drop)]
 struct Counting {
+    owner: u32,
     calls: AtomicU64,
+    own: AtomicU64,
     sum: AtomicU64,
 }
 
 impl Gate for Counting {
-    fn at<R: Threads + Wait + Sync>(&self, _rt: &R, _worker: u32, message: u32) {
+    fn at<R: Threads + Wait + Sync>(&self, _rt: &R, worker: u32, message: u32) {
         self.calls.fetch_add(1, Ordering::SeqCst);
+        if worker == self.owner {
+            self.own.fetch_add(1, Ordering::SeqCst);
+        }
         self.sum.fetch_add(u64::from(message), Ordering::SeqCst);
     }
 }
 
-// A replay of the worked file by so many workers, who come to messages 1 and 2, the only ones of a stock.
+// A replay of the worked file by so many workers. Of them the one that has the stock of locate code 1 comes to messages 1
+// and 2, the only ones of a stock.
 fn try_workers<T: AllocGlobal + Threads + Wait + Sync>(rt: &T, workers: u32) -> Result<(), Fail> {
     let mut output = Vec::new(rt.alloc());
     if workers == 0 || workers > 64 {
         return Err(Fail::new("a replay has 1 to 64 workers"));
     }
     let gate = Counting {
+        owner: 1 % workers,
         calls: AtomicU64::new(0),
+        own: AtomicU64::new(0),
         sum: AtomicU64::new(0),
     };
     let answer = replay_run(
@@ -73,11 +82,12 @@ fn try_workers<T: AllocGlobal + Threads + Wait + Sync>(rt: &T, workers: u32) -> 
     same("an answer", &(workers, answer), &(workers, Ok(1)))?;
     same_bytes("a report", &output, REPORT)?;
     let calls = gate.calls.load(Ordering::SeqCst);
+    let own = gate.own.load(Ordering::SeqCst);
     let sum = gate.sum.load(Ordering::SeqCst);
     same(
         "calls of the gate",
-        &(workers, calls, sum),
-        &(workers, 2, 3),
+        &(workers, calls, own, sum),
+        &(workers, 2, 2, 3),
     )
 }
 
