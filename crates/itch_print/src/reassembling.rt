@@ -12,6 +12,7 @@ use std::alloc::{AllocError, Allocator};
 fn memory_error(fault: AsmFault) -> AllocError
     requires { fault ≡ MemoryRefused }
 {
+    // It is passed for the contract alone, by which the caller proves that it is no other fault.
     let _ = fault;
     AllocError
 }

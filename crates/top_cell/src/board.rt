@@ -67,6 +67,7 @@ fn new_cell<'a, A: Allocator>(
     ensures writer { IfOk result (λ made. made.1
         ≡ new_writer day.now.payloads locate index (cell_id locate made.0.shared.table_id)) }
 {
+    // For the proof alone: it says that the day has fewer than 2^32 messages.
     let _few = day.payloads();
     let (cell, seat) = Cell::of_words(alloc, &[0; 5], &locate)?;
     let writer_seat = open::<Brand, A>(&cell.shared, seat, day, locate);
