@@ -1,5 +1,5 @@
-# Draws the lines of `itch tops` as a picture (SVG) that any browser shows: the best bid in green and the best ask in red,
-# message by message from left to right, each price as a step that lasts until the next line.
+# Draws the lines of `itch tops` as a picture (SVG) that any browser shows: the best bid in green and the best ask in
+# red, message by message from left to right, each price as a step that lasts until the next line.
 BEGIN { FS = "," }
 NR > 1 {
     if (NR == 2)
@@ -9,8 +9,9 @@ NR > 1 {
     step("ask", $5)
 }
 END {
-    printf "<svg xmlns=\"http://www.w3.org/2000/svg\" viewBox=\"%d %d %d %d\" preserveAspectRatio=\"none\" fill=\"none\">\n",
+    printf "<svg xmlns=\"http://www.w3.org/2000/svg\" viewBox=\"%d %d %d %d\"",
         first, top, last + 1 - first, bottom + 1 - top
+    print " preserveAspectRatio=\"none\" fill=\"none\">"
     draw("bid", "green")
     draw("ask", "red")
     print "</svg>"

@@ -12,9 +12,9 @@ use stock_machine::Stock;
 
 /// One stock along a day: its machine after any number of the day's messages.
 ///
-/// The stock's messages are kept by their numbers, four bytes each, and a copy of its machine before the first and after
-/// every so many of them, so that fewer than so many are stepped to any place. It is seen as the day, the stock's locate
-/// code and how many messages lie from one copy to the next. All is of this project.
+/// The stock's messages are kept by their numbers, four bytes each, and a copy of its machine before the first and
+/// after every so many of them, so that fewer than so many are stepped to any place. It is seen as the day, the stock's
+/// locate code and how many messages lie from one copy to the next. All is of this project.
 #[derive(Drop)]
 pub struct Track<'d, A: Allocator> {
     day: &'d Day<A>,

@@ -25,8 +25,8 @@ fn answer<A: Allocator + Copy>(
     same_bytes(line, &text, wanted.as_bytes())
 }
 
-// Hands a session a line under a refusal, with a text that has something. The answer follows that, or nothing does where
-// memory was refused.
+// Hands a session a line under a refusal, with a text that has something. The answer follows that, or nothing does
+// where memory was refused.
 fn answer_under<'h>(
     heap: &'h Refusing<Global>,
     debugger: &mut Debugger<'_, &'h Refusing<Global>>,

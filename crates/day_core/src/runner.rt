@@ -128,7 +128,8 @@ impl<'p, A: Allocator + Copy> Runner<'p, A> {
     /// changed, exactly where the worker has done all of them. The caller hands the day that was split.
     ///
     /// An error says that memory was refused, which comes only where a message is left that would be applied and may
-    /// need a new order or trade. It leaves the worker as it was, so that its next turn tries the same message. The stock's best bid and ask after the message are those of its machine: `stock_at(turned.place)`.
+    /// need a new order or trade. It leaves the worker as it was, so that its next turn tries the same message. The
+    /// stock's best bid and ask after the message are those of its machine: `stock_at(turned.place)`.
     pub fn turn(&mut self, day: &Day<A>) -> Result<Option<Turned>, AllocError>
         requires { day.now.payloads ≡ self.old.day }
         ensures turned { IfOk result (TakesTurn self.old self.new) }

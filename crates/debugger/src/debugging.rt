@@ -48,10 +48,10 @@ pub struct Stop {
 
 /// A position in a day, which moves both ways, and breakpoints, at which it stops.
 ///
-/// A position is a number of messages, from 0 to all of the day's, and shows what the day has built up after exactly
-/// so many, however it was reached. The debugger is seen as the day, the position, the list of the breakpoints, and how
-/// many messages of a stock lie at least from one copy of its machine to the next. An error leaves all as they were. All
-/// is of this project.
+/// A position is a number of messages, from 0 to all of the day's, and shows what the day has built up after exactly so
+/// many, however it was reached. The debugger is seen as the day, the position, the list of the breakpoints, and how
+/// many messages of a stock lie at least from one copy of its machine to the next. An error leaves all as they were.
+/// All is of this project.
 #[derive(Drop)]
 pub struct Debugger<'d, A: Allocator> {
     day: &'d Day<A>,

@@ -116,8 +116,8 @@ fn print_tops<R: Runtime + AllocGlobal>(
     Ok(0)
 }
 
-// Replays a file, and writes what a screen of one of its stocks sees meanwhile on standard output. The arguments give no
-// number of workers but from 1 to 64.
+// Replays a file, and writes what a screen of one of its stocks sees meanwhile on standard output. The arguments give
+// no number of workers but from 1 to 64.
 fn watch<R: Runtime + AllocGlobal + Threads + Wait + Sync>(
     rt: &R,
     path: &str,

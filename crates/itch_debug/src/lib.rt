@@ -1,7 +1,7 @@
 //! A debugging session over a day: a line asks for something, and its answer is lines of text.
 //!
-//! [`debug_run`] answers the lines that a reader gives, and [`answer_line`] does what one line asks for. The commands and
-//! their answers are of this project.
+//! [`debug_run`] answers the lines that a reader gives, and [`answer_line`] does what one line asks for. The commands
+//! and their answers are of this project.
 #![tactic(auto)]
 
 mod answer;

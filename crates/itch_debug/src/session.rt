@@ -19,8 +19,8 @@ pub enum Next {
     Over,
 }
 
-/// Does what a line of a session asks for, and adds its answer. An error says that memory was refused; the text may then
-/// have a part of the answer.
+/// Does what a line of a session asks for, and adds its answer. An error says that memory was refused; the text may
+/// then have a part of the answer.
 pub(crate) fn put_answer<A: Allocator + Copy>(
     alloc: A,
     text: &mut Vec<u8, A>,

@@ -1,5 +1,5 @@
--- The lines of a stock's best bid and ask along a day: comma-separated fields, numbers in decimal digits. All is of this
--- project.
+-- The lines of a stock's best bid and ask along a day: comma-separated fields, numbers in decimal digits. All is of
+-- this project.
 use Rattle.std.specs.Prelude.{ℕ, ◌==◌, ◌&&◌, Bool, true, not, if◌then◌else◌, List, [], ◌∷◌, ◌++◌, codes, decimal}
 use Rattle.itch_table.specs.declared.order.Top.{Top}
 use Rattle.itch_table.specs.Shows.{no_top}

@@ -69,8 +69,8 @@ fn tops_of_file<A: Allocator + Copy>(
 
 /// Reads a day file and writes the best bid and ask of one of its stocks after each message of the stock that changes
 /// them, or after each of its messages, as comma-separated fields with a line of their names first: the number of the
-/// message, its time in nanoseconds since midnight, the bid's price and shares, and the ask's. Prices are in 1/10,000 of
-/// a currency unit; the fields of an empty side are empty.
+/// message, its time in nanoseconds since midnight, the bid's price and shares, and the ask's. Prices are in 1/10,000
+/// of a currency unit; the fields of an empty side are empty.
 ///
 /// One machine takes the messages of this stock alone. [`ProgFault::NoStock`] comes where the day has no message of the
 /// stock; other faults are those of [`stocks_run`]. The form is of this project.

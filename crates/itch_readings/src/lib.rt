@@ -3,7 +3,7 @@
 //! | engine | input | output |
 //! |---|---|---|
 //! | [`stocks_run`] | a day file | a line for each of its stocks |
-//! | [`tops_run`] | a day file | a stock's best bid and ask after each of its messages, or after each that changes them |
+//! | [`tops_run`] | a day file | a stock's best bid and ask after each of its messages, or each that changes them |
 //!
 //! They meet the contract of the engines of `itch_engine`, `Runs`.
 #![tactic(auto)]

@@ -1,4 +1,5 @@
--- The lines of what a screen has seen. They are of this project; each ends with a line feed, and its numbers are decimal.
+-- The lines of what a screen has seen. They are of this project; each ends with a line feed, and its numbers are
+-- decimal.
 use Rattle.std.specs.Prelude.{ℕ, ◌==◌, if◌then◌else◌, List, ◌++◌, codes, decimal}
 use Rattle.std.specs.List.{flat_map}
 use Rattle.top_cell.specs.declared.reading.Reading.{Reading}

@@ -26,7 +26,8 @@ pub record AreSeenToTheEnd (day : List (List ℕ)) (locate : ℕ) (readings : Li
   pub last : last_or 0 (numbers readings) ≡ last_message day locate
 
 -- the cell of a stock's screen is that of the stock's writer, which has this index
-pub record IsScreenOf (board : List CellId) (writers : List WriterAt) (locate index : ℕ) (own : Place) : Type 0 where
+pub record IsScreenOf (board : List CellId) (writers : List WriterAt) (locate index : ℕ)
+    (own : Place) : Type 0 where
   pub within : index < length writers
   pub writer : (d : WriterAt) → (slice_index_or writers index d).place ≡ own
   pub stock : own.locate ≡ locate

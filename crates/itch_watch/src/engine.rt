@@ -43,11 +43,11 @@ fn seen_of_file<R: Threads + Wait + Sync, A: Allocator + Copy + Send + Sync, G: 
     Ok(text)
 }
 
-/// Reads a day file, replays it by 1 to 64 workers, and writes what a screen of one of its stocks sees meanwhile: a line
-/// for each reading, which is the stock's best bid and ask after the message that it names. The numbers of the messages
-/// rise, and the last is that of the stock's last message, which is read after the run. How many lines come before it
-/// depends on how the threads run; [`itch_readings::tops_run`] writes one for every message. Prices are in 1/10,000 of a
-/// currency unit.
+/// Reads a day file, replays it by 1 to 64 workers, and writes what a screen of one of its stocks sees meanwhile: a
+/// line for each reading, which is the stock's best bid and ask after the message that it names. The numbers of the
+/// messages rise, and the last is that of the stock's last message, which is read after the run. How many lines come
+/// before it depends on how the threads run; [`itch_readings::tops_run`] writes one for every message. Prices are in
+/// 1/10,000 of a currency unit.
 ///
 /// The screen has a thread of its own beside those of the workers; each worker calls the gate before each of its
 /// messages, and may wait there. What `seen` is for, and what such a gate has to heed, is said at

@@ -22,8 +22,8 @@ use top_cell::{Board, Reading, Screen, TopWriter};
 // How often a glance tries to read a cell before other threads get their turn.
 const TRIES: u32 = 4;
 
-/// What a screen sees until `ended` isn't 0: a reading for each glance that shows a later message than those before. The
-/// number of that message is stored in `seen`. The caller hands the screen's own board.
+/// What a screen sees until `ended` isn't 0: a reading for each glance that shows a later message than those before.
+/// The number of that message is stored in `seen`. The caller hands the screen's own board.
 ///
 /// An error says that memory was refused, and comes at once. Else it returns only once `ended` isn't 0, which it looks
 /// at before each glance.
@@ -105,8 +105,8 @@ fn last_reading<R: Wait, A: Allocator>(
     Reading { message, ..reading }
 }
 
-// What the screen has seen, with the last message in place of any reading from it on: the screen may have come to it, or
-// not.
+// What the screen has seen, with the last message in place of any reading from it on: the screen may have come to it,
+// or not.
 fn to_the_end<A: Allocator>(
     readings: Vec<Reading, A>,
     last: Reading,
@@ -190,14 +190,14 @@ fn watch_parts<R: Threads + Wait + Sync, A: Allocator + Copy + Send + Sync, G: G
     to_the_end(readings?, last)
 }
 
-/// Replays a day by 1 to 64 workers, while a screen looks at one of its stocks in a thread of its own, and gives what the
-/// screen has seen, to the stock's last message. Prices are in 1/10,000 of a currency unit. The stock has a message in
-/// the day.
+/// Replays a day by 1 to 64 workers, while a screen looks at one of its stocks in a thread of its own, and gives what
+/// the screen has seen, to the stock's last message. Prices are in 1/10,000 of a currency unit. The stock has a message
+/// in the day.
 ///
 /// The number of the message that the screen has seen last is stored in `seen` while the workers run, for whoever asks
-/// how far it is: a gate, or a display. A gate that waits for it has to give up after a while, since the screen may pass
-/// over messages, and sees none where it has no thread or was refused memory. The last message is read after the run,
-/// and isn't stored.
+/// how far it is: a gate, or a display. A gate that waits for it has to give up after a while, since the screen may
+/// pass over messages, and sees none where it has no thread or was refused memory. The last message is read after the
+/// run, and isn't stored.
 ///
 /// An error says that memory was refused. It may wait at the gate, and for its threads. All is of this project.
 pub fn watch_stock<R: Threads + Wait + Sync, A: Allocator + Copy + Send + Sync, G: Gate>(

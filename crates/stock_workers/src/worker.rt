@@ -25,8 +25,8 @@ const MANY_STOCKS: usize = 512;
 
 /// One worker of a day that is split, with the writers of its stocks' cells: whatever it has done is shown there.
 ///
-/// It borrows the parts of the day. It is seen as where it stands in the day, and the cells of its stocks. All is of this
-/// project.
+/// It borrows the parts of the day. It is seen as where it stands in the day, and the cells of its stocks. All is of
+/// this project.
 #[derive(Drop)]
 pub struct Worker<'p, A: Allocator> {
     runner: Runner<'p, A>,
@@ -100,10 +100,10 @@ impl<'p, A: Allocator + Copy> Worker<'p, A> {
 
 impl<'p, A: Allocator + Copy> Worker<'p, A> {
     /// Reads what the worker's next messages are likely to need, where `wait` is 0, so that the processor fetches the
-    /// memory of all of them at once: a publish waits for all reads before it, so turns by themselves would wait for the
-    /// memory of one message after another. First the machines and cells are read, and then the rows that the machines
-    /// lead to. A worker of few stocks does without. It changes nothing. It returns what `wait` is after the next turn;
-    /// the number depends on what was read, so that the reads aren't left out.
+    /// memory of all of them at once: a publish waits for all reads before it, so turns by themselves would wait for
+    /// the memory of one message after another. First the machines and cells are read, and then the rows that the
+    /// machines lead to. A worker of few stocks does without. It changes nothing. It returns what `wait` is after the
+    /// next turn; the number depends on what was read, so that the reads aren't left out.
     pub(crate) fn look_ahead(&self, day: &Day<A>, board: &Board<'_, A>, wait: usize) -> usize
         requires day { day.now.payloads ≡ self.now.state.day }
         requires board { All (IsOn board.now) self.now.places }

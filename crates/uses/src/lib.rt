@@ -1,5 +1,5 @@
-//! Callers of the libraries, each a page to copy from: the messages of one kind, a report to a writer of one's own, and a
-//! display beside a replay.
+//! Callers of the libraries, each a page to copy from: the messages of one kind, a report to a writer of one's own, and
+//! a display beside a replay.
 //!
 //! They stand on the libraries' public contracts alone. What each promises of its result is in its own contract, in the
 //! libraries' words.
