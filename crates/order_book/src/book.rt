@@ -76,13 +76,17 @@ impl<A: Allocator + Copy> Book<A> {
         self.orders.row(reference)
     }
 
-    /// Reads the orders and levels that most messages look for first, so that the processor has fetched that memory when
-    /// a message comes. It changes nothing, and what it returns means nothing: it is there to be used, so that the reads
-    /// aren't left out.
+    /// Reads what stands in the book itself, so that the processor has fetched that memory when a message comes. It
+    /// changes nothing, and what it returns means nothing: it is there to be used, so that the reads aren't left out.
     pub fn touch(&self) -> u64 {
+        self.orders.touch().wrapping_add(u64::from(self.count()))
+    }
+
+    /// Reads the orders and levels that most messages look for first, in the same way.
+    pub fn touch_rows(&self) -> u64 {
         let top = self.top();
         self.orders
-            .touch()
+            .touch_rows()
             .wrapping_add(top.bid_shares)
             .wrapping_add(top.ask_shares)
     }

@@ -131,8 +131,13 @@ impl<A: Allocator + Copy> RisingOrders<A> {
         Some(self.orders[index].row())
     }
 
-    /// Reads orders near the end of the list, where searches begin. What it returns means nothing.
+    /// Reads what stands in the value itself. What it returns means nothing.
     pub fn touch(&self) -> u64 {
+        self.orders.len() as u64
+    }
+
+    /// Reads orders near the end of the list, where searches begin. What it returns means nothing.
+    pub fn touch_rows(&self) -> u64 {
         let len = self.orders.len();
         let mut sum: u64 = 0;
         for back in [1, 4, 12] {

@@ -13,11 +13,12 @@ use std::marker::Model;
 /// A stock's live orders, the references that they have had, its trades, and what is known of it.
 #[derive(Drop)]
 pub(crate) struct Rows<A: Allocator> {
-    locate: u16,
+    // What most messages read stands first, in few lines of memory.
     book: Book<A>,
     spent: SpentReferences<A>,
-    trades: Trades<A>,
     known: Option<StockRow>,
+    locate: u16,
+    trades: Trades<A>,
 }
 
 impl<A: Allocator> Model for Rows<A> {
@@ -63,12 +64,15 @@ impl<A: Allocator + Copy> Rows<A> {
 
     /// Reads what stands in the value itself. What it returns means nothing.
     pub fn touch(&self) -> u64 {
-        u64::from(self.book.count()).wrapping_add(u64::from(self.known.is_some()))
+        self.book
+            .touch()
+            .wrapping_add(self.spent.touch())
+            .wrapping_add(u64::from(self.known.is_some()))
     }
 
     /// Reads rows that most messages look for first. What it returns means nothing.
     pub fn touch_rows(&self) -> u64 {
-        self.book.touch().wrapping_add(self.spent.touch())
+        self.book.touch_rows().wrapping_add(self.spent.touch_rows())
     }
 
     /// Whether an order has had a reference.

@@ -22,8 +22,8 @@ use std::marker::Model;
 /// Order Messages" and "Trade Messages"; the faults, and that a machine is of one stock, are of this project.
 #[derive(Drop)]
 pub struct Stock<A: Allocator> {
-    rows: Rows<A>,
     steps: u32,
+    rows: Rows<A>,
 }
 
 impl<A: Allocator> Model for Stock<A> {

@@ -101,9 +101,10 @@ impl<'p, A: Allocator + Copy> Worker<'p, A> {
 impl<'p, A: Allocator + Copy> Worker<'p, A> {
     /// Reads what the worker's next messages are likely to need, where `wait` is 0, so that the processor fetches the
     /// memory of all of them at once: a publish waits for all reads before it, so turns by themselves would wait for
-    /// the memory of one message after another. First the machines and cells are read, and then the rows that the
-    /// machines lead to. A worker of few stocks does without. It changes nothing. It returns what `wait` is after the
-    /// next turn; the number depends on what was read, so that the reads aren't left out.
+    /// the memory of one message after another. First the machines are read, then the cells, and then the rows that the
+    /// machines lead to, each in a loop of its own, so short that the processor is in all of its rounds at once. A worker
+    /// of few stocks does without. It changes nothing. It returns what `wait` is after the next turn; the number depends
+    /// on what was read, so that the reads aren't left out.
     pub(crate) fn look_ahead(&self, day: &Day<A>, board: &Board<'_, A>, wait: usize) -> usize
         requires day { day.now.payloads ≡ self.now.state.day }
         requires board { All (IsOn board.now) self.now.places }
@@ -114,16 +115,22 @@ impl<'p, A: Allocator + Copy> Worker<'p, A> {
         if self.runner.stock_count() < MANY_STOCKS {
             return AHEAD - 1;
         }
-        let mut sum: u64 = 0;
         let mut places = [0; AHEAD];
         for message in 0..AHEAD {
-            let Some(place) = self.runner.place_ahead(day, message) else {
-                break;
-            };
-            places[message] = place;
-            let stock = self.runner.stock_at(place).touch();
-            let cell = self.writers[place].touch(board);
-            sum = sum.wrapping_add(stock).wrapping_add(cell);
+            if let Some(place) = self.runner.place_ahead(day, message) {
+                places[message] = place;
+            }
+        }
+        let mut sum: u64 = 0;
+        for place in places {
+            if place < self.runner.stock_count() {
+                sum = sum.wrapping_add(self.runner.stock_at(place).touch());
+            }
+        }
+        for place in places {
+            if place < self.writers.len() {
+                sum = sum.wrapping_add(self.writers[place].touch(board));
+            }
         }
         for place in places {
             if place < self.runner.stock_count() {
