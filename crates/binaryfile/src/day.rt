@@ -1,12 +1,14 @@
 //! A whole file in memory, with the places of its entries.
-ghost use Rattle.std.specs.Prelude.{◌≡◌, ◌≢◌, ◌+◌, ◌-◌, ◌<◌, ◌≤◌, ◌^◌, ◌↔◌, length, slice_index_or, Err, IfOk, IfErr, IsOk, IsErr, IsErrOf};
+ghost use Rattle.std.specs.Prelude.{◌≡◌, ◌≢◌, ◌+◌, ◌-◌, ◌<◌, ◌≤◌, ◌^◌, ◌↔◌, drop, length, slice_index_or, Err, IfOk, IfErr, IsOk, IsErr, IsErrOf};
 ghost use Rattle.byte_strings.specs.Bytes.{AreBytes};
 ghost use Rattle.binaryfile.specs.Devices.{HasFailed, GaveMore, GaveUpTo, Sends};
 ghost use Rattle.binaryfile.specs.Entries.{bytes_of, Splits};
 ghost use Rattle.binaryfile.specs.Loading.{Loads, ExceedsMessages, HasMoreMessages};
 
 use crate::load::read_to_end;
-use crate::scan::{begins_with_marker, bytes_after, entries_extent, index, nth_payload};
+use crate::scan::{
+    begins_with_marker, bytes_after, bytes_from, entries_extent, index, nth_payload,
+};
 use crate::{Feed, LoadFault, Payloads, Sink, WriteFault, send};
 use std::alloc::Allocator;
 use std::io::{Read, Write};
@@ -145,6 +147,18 @@ impl<A: Allocator> Day<A> {
         ensures few { length self.now.payloads < 2 ^ 32 }
     {
         Payloads::new(self.bytes.as_slice())
+    }
+
+    /// The payloads after this number of them, in their order, borrowed and not copied: for a pass over a stretch of a
+    /// day.
+    pub fn payloads_after(&self, count: u32) -> Payloads<'_>
+        requires { count ≤ length self.now.payloads }
+        ensures { result ≡ drop count self.now.payloads }
+    {
+        if count == self.count {
+            return Payloads::new(&[]);
+        }
+        Payloads::new(bytes_from(&self.bytes, &self.starts, count as usize))
     }
 
     /// Whether an end marker follows the payloads.

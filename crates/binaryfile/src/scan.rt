@@ -93,6 +93,16 @@ pub(crate) fn index<A: Allocator>(
     Ok(starts)
 }
 
+/// The bytes from the entry of this number on, counted from 0.
+pub(crate) fn bytes_from<'a>(bytes: &'a [u8], starts: &[u64], number: usize) -> &'a [u8]
+    requires index { IsIndex starts.now bytes.now }
+    requires number { number < length (payloads_of bytes.now) }
+    ensures { payloads_of result.now ≡ drop number (payloads_of bytes.entry.now) }
+{
+    let at = entry_place(bytes, starts, number);
+    &bytes[at..]
+}
+
 /// The payload of this number, counted from 0.
 pub(crate) fn nth_payload<'a>(bytes: &'a [u8], starts: &[u64], number: usize) -> &'a [u8]
     requires index { IsIndex starts.now bytes.now }

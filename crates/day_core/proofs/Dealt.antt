@@ -1,9 +1,9 @@
--- A day that is being dealt to its workers, one message more.
-use Rattle.std.proofs.Common.{◌≡◌, ℕ, ◌+◌, ◌-◌, ◌%◌, ◌<◌, ◌≤◌, List, [], ◌∷◌, ◌++◌, length, drop, get_or, set, map, filter, replicate, cond, Option, None, refl, ap, sym, ◌∙◌, arith, inl, inr, subst, append-nil}
+-- A stretch of a day that is being dealt to its workers: one message more, and the stretch after it.
+use Rattle.std.proofs.Common.{◌≡◌, ℕ, ◌+◌, ◌-◌, ◌%◌, ◌<◌, ◌≤◌, List, [], ◌∷◌, ◌++◌, length, drop, get_or, set, map, filter, replicate, cond, Bool, true, false, ◌||◌, Option, Some, None, refl, ap, sym, ◌∙◌, arith, inl, inr, subst, append-nil}
 use Rattle.std.specs.List.{range_with_len}
 use Rattle.std.proofs.lemmas.Bool.{cases_eq, eq-eqb, ne_eqb}
 use Rattle.std.proofs.lemmas.Nat.{mod_below}
-use Rattle.std.proofs.lemmas.List.{drop_more, length-drop, get_or-set_same, get_or-set_other, get_or-replicate, length-replicate, length-set, map-append}
+use Rattle.std.proofs.lemmas.List.{append_assoc, get_or_default, drop_more, length-drop, get_or-set_same, get_or-set_other, get_or-replicate, length-replicate, length-set, map-append}
 use Rattle.itch_layouts.specs.Shapes.{shape_of}
 use Rattle.itch_layouts.specs.declared.message.Msg.TheVariants.{System}
 use Rattle.itch_layouts.specs.declared.shape.Shape.{Shape}
@@ -21,6 +21,9 @@ use Rattle.itch_table.proofs.NoStock.{system_sets_event}
 use Rattle.itch_table.proofs.StockDays.{outcomes_stay_fixed}
 use Rattle.day_core.specs.declared.merging.Piece.{Piece}
 use Rattle.day_core.specs.Splitting.{AreDealt}
+use Rattle.day_core.specs.Stretches.{AreSeen, IsStretch}
+use Rattle.day_core.proofs.StocksSeen.{seen_both, seen_nowhere, seen_own}
+use Rattle.std.specs.Option.{option_or}
 use Rattle.day_core.proofs.Kept.{kept_more}
 use Rattle.day_core.specs.Owners.{fixed_until, is_nowhere, is_own, own_until, part_at, piece_of}
 
@@ -29,28 +32,49 @@ event_stays : (shape : Shape) (locate : ℕ) (event : Option ℕ) → part_of_sh
 event_stays (Known (System head m)) locate event is = let never : ⊥ = cc in absurd never
 event_stays shape locate event is = refl
 
--- the first n messages are dealt, and these payloads are left
-pub record IsDealing (day left : List (List ℕ)) (workers n : ℕ) (own : List (List ℕ)) (fixed : List Piece) (event : Option ℕ) : Type 0 where
+-- the event of a stretch with one message more
+event_or_before : (shape : Shape) (event before : Option ℕ) → option_or (event_with shape event) before ≡ event_with shape (option_or event before)
+event_or_before (Known (System head m)) event before = refl
+event_or_before shape event before = refl
+
+-- of three stretches the last event is that of the last one that has one
+later_first : (last middle first : Option ℕ) → option_or (option_or last middle) first ≡ option_or last (option_or middle first)
+later_first (Some e) middle first = refl
+later_first None middle first = refl
+
+or_none : (event : Option ℕ) → option_or event None ≡ event
+or_none (Some e) = refl
+or_none None = refl
+
+-- the messages after the first ones up to message n are dealt, and these payloads are left
+pub record IsDealing (day left : List (List ℕ)) (workers from n : ℕ) (seen : List Bool) (own : List (List ℕ)) (fixed : List Piece) (event : Option ℕ) : Type 0 where
   pub within : n ≤ length day
   pub rest : left ≡ drop n day
-  pub dealt : AreDealt day workers n own fixed event
+  pub dealt : IsStretch day workers from n seen own fixed event
+
+-- a stretch without messages
+pub dealt_none : (day : List (List ℕ)) (workers from : ℕ) (seen : List Bool) (own : List (List ℕ)) (fixed : List Piece) (event : Option ℕ) → AreSeen day from from seen
+    → own ≡ replicate workers [] → fixed ≡ [] → event ≡ None → IsStretch day workers from from seen own fixed event
+dealt_none day workers from seen own fixed event none empty nothing never = record {
+  seen_are = none;
+  own_long = ap length empty ∙ length-replicate workers [];
+  own_are = λ worker lt.
+      ap (λ (l : List ℕ). own_until workers worker day from ++ l) (ap (λ (ls : List (List ℕ)). get_or ls worker []) empty ∙ get_or-replicate workers worker [] [] lt)
+      ∙ append-nil (own_until workers worker day from);
+  fixed_are = ap (λ (ps : List Piece). fixed_until day from ++ ps) nothing ∙ append-nil (fixed_until day from);
+  event_is = ap (λ (e : Option ℕ). option_or e (after day from).event) never;
+}
 
 -- before the first message
-pub begun : (day left : List (List ℕ)) (workers : ℕ) (own : List (List ℕ)) (fixed : List Piece) (event : Option ℕ) → left ≡ day → AreDealt day workers 0 own fixed event
-    → IsDealing day left workers 0 own fixed event
-begun day left workers own fixed event is dealt = record { within = omega arith; rest = is; dealt = dealt }
-
--- after the last one
-pub dealt_all : (day left : List (List ℕ)) (workers n : ℕ) (own : List (List ℕ)) (fixed : List Piece) (event : Option ℕ) → IsDealing day left workers n own fixed event → left ≡ []
-    → AreDealt day workers (length day) own fixed event
-dealt_all day left workers n own fixed event before none =
-    let all : n ≡ length day = omega (arith, before.within, ap length (sym before.rest ∙ none), length-drop n day) in
-    subst (λ (m : ℕ). AreDealt day workers m own fixed event) all before.dealt
+pub begun : (day left : List (List ℕ)) (workers from : ℕ) (seen : List Bool) (own : List (List ℕ)) (fixed : List Piece) (event : Option ℕ) → left ≡ drop from day → from ≤ length day
+    → AreSeen day from from seen → own ≡ replicate workers [] → fixed ≡ [] → event ≡ None → IsDealing day left workers from from seen own fixed event
+begun day left workers from seen own fixed event is within none empty nothing never =
+    record { within = within; rest = is; dealt = dealt_none day workers from seen own fixed event none empty nothing never }
 
 -- ---- one message more
 
-module _ (day left rest : List (List ℕ)) (workers n : ℕ) (own : List (List ℕ)) (fixed : List Piece) (event : Option ℕ) (before : IsDealing day left workers n own fixed event)
-    (payload : List ℕ) (goes_on : left ≡ payload ∷ rest) where
+module _ (day left rest : List (List ℕ)) (workers from n : ℕ) (seen : List Bool) (own : List (List ℕ)) (fixed : List Piece) (event : Option ℕ)
+    (before : IsDealing day left workers from n seen own fixed event) (payload : List ℕ) (goes_on : left ≡ payload ∷ rest) where
   pub one_more : n + 1 ≤ length day
   one_more = omega (arith, ap length (sym before.rest ∙ goes_on), length-drop n day)
 
@@ -80,13 +104,14 @@ module _ (day left rest : List (List ℕ)) (workers n : ℕ) (own : List (List �
       (kept_more (λ (m : ℕ). is_nowhere (part_at day m)) 1 n (n + 1) (omega arith) ∙ ap (λ (q : Part). kept ++ cond (is_nowhere q) ((n + 1) ∷ []) []) (here ∙ sym is))
       ∙ map-append (piece_of day) kept _
 
-  event_next : event_with (shape_of payload) event ≡ (after day (n + 1)).event
+  event_next : event_with (shape_of payload) (after day n).event ≡ (after day (n + 1)).event
   event_next =
-      ap (event_with (shape_of payload)) before.dealt.event_is ∙ sym (system_sets_event (after day n) payload)
+      sym (system_sets_event (after day n) payload)
       ∙ sym (ap (λ (w : World). w.event) (after-next day n ∙ ap (λ (p : List ℕ). (step (after day n) p).1) at))
 
   pub dealt_own : (locate : ℕ) → Locate locate ≡ part payload → 0 < workers
-      → IsDealing day rest workers (n + 1) (set own (locate % workers) (get_or own (locate % workers) [] ++ (n + 1) ∷ [])) fixed event
+      → IsDealing day rest workers from (n + 1) (set seen locate true)
+      (set own (locate % workers) (get_or own (locate % workers) [] ++ (n + 1) ∷ [])) fixed event
   dealt_own locate is some =
       let owner = locate % workers in
       let below : owner < workers = mod_below locate workers some in
@@ -96,44 +121,81 @@ module _ (day left rest : List (List ℕ)) (workers n : ℕ) (own : List (List �
         within = one_more;
         rest = left_then;
         dealt = record {
+          seen_are = seen_own day from n seen before.dealt.seen_are (omega (arith, one_more)) payload at locate is;
           own_long = length-set own owner pushed ∙ before.dealt.own_long;
-          own_are = λ worker d lt. elim (cases_eq worker owner) [
+          own_are = λ worker lt. elim (cases_eq worker owner) [
             | inl same ↦
                 let room : owner < length own = omega (arith, before.dealt.own_long) in
                 let tested = eq-eqb owner owner refl in
-                rw (same, get_or-set_same own owner pushed d room, kept owner [] below, own_more owner (Locate locate) is, tested) refl
+                rw (same, get_or-set_same own owner pushed [] room, own_more owner (Locate locate) is, tested)
+                (sym (append_assoc (own_until workers owner day from) (get_or own owner []) ((n + 1) ∷ []))
+                ∙ ap (λ (l : List ℕ). l ++ (n + 1) ∷ []) (kept owner below))
             | inr differ ↦
                 let tested = ne_eqb owner worker (λ e. differ (sym e)) in
-                rw (get_or-set_other own owner worker pushed d differ, kept worker d lt, own_more worker (Locate locate) is, tested) (sym (append-nil _))
+                rw (get_or-set_other own owner worker pushed [] differ, own_more worker (Locate locate) is, tested)
+                (kept worker lt ∙ sym (append-nil _))
           ];
           fixed_are = before.dealt.fixed_are ∙ sym (fixed_more (Locate locate) is ∙ append-nil (fixed_until day n));
-          event_is = sym (event_stays (shape_of payload) locate event (sym is)) ∙ event_next;
+          event_is = before.dealt.event_is ∙ sym (event_stays (shape_of payload) locate (after day n).event (sym is)) ∙ event_next;
         };
       }
 
   pub dealt_fixed : (outcome : Outcome) → Nowhere outcome ≡ part payload
-      → IsDealing day rest workers (n + 1) own (fixed ++ record { message = n + 1; outcome = outcome } ∷ []) (event_with (shape_of payload) event)
+      → IsDealing day rest workers from (n + 1) seen own (fixed ++ record { message = n + 1; outcome = outcome } ∷ []) (event_with (shape_of payload) event)
   dealt_fixed outcome is =
       let known = outcomes_stay_fixed day (n + 1) outcome (here ∙ sym is) in
+      let piece : Piece = record { message = n + 1; outcome = outcome } in
       record {
         within = one_more;
         rest = left_then;
         dealt = record {
+          seen_are = seen_nowhere day from n seen before.dealt.seen_are (omega (arith, one_more)) payload at outcome is;
           own_long = before.dealt.own_long;
-          own_are = λ worker d lt. before.dealt.own_are worker d lt ∙ sym (own_more worker (Nowhere outcome) is ∙ append-nil (own_until workers worker day n));
+          own_are = λ worker lt. before.dealt.own_are worker lt ∙ sym (own_more worker (Nowhere outcome) is ∙ append-nil (own_until workers worker day n));
           fixed_are =
-              ap (λ (o : Outcome). fixed ++ record { message = n + 1; outcome = o } ∷ []) (sym known)
-              ∙ ap (λ (ps : List Piece). ps ++ piece_of day (n + 1) ∷ []) before.dealt.fixed_are ∙ sym (fixed_more (Nowhere outcome) is);
-          event_is = event_next;
+              sym (append_assoc (fixed_until day from) fixed (piece ∷ []))
+              ∙ ap (λ (ps : List Piece). ps ++ piece ∷ []) before.dealt.fixed_are
+              ∙ ap (λ (o : Outcome). fixed_until day n ++ record { message = n + 1; outcome = o } ∷ []) (sym known)
+              ∙ sym (fixed_more (Nowhere outcome) is);
+          event_is =
+              event_or_before (shape_of payload) event (after day from).event
+              ∙ ap (event_with (shape_of payload)) before.dealt.event_is ∙ event_next;
         };
       }
 
--- nothing is dealt before the first message
-pub dealt_none : (day : List (List ℕ)) (workers : ℕ) (own : List (List ℕ)) (fixed : List Piece) → own ≡ replicate workers [] → fixed ≡ []
-    → AreDealt day workers 0 own fixed None
-dealt_none day workers own fixed empty none = record {
-  own_long = ap length empty ∙ length-replicate workers [];
-  own_are = λ worker d lt. rw empty (get_or-replicate workers worker [] d lt);
-  fixed_are = none;
-  event_is = sym (ap (λ (w : World). w.event) (after-none day));
+-- ---- a stretch, and the one after it
+
+pub joined : (day : List (List ℕ)) (workers from middle to : ℕ) (seen more_seen both : List Bool) (own more_own all : List (List ℕ)) (fixed more_fixed pieces : List Piece)
+    (event more_event last : Option ℕ) → IsStretch day workers from middle seen own fixed event → IsStretch day workers middle to more_seen more_own more_fixed more_event
+    → length both ≡ length seen → ((k : ℕ) → k < length more_seen → get_or both k false ≡ (get_or seen k false || get_or more_seen k false))
+    → length all ≡ length own → ((k : ℕ) → k < length own → get_or all k [] ≡ get_or own k [] ++ get_or more_own k [])
+    → pieces ≡ fixed ++ more_fixed → last ≡ option_or more_event event
+    → IsStretch day workers from to both all pieces last
+joined day workers from middle to seen more_seen both own more_own all fixed more_fixed pieces event more_event last before then seen_long marked own_long appended put is = record {
+  seen_are = seen_both day from middle to seen more_seen both before.seen_are then.seen_are seen_long marked;
+  own_long = own_long ∙ before.own_long;
+  own_are = λ worker lt.
+      let room : worker < length own = omega (arith, before.own_long, lt) in
+      ap (λ (l : List ℕ). own_until workers worker day from ++ l) (appended worker room)
+      ∙ sym (append_assoc (own_until workers worker day from) (get_or own worker []) (get_or more_own worker []))
+      ∙ ap (λ (l : List ℕ). l ++ get_or more_own worker []) (before.own_are worker lt) ∙ then.own_are worker lt;
+  fixed_are =
+      ap (λ (ps : List Piece). fixed_until day from ++ ps) put ∙ sym (append_assoc (fixed_until day from) fixed more_fixed)
+      ∙ ap (λ (ps : List Piece). ps ++ more_fixed) before.fixed_are ∙ then.fixed_are;
+  event_is =
+      ap (λ (e : Option ℕ). option_or e (after day from).event) is ∙ later_first more_event event (after day from).event
+      ∙ ap (option_or more_event) before.event_is ∙ then.event_is;
+}
+
+-- ---- a whole day
+
+pub dealt_all : (day : List (List ℕ)) (workers : ℕ) (seen : List Bool) (own : List (List ℕ)) (fixed : List Piece) (event : Option ℕ)
+    → IsStretch day workers 0 (length day) seen own fixed event → AreDealt day workers (length day) own fixed event
+dealt_all day workers seen own fixed event all = record {
+  own_long = all.own_long;
+  own_are = λ worker d lt.
+      let room : worker < length own = omega (arith, all.own_long, lt) in
+      get_or_default own worker d [] room ∙ all.own_are worker lt;
+  fixed_are = all.fixed_are;
+  event_is = sym (ap (λ (w : World). option_or event w.event) (after-none day) ∙ or_none event) ∙ all.event_is;
 }

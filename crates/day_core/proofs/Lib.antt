@@ -1,5 +1,6 @@
 mod Merged
-mod Counted
+mod StocksSeen
+mod Chunks
 mod Dealt
 pub mod Kept
 mod Placing

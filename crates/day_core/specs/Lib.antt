@@ -1,6 +1,6 @@
 pub mod Cells
 pub mod Turns
-pub mod Counting
+pub mod Stretches
 pub mod Merging
 pub mod Owners
 pub mod Placed

@@ -22,8 +22,8 @@ pub(crate) fn give<T: Drop, A: Allocator + Copy>(
     Ok(())
 }
 
-// An empty list for each worker.
-fn empty_lists<T: Drop, A: Allocator + Copy>(
+/// An empty list for each worker.
+pub(crate) fn empty_lists<T: Drop, A: Allocator + Copy>(
     alloc: A,
     workers: u32,
 ) -> Result<Vec<Vec<T, A>, A>, AllocError>

@@ -1,17 +1,11 @@
 //! A day, split into the parts of its workers.
-ghost use Rattle.std.specs.Prelude.{◌≡◌, ◌++◌, ◌∷◌, ◌<◌, ◌≤◌, ◌⊎◌, ◌↔◌, [], None, IfOk, IsErrOf, OnOk, length, map, replicate, slice_index_or, slice_set};
-ghost use Rattle.itch_layouts.specs.Shapes.{shape_of};
-ghost use Rattle.itch_table.specs.Projection.{event_with};
-ghost use Rattle.day_core.specs.Splitting.{AreDealt};
+ghost use Rattle.std.specs.Prelude.{◌≡◌, ◌<◌, ◌≤◌, ◌⊎◌, ◌↔◌, IfOk, IsErrOf};
 ghost use Rattle.day_core.specs.declared.splitting.SplitFault.TheVariants.{Memory};
 
-use crate::counting::{locates_counted, messages_by_locate};
-use crate::merging::Piece;
-use crate::ordering::give;
+use crate::dealing::deal;
 use crate::parts::Parts;
+use crate::seeing::locates_seen;
 use binaryfile::Day;
-use itch_layouts::{Msg, Shape, read_msg};
-use itch_table::{Part, part};
 use std::alloc::{AllocError, Allocator};
 use std::snapshot::Snapshot;
 use std::thread::Threads;
@@ -36,74 +30,6 @@ impl From<AllocError> for SplitFault {
     }
 }
 
-// How many messages the stocks of a worker have.
-fn messages_of_worker(counts: &[u32], workers: u32, worker: u32) -> usize
-    requires { 0 < workers }
-{
-    counts
-        .iter()
-        .skip(worker as usize)
-        .step_by(workers as usize)
-        .fold(0, |room: usize, count: &u32| -> usize {
-            room.saturating_add(*count as usize)
-        })
-}
-
-// An empty list for each worker, with room for its messages.
-fn lists_with_room<A: Allocator + Copy>(
-    alloc: A,
-    counts: &[u32],
-    workers: u32,
-) -> Result<Vec<Vec<u32, A>, A>, AllocError>
-    requires { 0 < workers }
-    ensures { IfOk result (λ own. map (λ list. list.items) own.items ≡ replicate workers []) }
-{
-    let mut own = Vec::with_capacity(alloc, workers as usize)?;
-    for worker in 0..workers {
-        let room = messages_of_worker(counts, workers, worker);
-        own.push(Vec::with_capacity(alloc, room)?)?;
-    }
-    Ok(own)
-}
-
-// The event after a payload, by the one before it.
-fn event_after(payload: &[u8], before: Option<u8>) -> Option<u8>
-    ensures { result ≡ event_with (shape_of payload.now) before }
-{
-    match read_msg(payload) {
-        Shape::Known(Msg::System(_, message)) => Some(message.event),
-        _ => before,
-    }
-}
-
-// Deals the messages of a day to the lists of their workers, and answers the last event.
-fn deal<A: Allocator + Copy>(
-    own: &mut Vec<Vec<u32, A>, A>,
-    fixed: &mut Vec<Piece, A>,
-    day: &Day<A>,
-    workers: u32,
-) -> Result<Option<u8>, AllocError>
-    requires some { 0 < workers }
-    requires empty { AreDealt day.now.payloads workers 0
-        (map (λ list. list.items) own.old.items) fixed.old.items None }
-    ensures dealt { IfOk result (λ event. AreDealt day.now.payloads workers (length day.now.payloads)
-        (map (λ list. list.items) own.new.items) fixed.new.items event) }
-{
-    let mut event = None;
-    let mut message = 0;
-    for payload in day.payloads() {
-        message += 1;
-        match part(payload) {
-            Part::Locate(locate) => give(own, u32::from(locate) % workers, message)?,
-            Part::Nowhere(outcome) => {
-                fixed.push(Piece { message, outcome })?;
-                event = event_after(payload, event);
-            }
-        }
-    }
-    Ok(event)
-}
-
 /// Splits a day as [`split`] does, for a number of workers that is from 1 to 64. An error says that memory was refused.
 pub fn parts_of<R: Threads + Sync, A: Allocator + Copy + Send + Sync>(
     rt: &R,
@@ -115,18 +41,14 @@ pub fn parts_of<R: Threads + Sync, A: Allocator + Copy + Send + Sync>(
     requires most { workers ≤ 64 }
     ensures { IfOk result (λ parts. parts ≡ record { day = day.now.payloads; workers = workers }) }
 {
-    let counts = messages_by_locate(rt, alloc, day)?;
-    let locates = locates_counted(alloc, &counts)?;
-    let mut own = lists_with_room(alloc, &counts, workers)?;
-    let elsewhere = (day.len() as usize).saturating_sub(messages_of_worker(&counts, 1, 0));
-    let mut fixed = Vec::with_capacity(alloc, elsewhere)?;
-    let event = deal(&mut own, &mut fixed, day, workers)?;
+    let dealt = deal(rt, alloc, day, workers)?;
+    let locates = locates_seen(alloc, &dealt.seen)?;
     Ok(Parts {
         workers,
         locates,
-        own,
-        fixed,
-        event,
+        own: dealt.own,
+        fixed: dealt.fixed,
+        event: dealt.event,
         day: Snapshot::of(day),
     })
 }

@@ -1,0 +1,39 @@
+-- A stretch of a day, dealt to the workers of its stocks. All is of this project.
+use Rattle.std.specs.Prelude.{◌≡◌, ◌+◌, ◌*◌, ◌/◌, ◌<◌, ◌++◌, ◌||◌, ℕ, Bool, false, List, [], Option, length, min, slice_index_or, take}
+use Rattle.std.specs.List.{list_any}
+use Rattle.std.specs.Option.{option_or}
+use Rattle.itch_table.specs.After.{after}
+use Rattle.itch_table.specs.Projection.{is_of_stock}
+use Rattle.day_core.specs.Owners.{fixed_until, own_until}
+use Rattle.day_core.specs.declared.merging.Piece.{Piece}
+
+-- whether a stock has a message among the first of a day
+abbrev pub has_until : List (List ℕ) → ℕ → ℕ → Bool
+has_until day locate count = list_any (is_of_stock locate) (take count day)
+
+-- which stocks have messages in a stretch of a day, by locate code: with those of the messages before it these are
+-- the stocks of the messages up to its end
+pub record AreSeen (day : List (List ℕ)) (from to : ℕ) (seen : List Bool) : Type 0 where
+  pub long : length seen ≡ 0x1_0000
+  pub each : (locate : ℕ) → locate < 0x1_0000
+      → (has_until day locate from || slice_index_or seen locate false) ≡ has_until day locate to
+
+-- a stretch of a day is dealt: the stocks that have messages in it, each worker's messages, those of no stock with
+-- their outcomes, and the last event, each after what the messages before it give
+pub record IsStretch (day : List (List ℕ)) (workers from to : ℕ) (seen : List Bool) (own : List (List ℕ))
+    (fixed : List Piece) (event : Option ℕ) : Type 0 where
+  pub seen_are : AreSeen day from to seen
+  pub own_long : length own ≡ workers
+  pub own_are : (worker : ℕ) → worker < workers
+      → own_until workers worker day from ++ slice_index_or own worker [] ≡ own_until workers worker day to
+  pub fixed_are : fixed_until day from ++ fixed ≡ fixed_until day to
+  pub event_is : option_or event (after day from).event ≡ (after day to).event
+
+-- where a chunk of a day begins, by its number from 0, of 16 that make the day
+abbrev pub cut : ℕ → ℕ → ℕ
+cut messages chunk = min (chunk * (messages / 16 + 1)) messages
+
+-- the chunk of a day with this number is dealt
+abbrev pub IsChunk : List (List ℕ) → ℕ → ℕ → List Bool → List (List ℕ) → List Piece → Option ℕ → Type 0
+IsChunk day workers chunk seen own fixed event =
+    IsStretch day workers (cut (length day) chunk) (cut (length day) (chunk + 1)) seen own fixed event

@@ -1,0 +1,69 @@
+//! The stocks that have messages in a day.
+ghost use Rattle.std.specs.Prelude.{ℕ, ◌≡◌, ◌<◌, ◌≤◌, ◌||◌, false, IfOk, filter, length, slice_index_or};
+ghost use Rattle.std.specs.List.{range_with_len};
+ghost use Rattle.itch_table.specs.Shows.{locates_of_day};
+
+use binaryfile::Day;
+use itch_table::{Part, part};
+use std::alloc::{AllocError, Allocator};
+
+/// How many locate codes there are.
+pub(crate) const LOCATES: usize = 1 << 16;
+
+/// At each of so many locate codes that no message of its stock was seen.
+pub(crate) fn none_seen<A: Allocator + Copy>(
+    alloc: A,
+    count: usize,
+) -> Result<Vec<bool, A>, AllocError>
+    ensures long { IfOk result (λ seen. length seen.items ≡ count) }
+    ensures none { IfOk result (λ seen. (k : ℕ) → k < count → slice_index_or seen.items k false ≡ false) }
+{
+    vec![in alloc; false; count]
+}
+
+/// Marks the stocks that are seen among others too.
+pub(crate) fn mark<A: Allocator + Copy>(seen: &mut Vec<bool, A>, more: &[bool])
+    requires { length more.now ≡ length seen.old.items }
+    ensures long { length seen.new.items ≡ length seen.old.items }
+    ensures both { (k : ℕ) → k < length more.now → slice_index_or seen.new.items k false
+        ≡ (slice_index_or seen.old.items k false || slice_index_or more.now k false) }
+{
+    for (place, also) in more.iter().enumerate() {
+        if *also {
+            seen[place] = true;
+        }
+    }
+}
+
+/// The locate codes of the stocks that are seen, rising.
+pub(crate) fn locates_seen<A: Allocator + Copy>(
+    alloc: A,
+    seen: &[bool],
+) -> Result<Vec<u16, A>, AllocError>
+    requires { length seen.now ≤ 0x1_0000 }
+    ensures { IfOk result (λ locates. locates.items
+        ≡ filter (λ locate. slice_index_or seen.now locate false) (range_with_len 0 (length seen.now))) }
+{
+    let mut locates = Vec::new(alloc);
+    for (locate, is_seen) in seen.iter().enumerate() {
+        if *is_seen {
+            locates.push(locate as u16)?;
+        }
+    }
+    Ok(locates)
+}
+
+/// The locate codes of the stocks that have messages in a day, rising. They are found by the calling thread.
+///
+/// An error says that memory was refused. The list is of this project.
+pub fn locates<A: Allocator + Copy>(alloc: A, day: &Day<A>) -> Result<Vec<u16, A>, AllocError>
+    ensures { IfOk result (λ locates. locates.items ≡ locates_of_day day.now.payloads) }
+{
+    let mut seen = none_seen(alloc, LOCATES)?;
+    for payload in day.payloads() {
+        if let Part::Locate(locate) = part(payload) {
+            seen[usize::from(locate)] = true;
+        }
+    }
+    locates_seen(alloc, &seen)
+}
