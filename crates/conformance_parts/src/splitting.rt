@@ -12,7 +12,7 @@ use support::{AAPL, MSFT, same, same_bytes, same_list, system};
 // An entry of an unknown type, of one byte.
 const UNKNOWN: &[u8] = b"\x00\x01O";
 
-// A day that is long enough to be counted in chunks: a message of a stock stands first, and after each 1,000 messages
+// A day that is long enough to be dealt in chunks: a message of a stock stands first, and after each 1,000 messages
 // of an unknown type.
 fn long_day<A: Allocator + Copy>(alloc: A) -> Result<Day<A>, Fail> {
     let mut file = Vec::new(alloc);
@@ -149,13 +149,24 @@ fn a_day_without_memory_stays_whole(rt: HostRuntime) -> Result<(), Fail> {
     same("all growths", &growths, &6)
 }
 
-// Each of the 16 chunks takes a growth at least.
+// Each of the 16 chunks takes two growths at least. Some are refused, with all after them.
 #[test]
 fn a_long_day_without_memory_has_no_parts(rt: HostRuntime) -> Result<(), Fail> {
     let heap = Refusing::new(rt.alloc(), Refusal::Never);
     let day = long_day(rt.alloc())?;
-    let growths = refuse_each(|refusal: Refusal| -> Result<Tried, Fail> {
-        try_split(&rt, &heap, day.bytes(), 64, &[1, 2], refusal)
-    })?;
-    same("growths", &(growths >= 17), &true)
+    let whole = try_split(&rt, &heap, day.bytes(), 64, &[1, 2], Refusal::Never)?;
+    same(
+        "growths",
+        &(whole.growths > 32, whole.refused),
+        &(true, false),
+    )?;
+    for growth in [1, 2, 20, whole.growths / 2] {
+        let tried = try_split(&rt, &heap, day.bytes(), 64, &[1, 2], Refusal::From(growth))?;
+        same(
+            "a refused growth",
+            &(growth, tried.refused),
+            &(growth, true),
+        )?;
+    }
+    Ok(())
 }
