@@ -8,6 +8,8 @@ mod faults;
 #[cfg(test)]
 mod fields;
 #[cfg(test)]
+mod lines;
+#[cfg(test)]
 mod memory;
 #[cfg(test)]
 mod texts;

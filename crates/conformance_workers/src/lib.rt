@@ -7,6 +7,8 @@ mod gates;
 #[cfg(test)]
 mod memory;
 #[cfg(test)]
+mod retries;
+#[cfg(test)]
 mod runs;
 #[cfg(test)]
 mod screens;

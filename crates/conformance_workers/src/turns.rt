@@ -13,19 +13,20 @@ use std::alloc::{AllocError, Allocator, Global};
 use std::sync::Wait;
 use std::test::Fail;
 use std::thread::Threads;
-use stock_workers::{FreeGate, Worker};
+use stock_workers::{FreeGate, Gate, Worker};
 use support::{AAPL, MSFT, Ticker, crossed_book, same, same_list, two_stocks};
 use top_cell::{Board, Reading, Screen, TopWriter};
 
-// The writers of the only worker of a day, their board, and a screen of the day's first stock.
+/// The writers of the only worker of a day, their board, and a screen of the day's first stock.
 #[derive(Drop)]
-struct Waiting<'a, A: Allocator> {
+pub struct Waiting<'a, A: Allocator> {
     board: Board<'a, A>,
     writers: Vec<TopWriter, A>,
     screen: Screen,
 }
 
-fn prepare<'a, R: Threads + Wait + Sync, A: Allocator + Copy + Send + Sync>(
+/// The parts of a day for one worker, and what the worker is made of.
+pub fn prepare<'a, R: Threads + Wait + Sync, A: Allocator + Copy + Send + Sync>(
     rt: &R,
     alloc: &'a A,
     day: &Day<A>,
@@ -45,8 +46,8 @@ fn prepare<'a, R: Threads + Wait + Sync, A: Allocator + Copy + Send + Sync>(
     Ok((parts, waiting))
 }
 
-// The only worker of a day, its board, and a screen of the day's first stock.
-fn only_worker<'p, 'a, A: Allocator + Copy>(
+/// The only worker of a day, its board, and a screen of the day's first stock.
+pub fn only_worker<'p, 'a, A: Allocator + Copy>(
     alloc: A,
     parts: &'p Parts<A>,
     waiting: Waiting<'a, A>,
@@ -66,19 +67,20 @@ fn only_worker<'p, 'a, A: Allocator + Copy>(
     Ok((worker, board, screen))
 }
 
-// A worker's turn, after which its next one may be taken.
-fn turn<R: Threads + Wait + Sync, A: Allocator + Copy>(
+/// A worker's turn, after which its next one may be taken.
+pub fn turn<R: Threads + Wait + Sync, A: Allocator + Copy, G: Gate>(
     rt: &R,
     day: &Day<A>,
     board: &Board<'_, A>,
     worker: &mut Worker<'_, A>,
+    gate: &G,
 ) -> Result<Option<Piece>, AllocError>
     requires day { day.now.payloads ≡ worker.old.state.day }
     requires board { All (IsOn board.now) worker.old.places }
     ensures day { worker.new.state.day ≡ worker.old.state.day }
     ensures places { worker.new.places ≡ worker.old.places }
 {
-    worker.turn(rt, day, board, &FreeGate)
+    worker.turn(rt, day, board, gate)
 }
 
 // What becomes of a message.
@@ -120,7 +122,7 @@ fn follow<R: Threads + Wait + Sync, A: Allocator + Copy>(
     requires screen { IsOn board.now screen.old.place }
 {
     for after in wanted {
-        let piece = turn(rt, day, board, worker)?;
+        let piece = turn(rt, day, board, worker, &FreeGate)?;
         let words = words_of(screen.read(rt, board));
         same("a turn", &(piece, words), after)?;
         let looked = (turns.turn(0)?, turns.look(1));
@@ -298,7 +300,7 @@ fn lead<R: Threads + Wait + Sync, A: Allocator + Copy>(
     ensures places { IfOk result (λ _. worker.new.places ≡ worker.old.places) }
 {
     for wanted in turns {
-        let piece = turn(rt, day, board, worker)?;
+        let piece = turn(rt, day, board, worker, &FreeGate)?;
         same("an earlier turn", &piece, &wanted.0)?;
     }
     Ok(())
@@ -322,12 +324,12 @@ fn try_turn<R: Threads + Wait + Sync>(
     find_without_memory(*heap, &worker)?;
     let before = see(rt, *heap, &board, &worker, &mut screen);
     heap.restart(refusal);
-    let mut answer = turn(rt, &day, &board, &mut worker);
+    let mut answer = turn(rt, &day, &board, &mut worker, &FreeGate);
     let tried = heap.tried(answer.is_err());
     if tried.refused {
         let after = see(rt, *heap, &board, &worker, &mut screen);
         same("a refused turn", &after, &before)?;
-        answer = turn(rt, &day, &board, &mut worker);
+        answer = turn(rt, &day, &board, &mut worker, &FreeGate);
     }
     let (first, second, reading) = see(rt, *heap, &board, &worker, &mut screen);
     let (piece, one, two) = *wanted;
