@@ -2,7 +2,7 @@
 ghost use Rattle.std.specs.Prelude.{◌≡◌, ◌<◌, ◌≤◌, List, ℕ, [], ◌∷◌, length, drop, MatchOption, IfOk, slice_index_or};
 ghost use Rattle.byte_strings.specs.Bytes.{AreBytes};
 ghost use Rattle.binaryfile.specs.Entries.{marker};
-ghost use Rattle.binaryfile.specs.Index.{offset, payloads_of, IsIndex};
+ghost use Rattle.binaryfile.specs.Index.{offset, payloads_of, IsIndex, IsPlace};
 ghost use Rattle.binaryfile.specs.Scanned.{contents_of};
 
 use crate::STRIDE;
@@ -13,6 +13,24 @@ use std::alloc::{AllocError, Allocator};
 pub(crate) struct Extent {
     pub(crate) count: usize,
     pub(crate) end: usize,
+}
+
+/// Where an entry of a day begins, or where the entries end. From there one of the next payloads is found sooner than by
+/// its number alone. It is of this project.
+#[derive(Clone, Copy)]
+pub struct Place {
+    // How many entries stand before it.
+    pub(crate) number: usize,
+    pub(crate) at: usize,
+}
+
+impl Place {
+    /// Where the first entry of any day begins.
+    pub fn first() -> Place
+        ensures { (payloads : List (List ℕ)) → IsPlace payloads result }
+    {
+        Place { number: 0, at: 0 }
+    }
 }
 
 /// The payload of the first entry and the bytes after that entry, where a whole one stands there.
@@ -53,21 +71,33 @@ pub(crate) fn entries_extent(bytes: &[u8]) -> Extent
     Extent { count, end }
 }
 
-// The place of the entry of this number, counted from 0.
-fn entry_place(bytes: &[u8], starts: &[u64], number: usize) -> usize
-    requires index { IsIndex starts.now bytes.now }
+// The place of the entry of this number, counted from 0, by that of an earlier one.
+fn place_from(bytes: &[u8], from: usize, place: usize, number: usize) -> usize
+    requires order { from ≤ number }
     requires number { number < length (payloads_of bytes.now) }
+    requires place { place ≡ offset (payloads_of bytes.now) from }
     ensures place { result ≡ offset (payloads_of bytes.now) number }
     ensures within { result ≤ length bytes.now }
 {
-    let mut at = starts[number / STRIDE] as usize;
-    for _ in 0..number % STRIDE {
+    let mut at = place;
+    for _ in from..number {
         match first_payload(&bytes[at..]) {
             Some(payload) => at += 2 + payload.len(),
             None => unreachable!(),
         }
     }
     at
+}
+
+// The place of the entry of this number, counted from 0, by the index.
+fn entry_place(bytes: &[u8], starts: &[u64], number: usize) -> usize
+    requires index { IsIndex starts.now bytes.now }
+    requires number { number < length (payloads_of bytes.now) }
+    ensures place { result ≡ offset (payloads_of bytes.now) number }
+    ensures within { result ≤ length bytes.now }
+{
+    let entry = number / STRIDE;
+    place_from(bytes, entry * STRIDE, starts[entry] as usize, number)
 }
 
 /// The places of the entries whose number from 0 is a multiple of `STRIDE`, in one block.
@@ -112,6 +142,46 @@ pub(crate) fn nth_payload<'a>(bytes: &'a [u8], starts: &[u64], number: usize) ->
     let at = entry_place(bytes, starts, number);
     match first_payload(&bytes[at..]) {
         Some(payload) => payload,
+        None => unreachable!(),
+    }
+}
+
+// The place of the entry of this number, counted from 0: by a place that stands a little before it, or else by the index.
+fn place_near(bytes: &[u8], starts: &[u64], near: Place, number: usize) -> usize
+    requires index { IsIndex starts.now bytes.now }
+    requires number { number < length (payloads_of bytes.now) }
+    requires near { IsPlace (payloads_of bytes.now) near }
+    ensures place { result ≡ offset (payloads_of bytes.now) number }
+    ensures within { result ≤ length bytes.now }
+{
+    if near.number <= number && number - near.number < STRIDE {
+        place_from(bytes, near.number, near.at, number)
+    } else {
+        entry_place(bytes, starts, number)
+    }
+}
+
+/// The payload of this number, counted from 0, which is looked for from a place on where that is a little before it. The
+/// place is that of the next entry then.
+pub(crate) fn payload_near<'a>(
+    bytes: &'a [u8],
+    starts: &[u64],
+    near: &mut Place,
+    number: u32,
+) -> &'a [u8]
+    requires index { IsIndex starts.now bytes.now }
+    requires number { number < length (payloads_of bytes.now) }
+    requires near { IsPlace (payloads_of bytes.now) near.old }
+    ensures payload { result.now ≡ slice_index_or (payloads_of bytes.entry.now) number result.now }
+    ensures near { IsPlace (payloads_of bytes.entry.now) near.new }
+{
+    let at = place_near(bytes, starts, *near, number as usize);
+    match first_payload(&bytes[at..]) {
+        Some(payload) => {
+            near.number = number as usize + 1;
+            near.at = at + 2 + payload.len();
+            payload
+        }
         None => unreachable!(),
     }
 }

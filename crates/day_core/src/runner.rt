@@ -1,6 +1,7 @@
 //! One worker without threads.
 ghost use Rattle.std.specs.Prelude.{◌≡◌, ◌<◌, ◌≤◌, ℕ, true, IfOk, IfSome, MatchOption, OnErr, length, map, slice_get, slice_index};
 ghost use Rattle.std.specs.List.{Contains};
+ghost use Rattle.binaryfile.specs.Index.{IsPlace};
 ghost use Rattle.itch_table.specs.declared.outcome.Part.TheVariants.{Locate};
 ghost use Rattle.itch_table.specs.Projection.{payload_at};
 ghost use Rattle.day_core.specs.Owners.{is_own, own_locates, part_at};
@@ -9,7 +10,7 @@ ghost use Rattle.day_core.specs.Workers.{MayGrowNext, TakesTurn, first_state, ma
 use crate::merging::Piece;
 use crate::parts::Parts;
 use crate::places::Places;
-use binaryfile::Day;
+use binaryfile::{Day, Place};
 use itch_table::{Part, part};
 use std::alloc::{AllocError, Allocator};
 use std::marker::Model;
@@ -34,11 +35,14 @@ pub struct Runner<'p, A: Allocator> {
     parts: &'p Parts<A>,
     worker: u32,
     done: usize,
+    // A place of the day, after the last message that was looked for.
+    near: Place,
     places: Places<A>,
     stocks: Vec<Stock<A>, A>,
 }
 
 impl<'p, A: Allocator> Model for Runner<'p, A> {
+    ghost use Rattle.binaryfile.specs.Index.{IsPlace};
     ghost use Rattle.day_core.specs.Splitting.{Split};
     ghost use Rattle.day_core.specs.Workers.{IsRunner, WorkerState, state_in};
 
@@ -46,7 +50,8 @@ impl<'p, A: Allocator> Model for Runner<'p, A> {
 
     ghost view = { λ r. state_in r.parts.now r.worker r.done };
 
-    ghost invariant = { λ r. IsRunner (state_in r.parts.now r.worker r.done) r.places r.stocks.items };
+    ghost invariant = { λ r. IsRunner (state_in r.parts.now r.worker r.done) r.places r.stocks.items
+        × IsPlace r.parts.now.day r.near };
 }
 
 // The locate codes of a worker's stocks.
@@ -82,9 +87,11 @@ fn new_stocks<A: Allocator + Copy>(
     Ok(stocks)
 }
 
-// A worker's message: its payload, and the place of its stock among the worker's.
+// A worker's message: its payload, and the place of its stock among the worker's. It is looked for from a place of the day
+// on, which stands after it then.
 fn message_of<'d, A: Allocator>(
     day: &'d Day<A>,
+    near: &mut Place,
     places: &Places<A>,
     message: u32,
 ) -> (&'d [u8], usize)
@@ -92,11 +99,13 @@ fn message_of<'d, A: Allocator>(
     requires last { message ≤ length day.now.payloads }
     requires own { (workers worker : ℕ) × (places.now ≡ own_locates workers worker day.now.payloads)
         × (is_own workers worker (part_at day.now.payloads message) ≡ true) }
+    requires near { IsPlace day.now.payloads near.old }
+    ensures near { IsPlace day.now.payloads near.new }
     ensures payload { result.0.now ≡ payload_at day.now.payloads message }
     ensures within { result.1 < length places.now }
     ensures stock { part_at day.now.payloads message ≡ Locate (slice_index places.now result.1) }
 {
-    let payload = day.payload(message);
+    let payload = day.payload_near(near, message);
     let Part::Locate(locate) = part(payload) else {
         unreachable!()
     };
@@ -119,6 +128,7 @@ impl<'p, A: Allocator + Copy> Runner<'p, A> {
             parts,
             worker,
             done: 0,
+            near: Place::first(),
             places,
             stocks,
         })
@@ -143,7 +153,7 @@ impl<'p, A: Allocator + Copy> Runner<'p, A> {
             return Ok(None);
         }
         let message = own[self.done];
-        let (payload, place) = message_of(day, &self.places, message);
+        let (payload, place) = message_of(day, &mut self.near, &self.places, message);
         let outcome = self.stocks[place].step(payload)?;
         self.done += 1;
         Ok(Some(Turned {
@@ -154,11 +164,20 @@ impl<'p, A: Allocator + Copy> Runner<'p, A> {
 }
 
 impl<'p, A: Allocator + Copy> Runner<'p, A> {
+    /// A place of the day, not far before the worker's next message.
+    pub fn near(&self) -> Place
+        ensures { IsPlace self.now.day result }
+    {
+        self.near
+    }
+
     /// The place of the stock of a message to come, `ahead` messages after the worker's next one; none after its last
-    /// message. The caller hands the day that was split.
-    pub fn place_ahead(&self, day: &Day<A>, ahead: usize) -> Option<usize>
-        requires { day.now.payloads ≡ self.now.day }
-        ensures { IfSome result (λ place. place < length (worker_locates self.now)) }
+    /// message. The caller passes the day that was split, and a place of it, which stands after the message then.
+    pub fn place_ahead(&self, day: &Day<A>, near: &mut Place, ahead: usize) -> Option<usize>
+        requires day { day.now.payloads ≡ self.now.day }
+        requires near { IsPlace day.now.payloads near.old }
+        ensures near { IsPlace day.now.payloads near.new }
+        ensures place { IfSome result (λ place. place < length (worker_locates self.now)) }
     {
         let index = self.done.saturating_add(ahead);
         let own = self.parts.own(self.worker);
@@ -166,7 +185,7 @@ impl<'p, A: Allocator + Copy> Runner<'p, A> {
             return None;
         }
         let message = own[index];
-        let (_, place) = message_of(day, &self.places, message);
+        let (_, place) = message_of(day, near, &self.places, message);
         Some(place)
     }
 }

@@ -116,8 +116,9 @@ impl<'p, A: Allocator + Copy> Worker<'p, A> {
             return AHEAD - 1;
         }
         let mut places = [0; AHEAD];
+        let mut near = self.runner.near();
         for message in 0..AHEAD {
-            if let Some(place) = self.runner.place_ahead(day, message) {
+            if let Some(place) = self.runner.place_ahead(day, &mut near, message) {
                 places[message] = place;
             }
         }

@@ -10,22 +10,22 @@ use Rattle.day_core.proofs.runner.message_of.Goals as goal
 pub unreachable-requires : goal.unreachable-requires
 unreachable-requires g c =
     let own = c.requires.own in
-    let here = payload_is c.args.day.now.payloads c.args.message _ c.requires.first c.requires.last c.payload-payload.ensures in
+    let here = payload_is c.args.day.now.payloads c.args.message _ c.requires.first c.requires.last c.payload_near-payload.ensures.payload in
     false≢true (ap (is_own own.0 own.1) (c.in_default.ensures ∙ ap part here) ∙ own.3)
 
 pub unreachable-requires-in_default-place_of : goal.unreachable-requires-in_default-place_of
 unreachable-requires-in_default-place_of g c =
     let own = c.requires.own in
     let day = c.args.day.now.payloads in
-    let here = payload_is day c.args.message _ c.requires.first c.requires.last c.payload-payload.ensures in
+    let here = payload_is day c.args.message _ c.requires.first c.requires.last c.payload_near-payload.ensures.payload in
     let mine = c.in-Locate.ensures ∙ ap part here in
     let there = code_there own.0 own.1 day c.args.message c.in-Locate.locate (omega arith) (omega arith) (omega arith) (sym mine) (ap (is_own own.0 own.1) mine ∙ own.3) in
     c.in_default-place_of.ensures (subst (λ (ls : List ℕ). Contains ls c.in-Locate.locate) (sym own.2) there)
 
 pub returns-clause-payload : goal.returns-clause-payload
-returns-clause-payload g c = payload_is c.args.day.now.payloads c.args.message _ c.requires.first c.requires.last c.payload-payload.ensures
+returns-clause-payload g c = payload_is c.args.day.now.payloads c.args.message _ c.requires.first c.requires.last c.payload_near-payload.ensures.payload
 
 pub returns-clause-stock : goal.returns-clause-stock
 returns-clause-stock g c =
-    let here = payload_is c.args.day.now.payloads c.args.message _ c.requires.first c.requires.last c.payload-payload.ensures in
+    let here = payload_is c.args.day.now.payloads c.args.message _ c.requires.first c.requires.last c.payload_near-payload.ensures.payload in
     sym (c.in-Locate.ensures ∙ ap part here) ∙ ap Locate (sym (c.in-Some.ensures.1))
