@@ -10,3 +10,4 @@ pub mod StocksByWorker
 pub mod Showing
 mod Turning
 mod Scheduled
+mod NeverBack
