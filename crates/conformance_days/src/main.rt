@@ -1,7 +1,7 @@
 //! Leads each day file that is named, and for the word `random` days at random, through the plain machine, through a
 //! machine for each of their stocks, through the parts of several numbers of workers, one after another and in threads,
-//! and through a debugger, and compares what they say. It prints a line for each file and one for the days at random,
-//! and ends with status 1 where two differ.
+//! through the tracks of their stocks, and through a debugger, and compares what they say. It prints a line for each
+//! file and some for the days at random, and ends with status 1 where two differ.
 #![tactic(auto)]
 
 mod comparing;
@@ -13,6 +13,7 @@ mod random_days;
 mod stops;
 mod tally;
 mod texts;
+mod tracks;
 mod workers;
 
 use binaryfile::{Day, Feed, Limits};
@@ -38,6 +39,7 @@ fn compare_day<R: Threads + Wait + Sync, A: Allocator + Copy + Send + Sync>(
     let stocks = day::compare(alloc, day)?;
     workers::compare_workers(rt, alloc, day)?;
     places::compare_places(alloc, day)?;
+    tracks::compare_tracks(alloc, day)?;
     Ok(stocks)
 }
 
@@ -59,12 +61,14 @@ fn compare_file<R: Runtime + AllocGlobal + Threads + Wait + Sync>(
     }
 }
 
-// Compares the machines over days at random, and prints how many there are, how often each outcome occurs, and how many
-// changed texts denote a file.
+// Compares the machines over days at random, and prints how many there are, how often each outcome occurs, how many
+// changed texts denote a file, and how many stocks a wide day has.
 fn compare_random<R: Runtime + AllocGlobal + Threads + Wait + Sync>(rt: &R) -> Result<(), Fail> {
     let (tally, assembled) = random_days::compare_random_days(rt, rt.alloc())?;
+    let stocks = random_days::compare_wide_day(rt, rt.alloc())?;
     match println!(rt;
-        "at random: {} days, {} messages each\n{tally}\nchanged texts that denote a file {assembled}",
+        "at random: {} days, {} messages each\n{tally}\nchanged texts that denote a file {assembled}\n\
+        a day at random of {stocks} stocks",
         random_days::DAYS,
         random_days::MESSAGES
     ) {

@@ -3,8 +3,8 @@ use crate::comparing::{same_stock, step};
 use binaryfile::Day;
 use day_core::locates;
 use debugger::Debugger;
-use itch_table::{Outcome, Plain};
-use std::alloc::Allocator;
+use itch_table::{Outcome, Part, Plain, part};
+use std::alloc::{AllocError, Allocator};
 use std::test::Fail;
 use support::same;
 
@@ -25,15 +25,38 @@ fn plain_at<A: Allocator + Copy>(
     Ok((plain, outcome))
 }
 
+// How many of the first messages of a day are of each of these stocks, whose locate codes rise.
+fn steps_at<A: Allocator + Copy>(
+    alloc: A,
+    day: &Day<A>,
+    n: u32,
+    locates: &[u16],
+) -> Result<Vec<u32, A>, AllocError> {
+    let mut steps = vec![in alloc; 0u32; locates.len()]?;
+    for payload in day.payloads().take(n as usize) {
+        if let Part::Locate(locate) = part(payload)
+            && let Ok(place) = locates.binary_search(&locate)
+            && let Some(count) = steps.get_mut(place)
+        {
+            *count = count.saturating_add(1);
+        }
+    }
+    Ok(steps)
+}
+
 // Compares the stocks at a debugger's position with those of the plain machine.
 fn same_stocks_at<A: Allocator + Copy>(
     alloc: A,
     plain: &Plain<A>,
     debugger: &mut Debugger<'_, A>,
     locates: &[u16],
+    steps: &[u32],
 ) -> Result<(), Fail> {
-    for locate in locates {
-        same_stock(alloc, plain, &debugger.stock(alloc, *locate)?)?;
+    for (locate, steps) in locates.iter().zip(steps) {
+        let stock = debugger.stock(alloc, *locate)?;
+        let found = (stock.locate(), stock.steps());
+        same("a stock and its steps", &found, &(*locate, *steps))?;
+        same_stock(alloc, plain, &stock)?;
     }
     Ok(())
 }
@@ -53,7 +76,8 @@ pub fn same_place<A: Allocator + Copy>(
         &(debugger.position(), debugger.outcome(), debugger.event()),
         &(n, outcome, plain.event()),
     )?;
-    same_stocks_at(alloc, &plain, debugger, locates)
+    let steps = steps_at(alloc, day, n, locates)?;
+    same_stocks_at(alloc, &plain, debugger, locates, &steps)
 }
 
 // Goes to a place, and compares all that is there with the plain machine.

@@ -8,6 +8,9 @@ use std::alloc::{AllocError, Allocator};
 use std::test::Fail;
 use support::{Ticker, add_entry, day_of, head, payload_of};
 
+// How many groups of four stocks a wide day has: more stocks than a debugger keeps tracks of.
+const GROUPS: u16 = 17;
+
 // The stock of a locate code from 1 to 4.
 fn ticker(locate: u16) -> Ticker {
     let symbol = match locate {
@@ -192,6 +195,45 @@ fn add_end<A: Allocator>(file: &mut Vec<u8, A>, random: &mut SmallRng) -> Result
     }
 }
 
+// Moves a payload to the stock of the same symbol in a later group of four.
+fn move_to_group(payload: &mut [u8], group: u16) {
+    let (Some(high), Some(low)) = (payload.get(1), payload.get(2)) else {
+        return;
+    };
+    let locate = u16::from_be_bytes([*high, *low]).wrapping_add(group.wrapping_mul(4));
+    for (byte, digit) in payload.iter_mut().skip(1).zip(&locate.to_be_bytes()) {
+        *byte = *digit;
+    }
+}
+
+// Adds an entry to a file.
+fn add_payload<A: Allocator>(file: &mut Vec<u8, A>, payload: &[u8]) -> Result<(), Fail> {
+    let length = u16::try_from(payload.len()).map_err(|_| Fail::new("a long payload"))?;
+    file.extend_from_slice(&length.to_be_bytes())?;
+    file.extend_from_slice(payload)?;
+    Ok(())
+}
+
+/// A day of the directory messages of 68 stocks, in groups of four that have the same symbols, and this many messages
+/// more, the same for the same seed.
+pub fn wide_day<A: Allocator + Copy>(alloc: A, seed: u64, messages: u32) -> Result<Day<A>, Fail> {
+    let mut random = SmallRng::seed_from_u64(seed);
+    let mut file = Vec::new(alloc);
+    for group in 0..GROUPS {
+        for locate in 1..=4 {
+            let mut payload = payload_of(alloc, &ticker(locate).directory())?;
+            move_to_group(&mut payload, group);
+            add_payload(&mut file, &payload)?;
+        }
+    }
+    for _ in 0..messages {
+        let mut payload = any_payload(alloc, &mut random)?;
+        move_to_group(&mut payload, random.random_range(0..GROUPS));
+        add_payload(&mut file, &payload)?;
+    }
+    day_of(alloc, file)
+}
+
 /// A day of the directory messages of three stocks and this many messages more, the same for the same seed.
 pub fn random_day<A: Allocator + Copy>(alloc: A, seed: u64, messages: u32) -> Result<Day<A>, Fail> {
     let mut random = SmallRng::seed_from_u64(seed);
@@ -201,9 +243,7 @@ pub fn random_day<A: Allocator + Copy>(alloc: A, seed: u64, messages: u32) -> Re
     }
     for _ in 0..messages {
         let payload = any_payload(alloc, &mut random)?;
-        let length = u16::try_from(payload.len()).map_err(|_| Fail::new("a long payload"))?;
-        file.extend_from_slice(&length.to_be_bytes())?;
-        file.extend_from_slice(&payload)?;
+        add_payload(&mut file, &payload)?;
     }
     add_end(&mut file, &mut random)?;
     day_of(alloc, file)

@@ -1,7 +1,7 @@
 //! Days at random, through all machines, the debugger and the text form.
 use crate::compare_day;
 use crate::places::compare_walk;
-use crate::random::random_day;
+use crate::random::{random_day, wide_day};
 use crate::stops::compare_stops;
 use crate::tally::Tally;
 use crate::texts::compare_texts;
@@ -61,6 +61,18 @@ fn compare_moves<A: Allocator + Copy>(alloc: A, day: &Day<A>) -> Result<(), Fail
         compare_stops(alloc, day, breakpoint, &locates)?;
     }
     Ok(())
+}
+
+/// Compares the machines over a day at random of more stocks than a debugger keeps tracks of, and the debugger at each
+/// of its places, so that it drops tracks and makes them again. Answers how many stocks have messages.
+pub fn compare_wide_day<R: Threads + Wait + Sync, A: Allocator + Copy + Send + Sync>(
+    rt: &R,
+    alloc: A,
+) -> Result<usize, Fail> {
+    let day = wide_day(alloc, DAYS, MESSAGES)?;
+    let stocks = compare_day(rt, alloc, &day)?;
+    compare_walk(alloc, &day, &locates(alloc, &day)?)?;
+    Ok(stocks)
 }
 
 /// Compares the machines, the debugger and the texts over days at random, and fails too where an outcome is rare.

@@ -11,3 +11,4 @@ pub mod StocksByWorker
 pub mod Showing
 mod Turning
 mod Scheduled
+mod NeverBack

@@ -1,6 +1,6 @@
 -- Schedules: turns of a day's workers and looks of screens, in any order. All is of this project.
-use Rattle.std.specs.Prelude.{◌≡◌, ◌==◌, ℕ, Bool, false, List, [], ◌∷◌, Option, Some, None, count_by, length, map, min, slice_get, take}
-use Rattle.std.specs.List.{flat_map, range_with_len}
+use Rattle.std.specs.Prelude.{◌≡◌, ◌≤◌, ◌==◌, ℕ, Bool, false, List, [], ◌∷◌, Option, Some, None, count_by, length, map, min, slice_get, slice_index, take}
+use Rattle.std.specs.List.{AllPairs, flat_map, range_with_len}
 use Rattle.day_core.specs.declared.merging.Piece.{Piece}
 use Rattle.day_core.specs.declared.playing.Event.{Event}
 use Rattle.day_core.specs.declared.playing.Event.TheVariants.{Look, Turn}
@@ -44,6 +44,19 @@ seen_until day workers events count =
 -- what these events show, in order
 abbrev pub seen_by : List (List ℕ) → ℕ → List Event → List Seen
 seen_by day workers events = seen_until day workers events (length events)
+
+-- the message after which a look shows its stock, or 0 before the first: the first of its four words
+abbrev pub message_seen : Seen → ℕ
+message_seen seen = slice_index seen.words 0
+
+-- a later look at the same stock shows no earlier message
+abbrev pub IsNotBack : Seen → Seen → Type 0
+IsNotBack earlier later = earlier.locate ≡ later.locate → message_seen earlier ≤ message_seen later
+
+-- no look of a schedule shows an earlier message than one before it
+abbrev pub SeenNeverGoesBack : Type 0
+SeenNeverGoesBack =
+    (day : List (List ℕ)) (workers : ℕ) (events : List Event) → AllPairs IsNotBack (seen_by day workers events)
 
 -- ---- one event
 

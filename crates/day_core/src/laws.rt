@@ -3,7 +3,7 @@ ghost use Rattle.std.specs.Prelude.{◌≡◌, ◌++◌, ◌≤◌, ℕ, List, l
 ghost use Rattle.itch_table.specs.Shows.{Shows};
 ghost use Rattle.day_core.specs.Cells.{shown};
 ghost use Rattle.day_core.specs.Owners.{machine_of, own_of, owner, progress};
-ghost use Rattle.day_core.specs.Schedules.{done_after};
+ghost use Rattle.day_core.specs.Schedules.{SeenNeverGoesBack, done_after};
 ghost use Rattle.day_core.specs.declared.playing.Event.{Event};
 
 /// Once a stock's worker has done all of its messages, the stock's machine is the one after the whole day, for every
@@ -29,12 +29,14 @@ pub fn looks_show_their_stock()
 {}
 
 /// Looks at a stock never go back: after more events a look shows the stock as it was shown before, or after a later
-/// message.
+/// message (`progress`). So of two looks at one stock that a schedule lists, the later one never shows an earlier
+/// message (`seen`).
 ///
 /// The law is of this project.
-#[tactic(auto, using(crate::proofs::Scheduled::looks_rise))]
+#[tactic(auto, using(crate::proofs::NeverBack::never_back))]
 pub fn looks_never_go_back()
-    ensures { (day : List (List ℕ)) (workers locate : ℕ) (before more : List Event) →
+    ensures progress { (day : List (List ℕ)) (workers locate : ℕ) (before more : List Event) →
         progress day workers locate (done_after day workers before (owner workers locate))
         ≤ progress day workers locate (done_after day workers (before ++ more) (owner workers locate)) }
+    ensures seen { SeenNeverGoesBack }
 {}

@@ -94,11 +94,11 @@ then_keeps u v w first next = record {
 
 -- ---- what has passed where no check fails
 
-holds_by : (b : Bool) (fault : Fault) (rest : List (Option Fault)) → first_fault (refuse_unless b fault ∷ rest) ≡ None → b ≡ true
+pub holds_by : (b : Bool) (fault : Fault) (rest : List (Option Fault)) → first_fault (refuse_unless b fault ∷ rest) ≡ None → b ≡ true
 holds_by true fault rest none = refl
 holds_by false fault rest none = cc
 
-rest_by : (o : Option Fault) (rest : List (Option Fault)) → first_fault (o ∷ rest) ≡ None → first_fault rest ≡ None
+pub rest_by : (o : Option Fault) (rest : List (Option Fault)) → first_fault (o ∷ rest) ≡ None → first_fault rest ≡ None
 rest_by None rest none = none
 rest_by (Some fault) rest none = cc
 

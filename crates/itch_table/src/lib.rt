@@ -18,7 +18,8 @@ mod trades;
 
 pub use following::follow;
 pub use laws::{
-    days_split_by_stock, levels_are_sums, locates_are_parts, one_row_of_words, own_rows_suffice,
+    better_levels_come_first, days_split_by_stock, levels_are_sums, lists_split_by_stock,
+    live_orders_have_shares, locates_are_parts, one_row_of_words, own_rows_suffice,
     references_stay_spent, stocks_are_independent,
 };
 pub use levels::levels_of;
