@@ -4,7 +4,7 @@ use Rattle.top_cell.specs.declared.rule.View.{View}
 use Rattle.top_cell.specs.declared.rule.View.TheVariants.{ScreenOf}
 use Rattle.top_cell.specs.Rule.{sight}
 
--- the try has the word that was loaded behind those that it had
+-- the try has the word that was loaded after those that it had
 abbrev pub ReaderTook : ℕ → View → View → Type 0
 ReaderTook word (ScreenOf stock v) after =
     (words : List ℕ) × (v.taken ≡ Some words) × (length words < 4)
