@@ -33,9 +33,9 @@ impl Gate for Noting {
     }
 }
 
-// Takes the turns of the only worker of two stocks under a refusal, and one more where none of its seven messages is left.
-// A turn that is refused is taken again with memory. The gate was called once for each try, with the message of that
-// turn, and not at all where no message was left.
+// Takes the turns of the only worker of two stocks under a refusal, and one more where none of its seven messages is
+// left. A turn that is refused is taken again with memory. The gate was called once for each try, with the message of
+// that turn, and not at all where no message was left.
 fn take_turns<'h, R: Threads + Wait + Sync>(
     rt: &R,
     heap: &'h Refusing<Global>,
