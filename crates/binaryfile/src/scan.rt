@@ -15,8 +15,8 @@ pub(crate) struct Extent {
     pub(crate) end: usize,
 }
 
-/// Where an entry of a day begins, or where the entries end. From there one of the next payloads is found sooner than by
-/// its number alone. It is of this project.
+/// Where an entry of a day begins, or where the entries end. From there one of the next payloads is found sooner than
+/// by its number alone. It is of this project.
 #[derive(Clone, Copy)]
 pub struct Place {
     // How many entries stand before it.
@@ -146,7 +146,8 @@ pub(crate) fn nth_payload<'a>(bytes: &'a [u8], starts: &[u64], number: usize) ->
     }
 }
 
-// The place of the entry of this number, counted from 0: by a place that stands a little before it, or else by the index.
+// The place of the entry of this number, counted from 0: by a place that stands a little before it, or else by the
+// index.
 fn place_near(bytes: &[u8], starts: &[u64], near: Place, number: usize) -> usize
     requires index { IsIndex starts.now bytes.now }
     requires number { number < length (payloads_of bytes.now) }
@@ -161,8 +162,8 @@ fn place_near(bytes: &[u8], starts: &[u64], near: Place, number: usize) -> usize
     }
 }
 
-/// The payload of this number, counted from 0, which is looked for from a place on where that is a little before it. The
-/// place is that of the next entry then.
+/// The payload of this number, counted from 0, which is looked for from a place on where that is a little before it.
+/// The place is that of the next entry then.
 pub(crate) fn payload_near<'a>(
     bytes: &'a [u8],
     starts: &[u64],

@@ -1,9 +1,9 @@
 -- A stretch of a day that is being dealt to its workers: one message more, and the stretch after it.
-use Rattle.std.proofs.Common.{◌≡◌, ℕ, ◌+◌, ◌-◌, ◌%◌, ◌<◌, ◌≤◌, List, [], ◌∷◌, ◌++◌, length, drop, get_or, set, map, filter, replicate, cond, Bool, true, false, ◌||◌, Option, Some, None, refl, ap, sym, ◌∙◌, arith, inl, inr, subst, append-nil}
+use Rattle.std.proofs.Common.{◌≡◌, ℕ, ◌+◌, ◌-◌, ◌%◌, ◌<◌, ◌≤◌, List, [], ◌∷◌, ◌++◌, length, drop, get_or, set, map, filter, replicate, cond, Bool, true, false, ◌||◌, Option, Some, None, refl, ap, sym, ◌∙◌, arith, inl, inr, append-nil}
 use Rattle.std.specs.List.{range_with_len}
 use Rattle.std.proofs.lemmas.Bool.{cases_eq, eq-eqb, ne_eqb}
 use Rattle.std.proofs.lemmas.Nat.{mod_below}
-use Rattle.std.proofs.lemmas.List.{append_assoc, get_or_default, drop_more, length-drop, get_or-set_same, get_or-set_other, get_or-replicate, length-replicate, length-set, map-append}
+use Rattle.std.proofs.lemmas.List.{append_assoc, get_or_default, get_or-set_same, get_or-set_other, get_or-replicate, length-replicate, length-set, map-append}
 use Rattle.itch_layouts.specs.Shapes.{shape_of}
 use Rattle.itch_layouts.specs.declared.message.Msg.TheVariants.{System}
 use Rattle.itch_layouts.specs.declared.shape.Shape.{Shape}
@@ -22,7 +22,7 @@ use Rattle.itch_table.proofs.StockDays.{outcomes_stay_fixed}
 use Rattle.day_core.specs.declared.merging.Piece.{Piece}
 use Rattle.day_core.specs.Splitting.{AreDealt}
 use Rattle.day_core.specs.Stretches.{AreSeen, IsStretch}
-use Rattle.day_core.proofs.StocksSeen.{seen_both, seen_nowhere, seen_own}
+use Rattle.day_core.proofs.StocksSeen.{next_of, seen_both, seen_nowhere, seen_own}
 use Rattle.std.specs.Option.{option_or}
 use Rattle.day_core.proofs.Kept.{kept_more}
 use Rattle.day_core.specs.Owners.{fixed_until, is_nowhere, is_own, own_until, part_at, piece_of}
@@ -75,17 +75,14 @@ begun day left workers from seen own fixed event is within none empty nothing ne
 
 module _ (day left rest : List (List ℕ)) (workers from n : ℕ) (seen : List Bool) (own : List (List ℕ)) (fixed : List Piece) (event : Option ℕ)
     (before : IsDealing day left workers from n seen own fixed event) (payload : List ℕ) (goes_on : left ≡ payload ∷ rest) where
-  pub one_more : n + 1 ≤ length day
-  one_more = omega (arith, ap length (sym before.rest ∙ goes_on), length-drop n day)
+  next : (n + 1 ≤ length day) × (rest ≡ drop (n + 1) day) × (get_or day n [] ≡ payload)
+  next = next_of day left rest n payload before.rest goes_on
 
-  both : get_or day n [] ∷ drop (n + 1) day ≡ payload ∷ rest
-  both = let within : n < length day = omega (arith, one_more) in sym (drop_more day n [] within) ∙ sym before.rest ∙ goes_on
-
-  left_then : rest ≡ drop (n + 1) day
-  left_then = let e = both in cc
+  one_more : n + 1 ≤ length day
+  one_more = next.0
 
   at : get_or day n [] ≡ payload
-  at = let e = both in cc
+  at = next.2
 
   here : part_at day (n + 1) ≡ part payload
   here =
@@ -119,7 +116,7 @@ module _ (day left rest : List (List ℕ)) (workers from n : ℕ) (seen : List B
       let kept = before.dealt.own_are in
       record {
         within = one_more;
-        rest = left_then;
+        rest = next.1;
         dealt = record {
           seen_are = seen_own day from n seen before.dealt.seen_are (omega (arith, one_more)) payload at locate is;
           own_long = length-set own owner pushed ∙ before.dealt.own_long;
@@ -147,7 +144,7 @@ module _ (day left rest : List (List ℕ)) (workers from n : ℕ) (seen : List B
       let piece : Piece = record { message = n + 1; outcome = outcome } in
       record {
         within = one_more;
-        rest = left_then;
+        rest = next.1;
         dealt = record {
           seen_are = seen_nowhere day from n seen before.dealt.seen_are (omega (arith, one_more)) payload at outcome is;
           own_long = before.dealt.own_long;

@@ -1,5 +1,5 @@
 -- The stocks that have messages in a stretch of a day: one message more, two stretches, and a whole day.
-use Rattle.std.proofs.Common.{◌≡◌, ℕ, zero, suc, ◌+◌, ◌<◌, ◌≤◌, ◌||◌, List, ◌∷◌, length, drop, get_or, set, take, filter, Bool, true, false, ap, sym, subst, refl, ◌∙◌, arith, inl, inr, []}
+use Rattle.std.proofs.Common.{◌≡◌, ℕ, zero, suc, ◌+◌, ◌<◌, ◌≤◌, ◌||◌, List, ◌∷◌, length, drop, get_or, set, filter, Bool, true, false, ap, sym, subst, refl, ◌∙◌, arith, inl, inr, []}
 use Rattle.std.proofs.Math.Bool.{or-true, or_assoc}
 use Rattle.std.specs.List.{list_any, range_with_len}
 use Rattle.std.proofs.lemmas.Bool.{cases_eq, eq-eqb, ne_eqb}
@@ -61,7 +61,7 @@ module _ (day : List (List ℕ)) (from n : ℕ) (seen : List Bool) (before : Are
 -- ---- one payload of a pass more
 
 -- the payload that comes next, in a day of which the first n have come
-next_of : (day left rest : List (List ℕ)) (n : ℕ) (payload : List ℕ) → left ≡ drop n day → left ≡ payload ∷ rest
+pub next_of : (day left rest : List (List ℕ)) (n : ℕ) (payload : List ℕ) → left ≡ drop n day → left ≡ payload ∷ rest
     → (n + 1 ≤ length day) × (rest ≡ drop (n + 1) day) × (get_or day n [] ≡ payload)
 next_of day left rest n payload is goes_on =
     let within : n < length day = omega (arith, ap length (sym is ∙ goes_on), length-drop n day) in

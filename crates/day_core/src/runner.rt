@@ -87,8 +87,8 @@ fn new_stocks<A: Allocator + Copy>(
     Ok(stocks)
 }
 
-// A worker's message: its payload, and the place of its stock among the worker's. It is looked for from a place of the day
-// on, which stands after it then.
+// A worker's message: its payload, and the place of its stock among the worker's. It is looked for from a place of the
+// day on, which stands after it then.
 fn message_of<'d, A: Allocator>(
     day: &'d Day<A>,
     near: &mut Place,

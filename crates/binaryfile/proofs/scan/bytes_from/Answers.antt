@@ -1,4 +1,3 @@
-use Rattle.std.proofs.Common.{◌∙◌, arith}
 use Rattle.binaryfile.proofs.ByteRanges.{bytes_are}
 use Rattle.binaryfile.proofs.Offsets.{read_at}
 use Rattle.binaryfile.proofs.scan.bytes_from.Goals as goal

@@ -1,4 +1,4 @@
-use Rattle.std.proofs.Common.{◌≡◌, ◌≤◌, ◌<◌, ℕ, length}
+use Rattle.std.proofs.Common.{◌≡◌, ◌≤◌, length}
 use Rattle.binaryfile.specs.Index.{offset, payloads_of}
 use Rattle.binaryfile.proofs.scan.place_from.Given as goal
 

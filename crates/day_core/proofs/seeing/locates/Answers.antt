@@ -1,4 +1,4 @@
-use Rattle.std.proofs.Common.{◌≡◌, ◌≤◌, ℕ, ◌+◌, List, Bool, [], drop, length, ap, sym, subst, ◌∙◌, arith}
+use Rattle.std.proofs.Common.{List, Bool, length, sym, subst, ◌∙◌, arith}
 use Rattle.std.proofs.lemmas.Result.{IfOk-weaker}
 use Rattle.day_core.specs.Stretches.{AreSeen}
 use Rattle.day_core.proofs.StocksSeen.{locates_are, passed_nowhere, passed_own, seen_all, seen_none}

@@ -1,4 +1,4 @@
-use Rattle.std.proofs.Common.{◌<◌, ◌^◌, ℕ, List, Bool, length, map, subst, sym, arith}
+use Rattle.std.proofs.Common.{List, Bool, length, subst, sym}
 use Rattle.day_core.specs.Stretches.{AreSeen}
 use Rattle.day_core.proofs.StocksSeen.{locates_are}
 use Rattle.day_core.proofs.Dealt.{dealt_all}

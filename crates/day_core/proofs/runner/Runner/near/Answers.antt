@@ -1,4 +1,4 @@
-use Rattle.std.proofs.Common.{ap, subst}
+use Rattle.std.proofs.Common.{subst}
 use Rattle.binaryfile.specs.Index.{IsPlace}
 use Rattle.day_core.specs.Workers.{WorkerState}
 use Rattle.day_core.proofs.runner.Runner.near.Goals as goal
