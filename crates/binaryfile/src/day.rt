@@ -142,8 +142,8 @@ impl<A: Allocator> Day<A> {
         )
     }
 
-    /// The same as [`Day::payload`], which is faster where a place of this day stands a little before the payload. The
-    /// place is the one after the payload then. A caller that comes to payloads in their order keeps one place.
+    /// The same as [`Day::payload`], which is faster where a place of this day stands a little before the payload. A
+    /// place for the payload after it is left there: a caller that comes to payloads in their order keeps one.
     pub fn payload_near(&self, near: &mut Place, number: u32) -> &[u8]
         requires first { 1 ≤ number }
         requires last { number ≤ length self.now.payloads }

@@ -163,7 +163,7 @@ fn place_near(bytes: &[u8], starts: &[u64], near: Place, number: usize) -> usize
 }
 
 /// The payload of this number, counted from 0, which is looked for from a place on where that is a little before it.
-/// The place is that of the next entry then.
+/// The place of the next entry is left there.
 pub(crate) fn payload_near<'a>(
     bytes: &'a [u8],
     starts: &[u64],

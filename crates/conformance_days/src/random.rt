@@ -195,7 +195,7 @@ fn add_end<A: Allocator>(file: &mut Vec<u8, A>, random: &mut SmallRng) -> Result
     }
 }
 
-// Moves a payload to the stock of the same symbol in a later group of four.
+// Moves a payload's locate code by whole groups of four, in which each symbol has a stock.
 fn move_to_group(payload: &mut [u8], group: u16) {
     let (Some(high), Some(low)) = (payload.get(1), payload.get(2)) else {
         return;

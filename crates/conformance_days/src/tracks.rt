@@ -1,5 +1,5 @@
 //! A day's stocks at each place by their tracks, beside the plain machine.
-ghost use Rattle.std.specs.Prelude.{◌≡◌, ◌<◌, IfOk};
+ghost use Rattle.std.specs.Prelude.{◌≡◌, IfOk};
 
 use crate::comparing::{same_stock, step};
 use binaryfile::Day;

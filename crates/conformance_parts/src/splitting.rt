@@ -149,7 +149,7 @@ fn a_day_without_memory_stays_whole(rt: HostRuntime) -> Result<(), Fail> {
     same("all growths", &growths, &6)
 }
 
-// Each of the 16 chunks takes two growths at least. Some are refused, with all after them.
+// Each of the 16 chunks takes two growths at least. Some are refused, alone and with all after them.
 #[test]
 fn a_long_day_without_memory_has_no_parts(rt: HostRuntime) -> Result<(), Fail> {
     let heap = Refusing::new(rt.alloc(), Refusal::Never);
@@ -161,12 +161,14 @@ fn a_long_day_without_memory_has_no_parts(rt: HostRuntime) -> Result<(), Fail> {
         &(true, false),
     )?;
     for growth in [1, 2, 20, whole.growths / 2] {
-        let tried = try_split(&rt, &heap, day.bytes(), 64, &[1, 2], Refusal::From(growth))?;
-        same(
-            "a refused growth",
-            &(growth, tried.refused),
-            &(growth, true),
-        )?;
+        for refusal in [Refusal::Only(growth), Refusal::From(growth)] {
+            let tried = try_split(&rt, &heap, day.bytes(), 64, &[1, 2], refusal)?;
+            same(
+                "a refused growth",
+                &(refusal, tried.refused),
+                &(refusal, true),
+            )?;
+        }
     }
     Ok(())
 }

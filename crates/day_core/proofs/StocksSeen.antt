@@ -1,6 +1,6 @@
 -- The stocks that have messages in a stretch of a day: one message more, two stretches, and a whole day.
 use Rattle.std.proofs.Common.{◌≡◌, ℕ, zero, suc, ◌+◌, ◌<◌, ◌≤◌, ◌||◌, List, ◌∷◌, length, drop, get_or, set, filter, Bool, true, false, ap, sym, subst, refl, ◌∙◌, arith, inl, inr, []}
-use Rattle.std.proofs.Math.Bool.{or-true, or_assoc}
+use Rattle.std.proofs.Math.Bool.{or-false, or-true, or_assoc}
 use Rattle.std.specs.List.{list_any, range_with_len}
 use Rattle.std.proofs.lemmas.Bool.{cases_eq, eq-eqb, ne_eqb}
 use Rattle.std.proofs.lemmas.List.{get_or-set_same, get_or-set_other, drop_more, length-drop, length-set, take_all}
@@ -11,10 +11,6 @@ use Rattle.itch_table.specs.Parts.{part}
 use Rattle.itch_table.specs.Projection.{is_of_stock}
 use Rattle.itch_table.specs.Shows.{locates_of_day}
 use Rattle.day_core.specs.Stretches.{AreSeen, has_until}
-
-pub or-false : (b : Bool) → (b || false) ≡ b
-or-false true = refl
-or-false false = refl
 
 -- none before the first message
 pub seen_none : (day : List (List ℕ)) (from : ℕ) (seen : List Bool) → length seen ≡ 0x1_0000 → ((k : ℕ) → k < 0x1_0000 → get_or seen k false ≡ false) → AreSeen day from from seen

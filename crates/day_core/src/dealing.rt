@@ -24,7 +24,7 @@ const MANY: u32 = 1 << 17;
 /// The messages of a stretch of a day, dealt to the workers of their stocks.
 #[derive(Drop)]
 pub(crate) struct Stretch<A: Allocator> {
-    /// At each locate code, whether its stock has messages in the stretch.
+    /// At each locate code, whether its stock has messages in the stretch; it says nothing of one that had some before.
     pub seen: Vec<bool, A>,
     /// Each worker's messages, by their numbers, rising.
     pub own: Vec<Vec<u32, A>, A>,
@@ -145,7 +145,7 @@ fn start_of(messages: u32, chunk: u32) -> u32
     chunk.saturating_mul(messages / CHUNKS + 1).min(messages)
 }
 
-// The chunks of a day, dealt by as many threads as there are processors.
+// The chunks of a day, each dealt by one thread.
 fn deal_chunks<R: Threads + Sync, A: Allocator + Copy + Send + Sync>(
     rt: &R,
     alloc: A,

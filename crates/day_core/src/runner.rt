@@ -88,7 +88,7 @@ fn new_stocks<A: Allocator + Copy>(
 }
 
 // A worker's message: its payload, and the place of its stock among the worker's. It is looked for from a place of the
-// day on, which stands after it then.
+// day, and another one, for the message after it, is left there.
 fn message_of<'d, A: Allocator>(
     day: &'d Day<A>,
     near: &mut Place,
@@ -164,7 +164,7 @@ impl<'p, A: Allocator + Copy> Runner<'p, A> {
 }
 
 impl<'p, A: Allocator + Copy> Runner<'p, A> {
-    /// A place of the day, not far before the worker's next message.
+    /// A place of the day, from which the worker's next messages are looked for.
     pub fn near(&self) -> Place
         ensures { IsPlace self.now.day result }
     {
@@ -172,7 +172,7 @@ impl<'p, A: Allocator + Copy> Runner<'p, A> {
     }
 
     /// The place of the stock of a message to come, `ahead` messages after the worker's next one; none after its last
-    /// message. The caller passes the day that was split, and a place of it, which stands after the message then.
+    /// message. The caller passes the day that was split, and a place of it.
     pub fn place_ahead(&self, day: &Day<A>, near: &mut Place, ahead: usize) -> Option<usize>
         requires day { day.now.payloads ≡ self.now.day }
         requires near { IsPlace day.now.payloads near.old }

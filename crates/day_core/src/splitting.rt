@@ -56,8 +56,9 @@ pub fn parts_of<R: Threads + Sync, A: Allocator + Copy + Send + Sync>(
 /// Splits a day into parts for this many workers, from 1 to 64.
 ///
 /// [`SplitFault::Workers`] where the number is another, which is looked at first, and else
-/// [`SplitFault::Memory`] where memory is refused; there are no parts after a fault. While it splits a long day it takes
-/// the memory of the parts' own lists twice. How a day is split is of this project.
+/// [`SplitFault::Memory`] where memory is refused; there are no parts after a fault. While a long day is split its
+/// messages stand in the parts' own lists and in those of its chunks; each list grows by doubling. How a day is split is
+/// of this project.
 pub fn split<R: Threads + Sync, A: Allocator + Copy + Send + Sync>(
     rt: &R,
     alloc: A,

@@ -30,7 +30,7 @@ none_has first reference rows differs =
     other : (row : RisenRow) → first + row.distance ≢ reference → IsOther first reference row
     other row differs = grind (arith, nat_tests)
 
--- no order is at the distance of the reference: those before a window of one at most are at lower ones, those after it at
+-- no order is at the distance of the reference: those before a window of at most one are at lower ones, those after at
 -- higher ones, and the one in it is at another
 pub missing : (first reference : ℕ) (rows : List RisenRow) (distance low count : ℕ) → first + distance ≡ reference → count ≤ 1
     → AllWithin (IsBelow distance) rows 0 low → AllWithin (IsAbove distance) rows (low + count) (length rows)
