@@ -4,54 +4,20 @@ ghost use Rattle.std.specs.List.{All, AllWithin};
 ghost use Rattle.std.specs.Bool.{IsTrue};
 ghost use Rattle.std.specs.FinMap as maps;
 ghost use Rattle.order_book.specs.Orders.{added, orders_in, reduced_by};
-ghost use Rattle.order_book.specs.Parts.{AreRising, IsAbove, IsBelow, IsFirst, IsLiveAt, has_shares, live_in, order_at, plain_row};
+ghost use Rattle.order_book.specs.Parts.{AreRising, IsAbove, IsBelow, IsLiveAt, has_shares, live_in};
 
-use itch_table::{Order, OrderRow, Side};
+use itch_table::{Order, OrderRow};
 use std::alloc::{AllocError, Allocator};
 use std::marker::Model;
 
-// An order of the list, without an attribution. It takes 16 bytes, so that a search reads few lines of memory.
-#[derive(Clone, Copy)]
-struct RisenRow {
-    // How far its reference is above the first.
-    distance: u32,
-    shares: u32,
-    price: u32,
-    side: Side,
-}
-
-impl RisenRow {
-    // The order without its reference.
-    fn row(self) -> OrderRow
-        ensures { result ≡ plain_row self }
-    {
-        OrderRow {
-            shares: self.shares,
-            price: self.price,
-            side: self.side,
-            attribution: None,
-        }
-    }
-
-    // The order, where this is the first reference.
-    fn order(self, first: u64) -> Order
-        requires { IsFirst first }
-        ensures { result ≡ order_at first self }
-    {
-        self.row().under(first + u64::from(self.distance))
-    }
-}
-
-/// Live orders that came with rising references and without an attribution.
+/// Live orders that came with rising references.
 ///
-/// They stand in a list in the order in which they came, each with the distance of its reference from the first, and a
-/// reference is found in it by halves. An order that goes stays in the list without shares, so that no other is moved;
-/// once more than half have gone all these are dropped.
+/// They stand in a list in the order in which they came, and a reference is found in it by halves. An order that
+/// goes stays in the list without shares, so that no other is moved; once more than half have gone all these are
+/// dropped.
 #[derive(Drop)]
 pub(crate) struct RisingOrders<A: Allocator> {
-    // The reference from which distances count: that of the first order that came into the list, or a lower one.
-    first: u64,
-    rows: Vec<RisenRow, A>,
+    orders: Vec<Order, A>,
     // How many have gone since those that had gone were last dropped.
     gone: usize,
 }
@@ -62,87 +28,56 @@ impl<A: Allocator> Model for RisingOrders<A> {
     ghost use Rattle.std.specs.Ordering.{nat_cmp};
     ghost use Rattle.itch_table.specs.contracts.order.OrderRow as order_row;
     ghost use Rattle.order_book.specs.Orders.{Orders};
-    ghost use Rattle.order_book.specs.Parts.{AreRising, IsFirst, live_in};
+    ghost use Rattle.order_book.specs.Parts.{AreRising, live_in};
 
     ghost Value = { Orders };
 
     ghost coded = { maps.code {R = nat_cmp} coded_ℕ order_row.the_row.coded };
 
-    ghost view = { λ r. live_in r.first r.rows.items };
+    ghost view = { λ r. live_in r.orders.items };
 
-    ghost invariant = { λ r. IsFirst r.first × AreRising r.rows.items };
+    ghost invariant = { λ r. AreRising r.orders.items };
 }
 
 // Whether an order of the list lives.
-fn is_live(row: &RisenRow) -> bool
-    ensures { result ≡ has_shares row.now }
+fn is_live(order: &Order) -> bool
+    ensures { result ≡ has_shares order.now }
 {
-    row.shares != 0
+    order.shares != 0
 }
 
-// The reference from which distances count once this one comes. Where the list is empty this one is the first, unless
-// 2^64 is too near: then it is a lower one, so that each distance leads to a reference that fits.
-fn first_with(first: u64, rows: &[RisenRow], reference: u64) -> u64
-    requires { IsFirst first }
-    ensures fits { IsFirst result }
-    ensures same { live_in result rows.now ≡ live_in first rows.now }
+// Whether a reference is above those of all orders.
+fn is_above_all(orders: &[Order], reference: u64) -> bool
+    requires { AreRising orders.now }
+    ensures { IsTrue result → All (IsBelow reference) orders.now }
 {
-    if rows.is_empty() {
-        reference.min(u64::MAX - u64::from(u32::MAX))
-    } else {
-        first
-    }
-}
-
-// The row of an order that has no attribution, and whose distance from the first reference fits.
-fn risen_from(first: u64, order: Order) -> Option<RisenRow>
-    ensures { IfSome result (λ row. order_at first row ≡ order) }
-{
-    if order.attribution.is_some() {
-        return None;
-    }
-    let distance = order.reference.checked_sub(first)?;
-    Some(RisenRow {
-        distance: u32::try_from(distance).ok()?,
-        shares: order.shares,
-        price: order.price,
-        side: order.side,
-    })
-}
-
-// Whether a distance is above those of all orders.
-fn is_above_all(rows: &[RisenRow], distance: u32) -> bool
-    requires { AreRising rows.now }
-    ensures { IsTrue result → All (IsBelow distance) rows.now }
-{
-    match rows.last() {
-        Some(last) => last.distance < distance,
+    match orders.last() {
+        Some(last) => last.reference < reference,
         None => true,
     }
 }
 
-// Where the order with a distance stands, if there is one: from `start` on, and before `end`.
+// Where the order with a reference stands, if there is one: from `start` on, and before `end`.
 struct Window {
     start: usize,
     end: usize,
 }
 
-// Most messages are about orders that came late, so the search goes back from the last order by longer and longer
-// steps.
-fn window_of(rows: &[RisenRow], distance: u64) -> Window
-    requires { AreRising rows.now }
-    ensures bounds { (result.start ≤ result.end) × (result.end ≤ length rows.now) }
-    ensures below { AllWithin (IsBelow distance) rows.now 0 result.start }
-    ensures above { AllWithin (IsAbove distance) rows.now result.end (length rows.now) }
+// Most messages are about orders that came late, so the search goes back from the last order by longer and longer steps.
+fn window_of(orders: &[Order], reference: u64) -> Window
+    requires { AreRising orders.now }
+    ensures bounds { (result.start ≤ result.end) × (result.end ≤ length orders.now) }
+    ensures below { AllWithin (IsBelow reference) orders.now 0 result.start }
+    ensures above { AllWithin (IsAbove reference) orders.now result.end (length orders.now) }
 {
-    let mut end = rows.len();
+    let mut end = orders.len();
     let mut step = 1;
     for _ in 0..usize::BITS {
         if end < step {
             break;
         }
         let start = end - step;
-        if u64::from(rows[start].distance) <= distance {
+        if orders[start].reference <= reference {
             return Window { start, end };
         }
         end = start;
@@ -153,25 +88,24 @@ fn window_of(rows: &[RisenRow], distance: u64) -> Window
 
 // The index of the order that lives under a reference. The window is halved without a branch on what is found, which
 // goes either way as often: the processor would guess wrong at every second step.
-fn index_of(first: u64, rows: &[RisenRow], reference: u64) -> Option<usize>
-    requires { AreRising rows.now }
-    ensures found { IfSome result (IsLiveAt first rows.now reference) }
-    ensures none { IfNone result (maps.get (live_in first rows.now) reference ≡ None) }
+fn index_of(orders: &[Order], reference: u64) -> Option<usize>
+    requires { AreRising orders.now }
+    ensures found { IfSome result (IsLiveAt orders.now reference) }
+    ensures none { IfNone result (maps.get (live_in orders.now) reference ≡ None) }
 {
-    let distance = reference.checked_sub(first)?;
-    let Window { start, end } = window_of(rows, distance);
+    let Window { start, end } = window_of(orders, reference);
     let mut low = start;
     let mut count = end - start;
     while count > 1 {
         let half = count / 2;
-        low = if u64::from(rows[low + half].distance) <= distance {
+        low = if orders[low + half].reference <= reference {
             low + half
         } else {
             low
         };
         count -= half;
     }
-    if count == 1 && u64::from(rows[low].distance) == distance && is_live(&rows[low]) {
+    if count == 1 && orders[low].reference == reference && is_live(&orders[low]) {
         Some(low)
     } else {
         None
@@ -184,8 +118,7 @@ impl<A: Allocator + Copy> RisingOrders<A> {
         ensures { result ≡ maps.empty }
     {
         RisingOrders {
-            first: 0,
-            rows: Vec::new(alloc),
+            orders: Vec::new(alloc),
             gone: 0,
         }
     }
@@ -194,44 +127,39 @@ impl<A: Allocator + Copy> RisingOrders<A> {
     pub fn row(&self, reference: u64) -> Option<OrderRow>
         ensures { result ≡ maps.get self.now reference }
     {
-        let index = index_of(self.first, &self.rows, reference)?;
-        Some(self.rows[index].row())
+        let index = index_of(&self.orders, reference)?;
+        Some(self.orders[index].row())
     }
 
     /// Reads what stands in the value itself. What it returns means nothing.
     pub fn touch(&self) -> u64 {
-        self.rows.len() as u64
+        self.orders.len() as u64
     }
 
     /// Reads orders near the end of the list, where searches begin. What it returns means nothing.
     pub fn touch_rows(&self) -> u64 {
-        let len = self.rows.len();
+        let len = self.orders.len();
         let mut sum: u64 = 0;
         for back in [1, 4, 12] {
-            if let Some(row) = self.rows.get(len.saturating_sub(back)) {
-                sum = sum.wrapping_add(u64::from(row.distance));
+            if let Some(order) = self.orders.get(len.saturating_sub(back)) {
+                sum = sum.wrapping_add(order.reference);
             }
         }
         sum
     }
 
-    /// Adds an order that has shares, and returns true; or returns false where it has an attribution, or its reference
-    /// isn't above those of all in the list, or is too far above the first. An error says that memory was refused, and
-    /// leaves the orders as they were.
+    /// Adds an order that has shares, where its reference is above those of all that came before, and answers whether
+    /// it is. An error says that memory was refused, and leaves the orders as they were.
     pub fn push(&mut self, order: Order) -> Result<bool, AllocError>
         requires { 1 ≤ order.shares }
         ensures ok { IfOk result (λ rises. self.new ≡ (if rises then added self.old order else self.old)) }
         ensures err { OnErr result (self.new ≡ self.old) }
     {
-        let first = first_with(self.first, &self.rows, order.reference);
-        if let Some(row) = risen_from(first, order)
-            && is_above_all(&self.rows, row.distance)
-        {
-            self.rows.push(row)?;
-            self.first = first;
-            return Ok(true);
+        let rises = is_above_all(&self.orders, order.reference);
+        if rises {
+            self.orders.push(order)?;
         }
-        Ok(false)
+        Ok(rises)
     }
 
     /// Takes shares off the order under a reference, which has at least so many where it lives, and answers the order
@@ -242,10 +170,10 @@ impl<A: Allocator + Copy> RisingOrders<A> {
         ensures left { IfSome result (λ row. self.new ≡ reduced_by self.old reference row shares) }
         ensures none { IfNone result (self.new ≡ self.old) }
     {
-        let index = index_of(self.first, &self.rows, reference)?;
-        let risen = &mut self.rows[index];
-        let row = risen.row();
-        risen.shares -= shares;
+        let index = index_of(&self.orders, reference)?;
+        let order = &mut self.orders[index];
+        let row = order.row();
+        order.shares -= shares;
         if row.shares == shares {
             self.sweep();
         }
@@ -257,10 +185,10 @@ impl<A: Allocator + Copy> RisingOrders<A> {
         ensures row { result ≡ maps.get self.old reference }
         ensures gone { self.new ≡ maps.remove self.old reference }
     {
-        let index = index_of(self.first, &self.rows, reference)?;
-        let risen = &mut self.rows[index];
-        let row = risen.row();
-        risen.shares = 0;
+        let index = index_of(&self.orders, reference)?;
+        let order = &mut self.orders[index];
+        let row = order.row();
+        order.shares = 0;
         self.sweep();
         Some(row)
     }
@@ -270,8 +198,8 @@ impl<A: Allocator + Copy> RisingOrders<A> {
         ensures { self.new ≡ self.old }
     {
         self.gone = self.gone.saturating_add(1);
-        if self.gone > self.rows.len() / 2 {
-            self.rows.retain(|row| is_live(row));
+        if self.gone > self.orders.len() / 2 {
+            self.orders.retain(|order| is_live(order));
             self.gone = 0;
         }
     }
@@ -280,11 +208,10 @@ impl<A: Allocator + Copy> RisingOrders<A> {
     pub fn list(&self, alloc: A) -> Result<Vec<Order, A>, AllocError>
         ensures { IfOk result (λ list. list.items ≡ orders_in self.now) }
     {
-        let first = self.first;
-        self.rows
+        self.orders
             .iter()
-            .filter(|row| is_live(row))
-            .map(|row| row.order(first))
+            .filter(|order| is_live(order))
+            .copied()
             .collect(alloc)
     }
 
@@ -293,8 +220,7 @@ impl<A: Allocator + Copy> RisingOrders<A> {
         ensures { IfOk result (λ copy. copy ≡ self.now) }
     {
         Ok(RisingOrders {
-            first: self.first,
-            rows: self.rows.iter().copied().collect(alloc)?,
+            orders: self.orders.iter().copied().collect(alloc)?,
             gone: self.gone,
         })
     }
