@@ -1,7 +1,7 @@
 -- What a search for a reference finds among orders by rising reference.
 use Rattle.std.proofs.Common.{◌≡◌, ◌≢◌, ℕ, ◌+◌, ◌-◌, ◌<◌, ◌≤◌, ◌==◌, List, get_or, length, None, Bool, true, false, refl, ap, ◌∙◌, arith, inl, inr}
 use Rattle.std.specs.declared.cmp.Ordering.TheVariants.{Less}
-use Rattle.std.specs.Ordering.{eq_by_cmp, nat_cmp}
+use Rattle.std.specs.Ordering.{nat_cmp}
 use Rattle.std.specs.Cmp.{nat_cmp_total}
 use Rattle.std.specs.List.{All, AllWithin}
 use Rattle.std.specs.FinMap as maps
@@ -11,78 +11,80 @@ use Rattle.std.proofs.lemmas.Bool.Decides.{nat_tests}
 use Rattle.std.proofs.lemmas.List.{get_or_default}
 use Rattle.std.proofs.lemmas.List.Elements.{recursion_from_All}
 use Rattle.std.proofs.lemmas.Map.Keys.{Less-from_sorted}
-use Rattle.itch_table.specs.declared.order.Order.{Order}
+use Rattle.itch_table.specs.declared.order.Side.TheVariants.{Buy}
+use Rattle.order_book.specs.declared.rising.RisenRow.{RisenRow}
 use Rattle.order_book.specs.Parts.{AreRising, IsAbove, IsBelow, live_in}
-use Rattle.order_book.proofs.RisingLists.{by_reference, entries_of, find_none}
+use Rattle.order_book.proofs.RisingLists.{IsOther, by_distance, entries_of, find_none}
 
--- an order has another reference
-abbrev pub IsOther : ℕ → Order → Type 0
-IsOther reference order = eq_by_cmp nat_cmp reference order.reference ≡ false
+-- what a read past the end of the list is taken to be
+abbrev pub no_row : RisenRow
+no_row = record { distance = 0; shares = 0; price = 0; side = Buy; attribution = None }
 
-below_other : (reference : ℕ) (order : Order) → IsBelow reference order → IsOther reference order
-below_other reference order below = grind (arith, nat_tests)
-
-above_other : (reference : ℕ) (order : Order) → IsAbove reference order → IsOther reference order
-above_other reference order above = grind (arith, nat_tests)
-
-differs_other : (reference : ℕ) (order : Order) → order.reference ≢ reference → IsOther reference order
-differs_other reference order differs = grind (arith, nat_tests)
-
--- no order has the reference: those before a window of one at most have lower ones, those after it higher ones, and the
--- one in it has another
-pub missing : (orders : List Order) (reference low count : ℕ) → count ≤ 1 → AllWithin (IsBelow reference) orders 0 low
-    → AllWithin (IsAbove reference) orders (low + count) (length orders)
-    → (count ≡ 1 → (d : Order) → (get_or orders low d).reference ≢ reference) → maps.get (live_in orders) reference ≡ None
-missing orders reference low count one below above differs =
-    get-from_entries nat_cmp_total (entries_of orders) reference ∙ find_none reference orders (recursion_from_All (IsOther reference) orders other)
+-- no order has the reference
+pub none_has : (first reference : ℕ) (rows : List RisenRow) → All (λ row. first + row.distance ≢ reference) rows
+    → maps.get (live_in first rows) reference ≡ None
+none_has first reference rows differs =
+    get-from_entries nat_cmp_total (entries_of first rows) reference
+    ∙ find_none first reference rows (recursion_from_All (IsOther first reference) rows (λ k d within. other (get_or rows k d) (differs k d within)))
   where
-    other : All (IsOther reference) orders
+    other : (row : RisenRow) → first + row.distance ≢ reference → IsOther first reference row
+    other row differs = grind (arith, nat_tests)
+
+-- no order is at the distance of the reference: those before a window of at most one are at lower ones, those after at
+-- higher ones, and the one in it is at another
+pub missing : (first reference : ℕ) (rows : List RisenRow) (distance low count : ℕ) → first + distance ≡ reference → count ≤ 1
+    → AllWithin (IsBelow distance) rows 0 low → AllWithin (IsAbove distance) rows (low + count) (length rows)
+    → (count ≡ 1 → (d : RisenRow) → (get_or rows low d).distance ≢ distance) → maps.get (live_in first rows) reference ≡ None
+missing first reference rows distance low count is one below above differs =
+    none_has first reference rows (λ k d within same. other k d within (omega (arith, same, is)))
+  where
+    other : All (λ row. row.distance ≢ distance) rows
     other k d within = elim (cases_lt k low) [
-      | inl before ↦ below_other reference (get_or orders k d) (below k d (omega arith) before)
+      | inl before ↦ let lower = below k d (omega arith) before in λ same. omega (arith, lower, same)
       | inr from ↦ elim (cases_lt k (low + count)) [
         | inl inside ↦
             let only : count ≡ 1 = omega (arith, one, from, inside) in
             let here : k ≡ low = omega (arith, one, from, inside) in
-            rw here (differs_other reference (get_or orders low d) (differs only d))
-        | inr after ↦ above_other reference (get_or orders k d) (above k d (omega (arith, after)) within)
+            rw here (differs only d)
+        | inr after ↦ let higher = above k d (omega (arith, after)) within in λ same. omega (arith, higher, same)
       ]
     ]
 
-below_by : (m n reference : ℕ) → nat_cmp m n ≡ Less → n ≤ reference → m < reference
-below_by m n reference less le = grind (arith, nat_tests)
+below_by : (m n distance : ℕ) → nat_cmp m n ≡ Less → n ≤ distance → m < distance
+below_by m n distance less le = grind (arith, nat_tests)
 
--- the orders before one that has no higher reference have lower ones
-pub all_below : (orders : List Order) (reference start : ℕ) (first : Order) → AreRising orders → start < length orders
-    → (get_or orders start first).reference ≤ reference → AllWithin (IsBelow reference) orders 0 start
-all_below orders reference start first rising within least k d low high =
-    let less = Less-from_sorted by_reference orders k start d rising high within in
-    let same = ap (λ (order : Order). order.reference) (get_or_default orders start d first within) in
-    below_by _ _ reference less (omega (arith, same, least))
+-- the orders before one that is at no higher distance are at lower ones
+pub all_below : (rows : List RisenRow) (distance start : ℕ) (first : RisenRow) → AreRising rows → start < length rows
+    → (get_or rows start first).distance ≤ distance → AllWithin (IsBelow distance) rows 0 start
+all_below rows distance start first rising within least k d low high =
+    let less = Less-from_sorted by_distance rows k start d rising high within in
+    let same = ap (λ (row : RisenRow). row.distance) (get_or_default rows start d first within) in
+    below_by _ _ distance less (omega (arith, same, least))
 
-above_by : (m n reference : ℕ) → nat_cmp m n ≡ Less → reference < m → reference < n
-above_by m n reference less lt = grind (arith, nat_tests)
+above_by : (m n distance : ℕ) → nat_cmp m n ≡ Less → distance < m → distance < n
+above_by m n distance less lt = grind (arith, nat_tests)
 
--- the orders from one that has a higher reference on have higher ones
-pub all_above : (orders : List Order) (reference start : ℕ) (first : Order) → AreRising orders → start < length orders
-    → reference < (get_or orders start first).reference → AllWithin (IsAbove reference) orders start (length orders)
-all_above orders reference start first rising within more k d low high =
-    let same = ap (λ (order : Order). order.reference) (get_or_default orders start d first within) in
+-- the orders from one that is at a higher distance on are at higher ones
+pub all_above : (rows : List RisenRow) (distance start : ℕ) (first : RisenRow) → AreRising rows → start < length rows
+    → distance < (get_or rows start first).distance → AllWithin (IsAbove distance) rows start (length rows)
+all_above rows distance start first rising within more k d low high =
+    let same = ap (λ (row : RisenRow). row.distance) (get_or_default rows start d first within) in
     elim (cases_lt start k) [
-      | inl later ↦ above_by (get_or orders start d).reference (get_or orders k d).reference reference (Less-from_sorted by_reference orders start k d rising later high) (omega (arith, same, more))
+      | inl later ↦ above_by (get_or rows start d).distance (get_or rows k d).distance distance (Less-from_sorted by_distance rows start k d rising later high) (omega (arith, same, more))
       | inr not ↦
           let here : k ≡ start = omega (arith, low, not) in
           rw here (omega (arith, same, more))
     ]
 
--- all orders have lower references where the last one has
-pub all_below_by_last : (orders : List Order) (reference : ℕ) → AreRising orders
-    → ((d : Order) → 0 < length orders → IsBelow reference (get_or orders (length orders - 1) d)) → All (IsBelow reference) orders
-all_below_by_last orders reference rising last k d within = up_to_last (k == length orders - 1) refl
+-- all orders are at lower distances where the last one is
+pub all_below_by_last : (rows : List RisenRow) (distance : ℕ) → AreRising rows
+    → ((d : RisenRow) → 0 < length rows → IsBelow distance (get_or rows (length rows - 1) d)) → All (IsBelow distance) rows
+all_below_by_last rows distance rising last k d within = up_to_last (k == length rows - 1) refl
   where
-    up_to_last : (b : Bool) → (k == length orders - 1) ≡ b → IsBelow reference (get_or orders k d)
-    up_to_last true same = rw (eqb-true k (length orders - 1) same) (last d (omega arith))
+    up_to_last : (b : Bool) → (k == length rows - 1) ≡ b → IsBelow distance (get_or rows k d)
+    up_to_last true same = rw (eqb-true k (length rows - 1) same) (last d (omega arith))
     up_to_last false apart =
-        let before : k < length orders - 1 = omega (arith, eqb-false k (length orders - 1) apart) in
-        let less = Less-from_sorted by_reference orders k (length orders - 1) d rising before (omega arith) in
+        let before : k < length rows - 1 = omega (arith, eqb-false k (length rows - 1) apart) in
+        let less = Less-from_sorted by_distance rows k (length rows - 1) d rising before (omega arith) in
         let least = last d (omega arith) in
-        below_by _ _ reference less (omega (arith, least))
+        below_by _ _ distance less (omega (arith, least))

@@ -1,5 +1,5 @@
 -- The two parts in which a book keeps its orders: a list by rising reference, and the others.
-use Rattle.std.specs.Prelude.{◌≡◌, ℕ, ◌<◌, ◌==◌, ◌++◌, Bool, not, List, length, map, None}
+use Rattle.std.specs.Prelude.{◌≡◌, ℕ, ◌+◌, ◌<◌, ◌≤◌, ◌^◌, ◌==◌, ◌++◌, Bool, not, List, length, map, None}
 use Rattle.std.specs.Ordering.{nat_cmp}
 use Rattle.std.specs.List.{filter, HoldsAt}
 use Rattle.std.specs.List.Sorted.{IsStrictlySortedBy}
@@ -7,38 +7,51 @@ use Rattle.std.specs.Option.{IsSome}
 use Rattle.std.specs.FinMap as maps
 use Rattle.itch_table.specs.declared.order.Order.{Order}
 use Rattle.itch_table.specs.declared.order.OrderRow.{OrderRow}
-use Rattle.itch_table.specs.World.{row_of}
+use Rattle.itch_table.specs.World.{order_under, row_of}
+use Rattle.order_book.specs.declared.rising.RisenRow.{RisenRow}
 use Rattle.order_book.specs.Orders.{Orders}
 
--- each reference is above those before it
-abbrev pub AreRising : List Order → Type 0
-AreRising orders = IsStrictlySortedBy (λ order other. nat_cmp order.reference other.reference) orders
+-- a reference at any distance from the first fits 64 bits
+abbrev pub IsFirst : ℕ → Type 0
+IsFirst first = first + 2 ^ 32 ≤ 2 ^ 64
+
+-- an order of the list, without its reference
+abbrev pub without_distance : RisenRow → OrderRow
+without_distance row = record { side = row.side; shares = row.shares; price = row.price; attribution = row.attribution }
+
+-- an order of the list, where distances are from this first reference
+abbrev pub order_at : ℕ → RisenRow → Order
+order_at first row = order_under (first + row.distance) (without_distance row)
+
+-- each distance is above those before it
+abbrev pub AreRising : List RisenRow → Type 0
+AreRising rows = IsStrictlySortedBy (λ row other. nat_cmp row.distance other.distance) rows
 
 -- whether an order of the list lives: one without shares is gone
-abbrev pub has_shares : Order → Bool
-has_shares order = not (order.shares == 0)
+abbrev pub has_shares : RisenRow → Bool
+has_shares row = not (row.shares == 0)
 
 -- an order as its reference and its row
 abbrev pub entry_of : Order → ℕ × OrderRow
 entry_of order = (order.reference, row_of order)
 
 -- the orders of a list that live, each under its reference
-abbrev pub live_in : List Order → Orders
-live_in orders = maps.from_entries (map entry_of (filter has_shares orders))
+abbrev pub live_in : ℕ → List RisenRow → Orders
+live_in first rows = maps.from_entries (map (λ row. entry_of (order_at first row)) (filter has_shares rows))
 
--- an order came with a lower reference
-abbrev pub IsBelow : ℕ → Order → Type 0
-IsBelow reference order = order.reference < reference
+-- an order of the list is at a lower distance
+abbrev pub IsBelow : ℕ → RisenRow → Type 0
+IsBelow distance row = row.distance < distance
 
--- an order came with a higher reference
-abbrev pub IsAbove : ℕ → Order → Type 0
-IsAbove reference order = reference < order.reference
+-- an order of the list is at a higher distance
+abbrev pub IsAbove : ℕ → RisenRow → Type 0
+IsAbove distance row = distance < row.distance
 
 -- the order at this index lives, and has this reference
-abbrev pub IsLiveAt : List Order → ℕ → ℕ → Type 0
-IsLiveAt orders reference index =
-    (index < length orders)
-    × HoldsAt (λ order. (order.reference ≡ reference) × (0 < order.shares)) orders index
+abbrev pub IsLiveAt : ℕ → List RisenRow → ℕ → ℕ → Type 0
+IsLiveAt first rows reference index =
+    (index < length rows)
+    × HoldsAt (λ row. (first + row.distance ≡ reference) × (0 < row.shares)) rows index
 
 -- the orders of both parts
 abbrev pub joined : Orders → Orders → Orders

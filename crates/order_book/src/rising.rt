@@ -4,20 +4,56 @@ ghost use Rattle.std.specs.List.{All, AllWithin};
 ghost use Rattle.std.specs.Bool.{IsTrue};
 ghost use Rattle.std.specs.FinMap as maps;
 ghost use Rattle.order_book.specs.Orders.{added, orders_in, reduced_by};
-ghost use Rattle.order_book.specs.Parts.{AreRising, IsAbove, IsBelow, IsLiveAt, has_shares, live_in};
+ghost use Rattle.order_book.specs.Parts.{AreRising, IsAbove, IsBelow, IsFirst, IsLiveAt, has_shares, live_in, order_at, without_distance};
 
-use itch_table::{Order, OrderRow};
+use itch_table::{Order, OrderRow, Side};
 use std::alloc::{AllocError, Allocator};
 use std::marker::Model;
 
+// An order of the list. Its fields stand from the widest to the narrowest, so that it takes 20 bytes, and a search reads
+// few lines of memory.
+#[derive(Clone, Copy)]
+struct RisenRow {
+    // How far its reference is above the first.
+    distance: u32,
+    shares: u32,
+    price: u32,
+    side: Side,
+    attribution: Option<[u8; 4]>,
+}
+
+impl RisenRow {
+    // The order without its reference.
+    fn row(self) -> OrderRow
+        ensures { result ≡ without_distance self }
+    {
+        OrderRow {
+            shares: self.shares,
+            price: self.price,
+            side: self.side,
+            attribution: self.attribution,
+        }
+    }
+
+    // The order, where this is the first reference.
+    fn order(self, first: u64) -> Order
+        requires { IsFirst first }
+        ensures { result ≡ order_at first self }
+    {
+        self.row().under(first + u64::from(self.distance))
+    }
+}
+
 /// Live orders that came with rising references.
 ///
-/// They stand in a list in the order in which they came, and a reference is found in it by halves. An order that
-/// goes stays in the list without shares, so that no other is moved; once more than half have gone all these are
-/// dropped.
+/// They stand in a list in the order in which they came, each with the distance of its reference from the first, and a
+/// reference is found in it by halves. An order that goes stays in the list without shares, so that no other is moved;
+/// once more than half have gone all these are dropped.
 #[derive(Drop)]
 pub(crate) struct RisingOrders<A: Allocator> {
-    orders: Vec<Order, A>,
+    // The reference from which distances count: that of the first order that came into the list, or a lower one.
+    first: u64,
+    rows: Vec<RisenRow, A>,
     // How many have gone since those that had gone were last dropped.
     gone: usize,
 }
@@ -28,56 +64,85 @@ impl<A: Allocator> Model for RisingOrders<A> {
     ghost use Rattle.std.specs.Ordering.{nat_cmp};
     ghost use Rattle.itch_table.specs.contracts.order.OrderRow as order_row;
     ghost use Rattle.order_book.specs.Orders.{Orders};
-    ghost use Rattle.order_book.specs.Parts.{AreRising, live_in};
+    ghost use Rattle.order_book.specs.Parts.{AreRising, IsFirst, live_in};
 
     ghost Value = { Orders };
 
     ghost coded = { maps.code {R = nat_cmp} coded_ℕ order_row.the_row.coded };
 
-    ghost view = { λ r. live_in r.orders.items };
+    ghost view = { λ r. live_in r.first r.rows.items };
 
-    ghost invariant = { λ r. AreRising r.orders.items };
+    ghost invariant = { λ r. IsFirst r.first × AreRising r.rows.items };
 }
 
 // Whether an order of the list lives.
-fn is_live(order: &Order) -> bool
-    ensures { result ≡ has_shares order.now }
+fn is_live(row: &RisenRow) -> bool
+    ensures { result ≡ has_shares row.now }
 {
-    order.shares != 0
+    row.shares != 0
 }
 
-// Whether a reference is above those of all orders.
-fn is_above_all(orders: &[Order], reference: u64) -> bool
-    requires { AreRising orders.now }
-    ensures { IsTrue result → All (IsBelow reference) orders.now }
+// The reference from which distances count once this one comes. Where the list is empty this one is the first, unless
+// 2^64 is too near: then it is a lower one, so that each distance leads to a reference that fits.
+fn first_with(first: u64, rows: &[RisenRow], reference: u64) -> u64
+    requires { IsFirst first }
+    ensures fits { IsFirst result }
+    ensures same { live_in result rows.now ≡ live_in first rows.now }
 {
-    match orders.last() {
-        Some(last) => last.reference < reference,
+    if rows.is_empty() {
+        reference.min(u64::MAX - u64::from(u32::MAX))
+    } else {
+        first
+    }
+}
+
+// The row of an order, where its distance from the first reference fits.
+fn risen_from(first: u64, order: Order) -> Option<RisenRow>
+    ensures { IfSome result (λ row. order_at first row ≡ order) }
+{
+    let distance = order.reference.checked_sub(first)?;
+    Some(RisenRow {
+        distance: u32::try_from(distance).ok()?,
+        shares: order.shares,
+        price: order.price,
+        side: order.side,
+        attribution: order.attribution,
+    })
+}
+
+// Whether a distance is above those of all orders.
+fn is_above_all(rows: &[RisenRow], distance: u32) -> bool
+    requires { AreRising rows.now }
+    ensures { IsTrue result → All (IsBelow distance) rows.now }
+{
+    match rows.last() {
+        Some(last) => last.distance < distance,
         None => true,
     }
 }
 
-// Where the order with a reference stands, if there is one: from `start` on, and before `end`.
+// Where the order with a distance stands, if there is one: from `start` on, and before `end`.
 struct Window {
     start: usize,
     end: usize,
 }
 
-// Most messages are about orders that came late, so the search goes back from the last order by longer and longer steps.
-fn window_of(orders: &[Order], reference: u64) -> Window
-    requires { AreRising orders.now }
-    ensures bounds { (result.start ≤ result.end) × (result.end ≤ length orders.now) }
-    ensures below { AllWithin (IsBelow reference) orders.now 0 result.start }
-    ensures above { AllWithin (IsAbove reference) orders.now result.end (length orders.now) }
+// Most messages are about orders that came late, so the search goes back from the last order by longer and longer
+// steps.
+fn window_of(rows: &[RisenRow], distance: u64) -> Window
+    requires { AreRising rows.now }
+    ensures bounds { (result.start ≤ result.end) × (result.end ≤ length rows.now) }
+    ensures below { AllWithin (IsBelow distance) rows.now 0 result.start }
+    ensures above { AllWithin (IsAbove distance) rows.now result.end (length rows.now) }
 {
-    let mut end = orders.len();
+    let mut end = rows.len();
     let mut step = 1;
     for _ in 0..usize::BITS {
         if end < step {
             break;
         }
         let start = end - step;
-        if orders[start].reference <= reference {
+        if u64::from(rows[start].distance) <= distance {
             return Window { start, end };
         }
         end = start;
@@ -88,24 +153,25 @@ fn window_of(orders: &[Order], reference: u64) -> Window
 
 // The index of the order that lives under a reference. The window is halved without a branch on what is found, which
 // goes either way as often: the processor would guess wrong at every second step.
-fn index_of(orders: &[Order], reference: u64) -> Option<usize>
-    requires { AreRising orders.now }
-    ensures found { IfSome result (IsLiveAt orders.now reference) }
-    ensures none { IfNone result (maps.get (live_in orders.now) reference ≡ None) }
+fn index_of(first: u64, rows: &[RisenRow], reference: u64) -> Option<usize>
+    requires { AreRising rows.now }
+    ensures found { IfSome result (IsLiveAt first rows.now reference) }
+    ensures none { IfNone result (maps.get (live_in first rows.now) reference ≡ None) }
 {
-    let Window { start, end } = window_of(orders, reference);
+    let distance = reference.checked_sub(first)?;
+    let Window { start, end } = window_of(rows, distance);
     let mut low = start;
     let mut count = end - start;
     while count > 1 {
         let half = count / 2;
-        low = if orders[low + half].reference <= reference {
+        low = if u64::from(rows[low + half].distance) <= distance {
             low + half
         } else {
             low
         };
         count -= half;
     }
-    if count == 1 && orders[low].reference == reference && is_live(&orders[low]) {
+    if count == 1 && u64::from(rows[low].distance) == distance && is_live(&rows[low]) {
         Some(low)
     } else {
         None
@@ -118,7 +184,8 @@ impl<A: Allocator + Copy> RisingOrders<A> {
         ensures { result ≡ maps.empty }
     {
         RisingOrders {
-            orders: Vec::new(alloc),
+            first: 0,
+            rows: Vec::new(alloc),
             gone: 0,
         }
     }
@@ -127,39 +194,44 @@ impl<A: Allocator + Copy> RisingOrders<A> {
     pub fn row(&self, reference: u64) -> Option<OrderRow>
         ensures { result ≡ maps.get self.now reference }
     {
-        let index = index_of(&self.orders, reference)?;
-        Some(self.orders[index].row())
+        let index = index_of(self.first, &self.rows, reference)?;
+        Some(self.rows[index].row())
     }
 
     /// Reads what stands in the value itself. What it returns means nothing.
     pub fn touch(&self) -> u64 {
-        self.orders.len() as u64
+        self.rows.len() as u64
     }
 
     /// Reads orders near the end of the list, where searches begin. What it returns means nothing.
     pub fn touch_rows(&self) -> u64 {
-        let len = self.orders.len();
+        let len = self.rows.len();
         let mut sum: u64 = 0;
         for back in [1, 4, 12] {
-            if let Some(order) = self.orders.get(len.saturating_sub(back)) {
-                sum = sum.wrapping_add(order.reference);
+            if let Some(row) = self.rows.get(len.saturating_sub(back)) {
+                sum = sum.wrapping_add(u64::from(row.distance));
             }
         }
         sum
     }
 
-    /// Adds an order that has shares, where its reference is above those of all that came before, and answers whether
-    /// it is. An error says that memory was refused, and leaves the orders as they were.
+    /// Adds an order that has shares, and returns true; or returns false where its reference isn't above those of all in
+    /// the list, or is too far above the first. An error says that memory was refused, and leaves the orders as they
+    /// were.
     pub fn push(&mut self, order: Order) -> Result<bool, AllocError>
         requires { 1 ≤ order.shares }
         ensures ok { IfOk result (λ rises. self.new ≡ (if rises then added self.old order else self.old)) }
         ensures err { OnErr result (self.new ≡ self.old) }
     {
-        let rises = is_above_all(&self.orders, order.reference);
-        if rises {
-            self.orders.push(order)?;
+        let first = first_with(self.first, &self.rows, order.reference);
+        if let Some(row) = risen_from(first, order)
+            && is_above_all(&self.rows, row.distance)
+        {
+            self.rows.push(row)?;
+            self.first = first;
+            return Ok(true);
         }
-        Ok(rises)
+        Ok(false)
     }
 
     /// Takes shares off the order under a reference, which has at least so many where it lives, and answers the order
@@ -170,10 +242,10 @@ impl<A: Allocator + Copy> RisingOrders<A> {
         ensures left { IfSome result (λ row. self.new ≡ reduced_by self.old reference row shares) }
         ensures none { IfNone result (self.new ≡ self.old) }
     {
-        let index = index_of(&self.orders, reference)?;
-        let order = &mut self.orders[index];
-        let row = order.row();
-        order.shares -= shares;
+        let index = index_of(self.first, &self.rows, reference)?;
+        let risen = &mut self.rows[index];
+        let row = risen.row();
+        risen.shares -= shares;
         if row.shares == shares {
             self.sweep();
         }
@@ -185,10 +257,10 @@ impl<A: Allocator + Copy> RisingOrders<A> {
         ensures row { result ≡ maps.get self.old reference }
         ensures gone { self.new ≡ maps.remove self.old reference }
     {
-        let index = index_of(&self.orders, reference)?;
-        let order = &mut self.orders[index];
-        let row = order.row();
-        order.shares = 0;
+        let index = index_of(self.first, &self.rows, reference)?;
+        let risen = &mut self.rows[index];
+        let row = risen.row();
+        risen.shares = 0;
         self.sweep();
         Some(row)
     }
@@ -198,8 +270,8 @@ impl<A: Allocator + Copy> RisingOrders<A> {
         ensures { self.new ≡ self.old }
     {
         self.gone = self.gone.saturating_add(1);
-        if self.gone > self.orders.len() / 2 {
-            self.orders.retain(|order| is_live(order));
+        if self.gone > self.rows.len() / 2 {
+            self.rows.retain(|row| is_live(row));
             self.gone = 0;
         }
     }
@@ -208,10 +280,11 @@ impl<A: Allocator + Copy> RisingOrders<A> {
     pub fn list(&self, alloc: A) -> Result<Vec<Order, A>, AllocError>
         ensures { IfOk result (λ list. list.items ≡ orders_in self.now) }
     {
-        self.orders
+        let first = self.first;
+        self.rows
             .iter()
-            .filter(|order| is_live(order))
-            .copied()
+            .filter(|row| is_live(row))
+            .map(|row| row.order(first))
             .collect(alloc)
     }
 
@@ -220,7 +293,8 @@ impl<A: Allocator + Copy> RisingOrders<A> {
         ensures { IfOk result (λ copy. copy ≡ self.now) }
     {
         Ok(RisingOrders {
-            orders: self.orders.iter().copied().collect(alloc)?,
+            first: self.first,
+            rows: self.rows.iter().copied().collect(alloc)?,
             gone: self.gone,
         })
     }

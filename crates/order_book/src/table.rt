@@ -13,9 +13,9 @@ use std::marker::Model;
 
 /// The live orders of one stock, each under its reference.
 ///
-/// On a real day references rise. An order with a reference above those of all before it goes into a list, where few
-/// places in memory are touched to find it again; any other goes into a tree. So no references, however they were
-/// chosen, cost much more than a look-up in the tree.
+/// On a real day references rise. An order whose reference is above those of all in a list, and not too far above the
+/// first, goes into that list, where few places in memory are touched to find it again; any other goes into a tree. So
+/// no references, however they were chosen, cost much more than a look-up in the tree.
 #[derive(Drop)]
 pub(crate) struct OrderTable<A: Allocator> {
     rising: RisingOrders<A>,

@@ -5,9 +5,9 @@ use Rattle.order_book.proofs.rising.index_of.Given as goal
 
 abbrev pub invariant-loop-count : goal.invariant-loop-count
 invariant-loop-count l = record {
-  within : l.low + l.count ≤ length l.orders;
-  below : AllWithin (IsBelow l.reference) l.orders 0 l.low;
-  above : AllWithin (IsAbove l.reference) l.orders (l.low + l.count) (length l.orders);
+  within : l.low + l.count ≤ length l.rows;
+  below : AllWithin (IsBelow l.distance) l.rows 0 l.low;
+  above : AllWithin (IsAbove l.distance) l.rows (l.low + l.count) (length l.rows);
 }
 
 abbrev pub decreases-loop-count : goal.decreases-loop-count

@@ -12,4 +12,4 @@ below m n less = grind (arith, nat_tests)
 pub returns-in-Some : goal.returns-in-Some
 returns-in-Some c above =
     let last = c.in-Some.ensures.item.3.1 in
-    all_below_by_last c.args.orders.now c.args.reference c.requires (λ d some. subst (IsBelow c.args.reference) (last d) (below _ _ above))
+    all_below_by_last c.args.rows.now c.args.distance c.requires (λ d some. subst (IsBelow c.args.distance) (last d) (below _ _ above))
