@@ -4,10 +4,10 @@ ghost use Rattle.std.specs.Option.{unwrap_or};
 ghost use Rattle.itch_table.specs.World.{live, stock_row};
 ghost use Rattle.itch_table.specs.Held.{Holds, HoldsPart, on_world};
 ghost use Rattle.itch_table.specs.Parts.{part_of_message};
-ghost use Rattle.itch_table.specs.Machine.{adds_row, named_order};
+ghost use Rattle.itch_table.specs.Machine.{adds_row, named_order, row_found};
 ghost use Rattle.itch_table.specs.Table.{checks, effect, first_fault, less_shares, no_order, set_regsho, set_trading, side_of, trade_of, with_directory_row, with_trade};
 
-use crate::order::{OrderRow, Side};
+use crate::order::{Found, OrderRow, Side};
 use crate::status::{StockRow, Trading};
 use crate::store::Store;
 use crate::trades::TradeRow;
@@ -133,10 +133,10 @@ fn row_of_add_mpid(add: &AddMpid) -> OrderRow
 }
 
 // The order that the checks of a message have found.
-fn order_found(named: Option<OrderRow>) -> OrderRow
-    requires { IsSome named }
-    ensures found { named ≡ Some result }
-    ensures row { result ≡ unwrap_or named no_order }
+fn order_found(named: Option<Found>) -> Found
+    requires { IsSome (row_found named) }
+    ensures found { row_found named ≡ Some result.row }
+    ensures row { result.row ≡ unwrap_or (row_found named) no_order }
 {
     named.unwrap()
 }
@@ -146,35 +146,35 @@ fn execute<S: Store>(
     store: &mut S,
     locate: u16,
     reference: u64,
-    row: OrderRow,
+    found: Found,
     shares: u32,
     trade: TradeRow,
 ) -> Result<(), AllocError>
     requires here { Holds (S.held store.old) locate }
     requires room { S.has_room store.old }
-    requires live { live (S.held store.old).world locate reference ≡ Some row }
-    requires enough { shares ≤ row.shares }
+    requires live { live (S.held store.old).world locate reference ≡ Some found.row }
+    requires enough { shares ≤ found.row.shares }
     ensures ok { OnOk result (S.held store.new ≡ on_world
-        (λ w. with_trade (less_shares w locate reference row shares) locate trade) (S.held store.old)) }
+        (λ w. with_trade (less_shares w locate reference found.row shares) locate trade) (S.held store.old)) }
     ensures err { OnErr result (S.held store.new ≡ S.held store.old) }
 {
     store.add_trade(locate, trade)?;
-    store.reduce_order(locate, reference, row, shares);
+    store.reduce_order(locate, reference, found, shares);
     Ok(())
 }
 
-/// The effect of a message that passed its checks, which have found the order that it takes shares off.
+/// The effect of a message that passed its checks, which have found the order that it changes.
 ///
 /// After an error the rows are as they were; it comes only where a message may need a new row.
 pub(crate) fn apply<S: Store>(
     store: &mut S,
     msg: &Msg,
-    named: Option<OrderRow>,
+    named: Option<Found>,
 ) -> Result<(), AllocError>
     requires here { HoldsPart (S.held store.old) (part_of_message msg.now) }
     requires room { S.has_room store.old }
     requires passed { first_fault (checks msg.now (S.held store.old).world) ≡ None }
-    requires named { named ≡ named_order msg.now (S.held store.old).world }
+    requires named { row_found named ≡ named_order msg.now (S.held store.old).world }
     ensures ok { OnOk result (S.held store.new ≡ on_world (effect msg.now) (S.held store.old)) }
     ensures err { OnErr result (S.held store.new ≡ S.held store.old) }
     ensures grows { OnErr result (IsTrue (adds_row (S.held store.old).own msg.now)) }
@@ -192,23 +192,26 @@ pub(crate) fn apply<S: Store>(
             return store.add_order(head.locate, m.reference, row_of_add_mpid(m));
         }
         Msg::Execute(head, m) => {
-            let row = order_found(named);
-            let trade = trade(m.match_no, u64::from(m.shares), row.price, true);
-            return execute(store, head.locate, m.reference, row, m.shares, trade);
+            let found = order_found(named);
+            let trade = trade(m.match_no, u64::from(m.shares), found.row.price, true);
+            return execute(store, head.locate, m.reference, found, m.shares, trade);
         }
         Msg::ExecutePrice(head, m) => {
-            let row = order_found(named);
+            let found = order_found(named);
             let printed = m.printable == b'Y';
             let trade = trade(m.match_no, u64::from(m.shares), m.price, printed);
-            return execute(store, head.locate, m.reference, row, m.shares, trade);
+            return execute(store, head.locate, m.reference, found, m.shares, trade);
         }
         Msg::Cancel(head, m) => {
             store.reduce_order(head.locate, m.reference, order_found(named), m.shares);
         }
-        Msg::Delete(head, m) => store.remove_order(head.locate, m.reference),
+        Msg::Delete(head, m) => {
+            store.remove_order(head.locate, m.reference, order_found(named));
+        }
         Msg::Replace(head, m) => {
             let (old, new) = (m.reference, m.new_reference);
-            return store.replace_order(head.locate, old, new, m.shares, m.price);
+            let found = order_found(named);
+            return store.replace_order(head.locate, old, found, new, m.shares, m.price);
         }
         Msg::Trade(head, m) => {
             let trade = trade(m.match_no, u64::from(m.shares), m.price, true);

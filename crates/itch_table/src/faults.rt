@@ -4,12 +4,12 @@ ghost use Rattle.std.specs.Result.{result_err};
 ghost use Rattle.std.specs.List.{list_any};
 ghost use Rattle.itch_table.specs.World.{directory, live, stock_row};
 ghost use Rattle.itch_table.specs.Held.{Holds, HoldsPart};
-ghost use Rattle.itch_table.specs.Machine.{found_unless, named_order};
+ghost use Rattle.itch_table.specs.Machine.{named_order, row_found};
 ghost use Rattle.itch_table.specs.Parts.{part_of_message};
 ghost use Rattle.itch_table.specs.Trades.{is_unbroken};
 ghost use Rattle.itch_table.specs.Table.{are_left, checks, first_fault, has_left, has_shares, has_side, is_live, is_new, is_printable, is_unspent, listed, names_stock, refuse_unless, same_stock};
 
-use crate::order::OrderRow;
+use crate::order::{Found, OrderRow};
 use crate::outcome::Fault;
 use crate::status::StockRow;
 use crate::store::Store;
@@ -78,10 +78,10 @@ fn is_unspent<S: Store>(store: &S, locate: u16, reference: u64) -> Result<(), Fa
 }
 
 // An order lives under the reference.
-fn is_live<S: Store>(store: &S, locate: u16, reference: u64) -> Result<OrderRow, Fault>
+fn is_live<S: Store>(store: &S, locate: u16, reference: u64) -> Result<Found, Fault>
     requires { Holds (S.held store.now) locate }
     ensures fault { result_err result ≡ is_live (S.held store.now).world locate reference }
-    ensures row { IfOk result (λ row. live (S.held store.now).world locate reference ≡ Some row) }
+    ensures found { IfOk result (λ found. live (S.held store.now).world locate reference ≡ Some found.row) }
 {
     let found = store.order(locate, reference);
     found.ok_or(Fault::ReferenceUnknown)
@@ -161,17 +161,17 @@ fn check_shares<S: Store>(
     locate: u16,
     reference: u64,
     shares: u32,
-) -> Result<Option<OrderRow>, Fault>
+) -> Result<Found, Fault>
     requires { Holds (S.held store.now) locate }
-    ensures { let w = (S.held store.now).world in
-        let fault = first_fault (listed w locate ∷ is_live w locate reference
-        ∷ has_left w locate reference shares ∷ []) in
-        result ≡ found_unless fault (live w locate reference) }
+    ensures fault { let w = (S.held store.now).world in
+        result_err result ≡ first_fault (listed w locate ∷ is_live w locate reference
+        ∷ has_left w locate reference shares ∷ []) }
+    ensures found { IfOk result (λ found. live (S.held store.now).world locate reference ≡ Some found.row) }
 {
     listed(store, locate)?;
-    let row = is_live(store, locate, reference)?;
-    has_left(&row, shares)?;
-    Ok(Some(row))
+    let found = is_live(store, locate, reference)?;
+    has_left(&found.row, shares)?;
+    Ok(found)
 }
 
 // The checks of an execution at a price of its own, which find the order.
@@ -179,41 +179,45 @@ fn check_execute_price<S: Store>(
     store: &S,
     head: &Head,
     execute: &ExecutePrice,
-) -> Result<Option<OrderRow>, Fault>
+) -> Result<Found, Fault>
     requires { Holds (S.held store.now) head.now.locate }
-    ensures { let w = (S.held store.now).world in
-        let fault = first_fault (checks (Msg.ExecutePrice head.now execute.now) w) in
-        result ≡ found_unless fault (live w head.now.locate execute.now.reference) }
+    ensures fault { let w = (S.held store.now).world in
+        result_err result ≡ first_fault (checks (Msg.ExecutePrice head.now execute.now) w) }
+    ensures found { IfOk result (λ found.
+        live (S.held store.now).world head.now.locate execute.now.reference ≡ Some found.row) }
 {
     listed(store, head.locate)?;
     has_printable(execute.printable)?;
-    let row = is_live(store, head.locate, execute.reference)?;
-    has_left(&row, execute.shares)?;
-    Ok(Some(row))
+    let found = is_live(store, head.locate, execute.reference)?;
+    has_left(&found.row, execute.shares)?;
+    Ok(found)
 }
 
-// The checks of a delete.
-fn check_delete<S: Store>(store: &S, locate: u16, reference: u64) -> Result<(), Fault>
+// The checks of a delete, which find the order.
+fn check_delete<S: Store>(store: &S, locate: u16, reference: u64) -> Result<Found, Fault>
     requires { Holds (S.held store.now) locate }
-    ensures { let w = (S.held store.now).world in
+    ensures fault { let w = (S.held store.now).world in
         result_err result ≡ first_fault (listed w locate ∷ is_live w locate reference ∷ []) }
+    ensures found { IfOk result (λ found. live (S.held store.now).world locate reference ≡ Some found.row) }
 {
     listed(store, locate)?;
-    is_live(store, locate, reference)?;
-    Ok(())
+    is_live(store, locate, reference)
 }
 
-// The checks of a replacement.
-fn check_replace<S: Store>(store: &S, head: &Head, replace: &Replace) -> Result<(), Fault>
+// The checks of a replacement, which find the order that is replaced.
+fn check_replace<S: Store>(store: &S, head: &Head, replace: &Replace) -> Result<Found, Fault>
     requires { Holds (S.held store.now) head.now.locate }
-    ensures { let w = (S.held store.now).world in
+    ensures fault { let w = (S.held store.now).world in
         result_err result ≡ first_fault (checks (Msg.Replace head.now replace.now) w) }
+    ensures found { IfOk result (λ found.
+        live (S.held store.now).world head.now.locate replace.now.reference ≡ Some found.row) }
 {
     listed(store, head.locate)?;
-    is_live(store, head.locate, replace.reference)?;
+    let found = is_live(store, head.locate, replace.reference)?;
     is_new(store, head.locate, replace.new_reference)?;
     is_unspent(store, head.locate, replace.new_reference)?;
-    has_shares(replace.shares)
+    has_shares(replace.shares)?;
+    Ok(found)
 }
 
 // The checks of a broken trade message.
@@ -227,12 +231,12 @@ fn check_broken<S: Store>(store: &S, locate: u16, match_no: u64) -> Result<(), F
     has_trade(store, locate, match_no)
 }
 
-/// Checks a message, up to the first fault; where there is none it answers the order that the message takes shares off,
-/// if it does.
-pub(crate) fn check<S: Store>(store: &S, msg: &Msg) -> Result<Option<OrderRow>, Fault>
+/// Checks a message, up to the first fault; where there is none it returns the order that the message changes, if it
+/// changes one.
+pub(crate) fn check<S: Store>(store: &S, msg: &Msg) -> Result<Option<Found>, Fault>
     requires { HoldsPart (S.held store.now) (part_of_message msg.now) }
-    ensures { let w = (S.held store.now).world in
-        result ≡ found_unless (first_fault (checks msg.now w)) (named_order msg.now w) }
+    ensures fault { result_err result ≡ first_fault (checks msg.now (S.held store.now).world) }
+    ensures named { IfOk result (λ found. row_found found ≡ named_order msg.now (S.held store.now).world) }
 {
     match msg {
         Msg::System(_, _) | Msg::Decline(_, _) | Msg::Breach(_, _) | Msg::Ipo(_, _) => {}
@@ -248,11 +252,26 @@ pub(crate) fn check<S: Store>(store: &S, msg: &Msg) -> Result<Option<OrderRow>, 
         Msg::AddMpid(head, m) => {
             check_add(store, head.locate, m.reference, m.side, m.shares, &m.stock)?
         }
-        Msg::Execute(head, m) => return check_shares(store, head.locate, m.reference, m.shares),
-        Msg::ExecutePrice(head, m) => return check_execute_price(store, head, m),
-        Msg::Cancel(head, m) => return check_shares(store, head.locate, m.reference, m.shares),
-        Msg::Delete(head, m) => check_delete(store, head.locate, m.reference)?,
-        Msg::Replace(head, m) => check_replace(store, head, m)?,
+        Msg::Execute(head, m) => {
+            let found = check_shares(store, head.locate, m.reference, m.shares)?;
+            return Ok(Some(found));
+        }
+        Msg::ExecutePrice(head, m) => {
+            let found = check_execute_price(store, head, m)?;
+            return Ok(Some(found));
+        }
+        Msg::Cancel(head, m) => {
+            let found = check_shares(store, head.locate, m.reference, m.shares)?;
+            return Ok(Some(found));
+        }
+        Msg::Delete(head, m) => {
+            let found = check_delete(store, head.locate, m.reference)?;
+            return Ok(Some(found));
+        }
+        Msg::Replace(head, m) => {
+            let found = check_replace(store, head, m)?;
+            return Ok(Some(found));
+        }
         Msg::Trade(head, m) => check_side(store, head.locate, &m.stock, m.side)?,
         Msg::Cross(head, m) => check_stock(store, head.locate, &m.stock)?,
         Msg::Broken(head, m) => check_broken(store, head.locate, m.match_no)?,

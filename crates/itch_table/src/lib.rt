@@ -23,7 +23,7 @@ pub use laws::{
     references_stay_spent, stocks_are_independent,
 };
 pub use levels::levels_of;
-pub use order::{Level, Order, OrderRow, Side, Top};
+pub use order::{Found, Level, Order, OrderRow, Side, Top};
 pub use outcome::{Fault, Outcome, Part};
 pub use parts::part;
 pub use plain::Plain;

@@ -37,8 +37,8 @@ impl<A: Allocator + Copy> Rows<A> {
     pub fn live_order(&self, locate: u16, reference: u64) -> Option<Order>
         ensures { result ≡ order self.now locate reference }
     {
-        let row = self.order(locate, reference)?;
-        Some(order_from(&OrderKey { locate, reference }, &row))
+        let found = self.order(locate, reference)?;
+        Some(order_from(&OrderKey { locate, reference }, &found.row))
     }
 
     /// What is known of a stock beside its book.

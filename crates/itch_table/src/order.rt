@@ -146,3 +146,12 @@ impl OrderRow {
         }
     }
 }
+
+/// A live order as a look-up found it, so that it isn't looked for again. It is of this project.
+#[derive(Debug, Clone, Copy, PartialEq, Eq)]
+pub struct Found {
+    /// The order without its reference.
+    pub row: OrderRow,
+    /// Where it stood. It is a hint alone: with any other the order is found all the same, by a search.
+    pub hint: usize,
+}

@@ -7,7 +7,7 @@ ghost use Rattle.std.specs.FinMap as maps;
 ghost use Rattle.itch_table.specs.World.{empty_world, is_spent, is_under, key, live, locates, totals};
 ghost use Rattle.itch_table.specs.Table.{with_new_order, with_order, with_spent, without_order};
 
-use crate::order::{OrderKey, OrderRow};
+use crate::order::{Found, OrderKey, OrderRow};
 use crate::status::{StockRow, Totals};
 use crate::store::Store;
 use crate::trades::{TradeRow, break_trades, has_unbroken, totals_under};
@@ -177,8 +177,9 @@ impl<A: Allocator + Copy> Store for Rows<A> {
         self.stocks.get(&locate)
     }
 
-    fn order(&self, locate: u16, reference: u64) -> Option<OrderRow> {
-        self.orders.get(&OrderKey { locate, reference }).copied()
+    fn order(&self, locate: u16, reference: u64) -> Option<Found> {
+        let row = self.orders.get(&OrderKey { locate, reference }).copied()?;
+        Some(Found { row, hint: 0 })
     }
 
     fn spent(&self, locate: u16, reference: u64) -> bool {
@@ -210,7 +211,8 @@ impl<A: Allocator + Copy> Store for Rows<A> {
         self.set_new_order(locate, reference, row)
     }
 
-    fn reduce_order(&mut self, locate: u16, reference: u64, row: OrderRow, shares: u32) {
+    fn reduce_order(&mut self, locate: u16, reference: u64, found: Found, shares: u32) {
+        let row = found.row;
         if row.shares == shares {
             self.unset_order(locate, reference);
         } else {
@@ -222,7 +224,7 @@ impl<A: Allocator + Copy> Store for Rows<A> {
         }
     }
 
-    fn remove_order(&mut self, locate: u16, reference: u64) {
+    fn remove_order(&mut self, locate: u16, reference: u64, _found: Found) {
         self.unset_order(locate, reference);
     }
 
@@ -230,15 +232,15 @@ impl<A: Allocator + Copy> Store for Rows<A> {
         &mut self,
         locate: u16,
         old: u64,
+        found: Found,
         new: u64,
         shares: u32,
         price: u32,
     ) -> Result<(), AllocError> {
-        let row = self.order(locate, old).unwrap();
         let placed = OrderRow {
             shares,
             price,
-            ..row
+            ..found.row
         };
         self.set_new_order(locate, new, placed)?;
         self.unset_order(locate, old);

@@ -4,10 +4,11 @@ ghost use Rattle.std.specs.List.{list_any};
 ghost use Rattle.std.specs.Option.{option_copied};
 ghost use Rattle.itch_table.specs.World.{is_spent, live, stock_row};
 ghost use Rattle.itch_table.specs.Held.{Held, Holds, on_world};
+ghost use Rattle.itch_table.specs.Machine.{row_found};
 ghost use Rattle.itch_table.specs.Table.{less_shares, with_new_order, with_replaced, with_stock, with_trade, without_order};
 ghost use Rattle.itch_table.specs.Trades.{broken_at, is_unbroken};
 
-use crate::order::OrderRow;
+use crate::order::{Found, OrderRow};
 use crate::status::StockRow;
 use crate::trades::TradeRow;
 use std::alloc::AllocError;
@@ -29,9 +30,9 @@ pub trait Store {
         ensures { option_copied result ≡ stock_row (held self.now).world locate };
 
     /// The order that lives under a reference.
-    fn order(&self, locate: u16, reference: u64) -> Option<OrderRow>
+    fn order(&self, locate: u16, reference: u64) -> Option<Found>
         requires { Holds (held self.now) locate }
-        ensures { result ≡ live (held self.now).world locate reference };
+        ensures { row_found result ≡ live (held self.now).world locate reference };
 
     /// Whether an order of a stock has had a reference.
     fn spent(&self, locate: u16, reference: u64) -> bool
@@ -73,31 +74,33 @@ pub trait Store {
             held self.new ≡ on_world (λ w. with_new_order w locate reference row) (held self.old)) }
         ensures err { OnErr result (held self.new ≡ held self.old) };
 
-    /// Takes shares off an order, given with its row, which a check has found. The order is gone where none are left.
-    fn reduce_order(&mut self, locate: u16, reference: u64, row: OrderRow, shares: u32)
+    /// Takes shares off an order that a check has found. The order is gone where none are left.
+    fn reduce_order(&mut self, locate: u16, reference: u64, found: Found, shares: u32)
         requires here { Holds (held self.old) locate }
-        requires live { live (held self.old).world locate reference ≡ Some row }
-        requires enough { shares ≤ row.shares }
-        ensures { held self.new ≡ on_world (λ w. less_shares w locate reference row shares) (held self.old) };
+        requires live { live (held self.old).world locate reference ≡ Some found.row }
+        requires enough { shares ≤ found.row.shares }
+        ensures { held self.new ≡
+            on_world (λ w. less_shares w locate reference found.row shares) (held self.old) };
 
-    /// Removes an order.
-    fn remove_order(&mut self, locate: u16, reference: u64)
+    /// Removes an order that a check has found.
+    fn remove_order(&mut self, locate: u16, reference: u64, found: Found)
         requires here { Holds (held self.old) locate }
-        requires live { IsSome (live (held self.old).world locate reference) }
+        requires live { live (held self.old).world locate reference ≡ Some found.row }
         ensures { held self.new ≡ on_world (λ w. without_order w locate reference) (held self.old) };
 
-    /// Puts an order under a reference that no order of the stock has had in the place of one that is gone then, with
-    /// its side and attribution.
+    /// Puts an order under a reference that no order of the stock has had in the place of one that a check has found,
+    /// which is gone then, with its side and attribution.
     fn replace_order(
         &mut self,
         locate: u16,
         old: u64,
+        found: Found,
         new: u64,
         shares: u32,
         price: u32,
     ) -> Result<(), AllocError>
         requires here { Holds (held self.old) locate }
-        requires live { IsSome (live (held self.old).world locate old) }
+        requires live { live (held self.old).world locate old ≡ Some found.row }
         requires new { live (held self.old).world locate new ≡ None }
         requires unspent { is_spent (held self.old).world locate new ≡ false }
         requires some { 0 < shares }

@@ -22,4 +22,4 @@ replaced w placed left locate old new shares price row places removes here free 
 
 pub returns-clause-ok : goal.returns-clause-ok
 returns-clause-ok g c =
-    replaced c.args.self.now _ _ c.args.locate c.args.old c.args.new c.args.shares c.args.price c.unwrap-row.result ((c.in_ok-set_new_order.ensures {u = tt}).ok) c.unset_order.ensures (sym c.order.ensures ∙ c.unwrap-row.ensures) c.requires.new
+    replaced c.args.self.now _ _ c.args.locate c.args.old c.args.new c.args.shares c.args.price c.args.found.row ((c.in_ok-set_new_order.ensures {u = tt}).ok) c.unset_order.ensures c.requires.live c.requires.new
