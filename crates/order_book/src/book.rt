@@ -2,11 +2,12 @@
 ghost use Rattle.std.specs.Prelude.{◌≡◌, ◌-◌, ◌<◌, ◌≤◌, ◌^◌, Some, None, length, IfOk, OnOk, OnErr, IsSome, IsSomeAnd};
 ghost use Rattle.std.specs.FinMap as maps;
 ghost use Rattle.itch_table.specs.Levels.{levels, shares_at, top};
+ghost use Rattle.itch_table.specs.Machine.{row_found};
 ghost use Rattle.order_book.specs.Orders.{order_in, orders_in, reduced, replaced, added};
 
 use crate::levels::Levels;
 use crate::table::OrderTable;
-use itch_table::{Level, Order, OrderRow, Side, Top};
+use itch_table::{Found, Level, Order, OrderRow, Side, Top};
 use std::alloc::{AllocError, Allocator};
 use std::marker::Model;
 
@@ -65,15 +66,16 @@ impl<A: Allocator + Copy> Book<A> {
     pub fn order(&self, reference: u64) -> Option<Order>
         ensures { result ≡ order_in self.now reference }
     {
-        let row = self.row(reference)?;
-        Some(row.under(reference))
+        let found = self.find(reference)?;
+        Some(found.row.under(reference))
     }
 
-    /// The order that lives under a reference, without it.
-    pub fn row(&self, reference: u64) -> Option<OrderRow>
-        ensures { result ≡ maps.get self.now reference }
+    /// The order that lives under a reference, as [`Book::reduce_found`], [`Book::remove_found`] and
+    /// [`Book::replace_found`] take it, so that it isn't looked for twice.
+    pub fn find(&self, reference: u64) -> Option<Found>
+        ensures { row_found result ≡ maps.get self.now reference }
     {
-        self.orders.row(reference)
+        self.orders.find(reference)
     }
 
     /// Reads what stands in the book itself, so that the processor has fetched that memory when a message comes. It
@@ -125,7 +127,26 @@ impl<A: Allocator + Copy> Book<A> {
         ensures ok { OnOk result (self.new ≡ replaced self.old old new shares price) }
         ensures err { OnErr result (self.new ≡ self.old) }
     {
-        let row = self.row(old).unwrap();
+        let found = self.find(old).unwrap();
+        self.replace_found(old, found, new, shares, price)
+    }
+
+    /// The same, of an order that was found.
+    pub fn replace_found(
+        &mut self,
+        old: u64,
+        found: Found,
+        new: u64,
+        shares: u32,
+        price: u32,
+    ) -> Result<(), AllocError>
+        requires live { maps.get self.old old ≡ Some found.row }
+        requires new { order_in self.old new ≡ None }
+        requires some { 1 ≤ shares }
+        ensures ok { OnOk result (self.new ≡ replaced self.old old new shares price) }
+        ensures err { OnErr result (self.new ≡ self.old) }
+    {
+        let row = found.row;
         let placed = OrderRow {
             shares,
             price,
@@ -133,30 +154,49 @@ impl<A: Allocator + Copy> Book<A> {
         };
         self.levels.reserve(row.side)?;
         self.orders.insert(placed.under(new))?;
-        self.orders.remove(old);
+        self.orders.remove(old, found.hint);
         self.levels.raise(row.side, price, shares);
         self.levels.lower(row.side, row.price, row.shares);
         Ok(())
     }
 
-    /// Takes shares off a live order that has at least so many. An order with none left is gone.
+    /// Takes shares off a live order that has at least that many. An order with none left is gone.
     pub fn reduce(&mut self, reference: u64, shares: u32)
         requires { IsSomeAnd (order_in self.old reference) (λ order. shares ≤ order.shares) }
         ensures { self.new ≡ reduced self.old reference shares }
     {
-        let row = self.orders.reduce(reference, shares);
+        let found = self.find(reference).unwrap();
+        self.reduce_found(reference, found, shares);
+    }
+
+    /// The same, of an order that was found.
+    pub fn reduce_found(&mut self, reference: u64, found: Found, shares: u32)
+        requires live { maps.get self.old reference ≡ Some found.row }
+        requires enough { shares ≤ found.row.shares }
+        ensures { self.new ≡ reduced self.old reference shares }
+    {
+        let row = self.orders.reduce(reference, found.hint, shares);
         self.levels.lower(row.side, row.price, shares);
     }
 
-    /// Removes a live order, and answers what it was.
+    /// Removes a live order, and returns what it was.
     pub fn remove(&mut self, reference: u64) -> Order
         requires { IsSome (order_in self.old reference) }
         ensures order { order_in self.old reference ≡ Some result }
         ensures gone { self.new ≡ maps.remove self.old reference }
     {
-        let row = self.orders.remove(reference);
+        let found = self.find(reference).unwrap();
+        self.remove_found(reference, found);
+        found.row.under(reference)
+    }
+
+    /// The same, of an order that was found.
+    pub fn remove_found(&mut self, reference: u64, found: Found)
+        requires { maps.get self.old reference ≡ Some found.row }
+        ensures { self.new ≡ maps.remove self.old reference }
+    {
+        let row = self.orders.remove(reference, found.hint);
         self.levels.lower(row.side, row.price, row.shares);
-        row.under(reference)
     }
 
     /// The shares of a side's orders at a price, 0 where there are none.

@@ -3,10 +3,11 @@ ghost use Rattle.std.specs.Prelude.{◌≡◌, ◌≤◌, None, if◌then◌else
 ghost use Rattle.std.specs.List.{All, AllWithin};
 ghost use Rattle.std.specs.Bool.{IsTrue};
 ghost use Rattle.std.specs.FinMap as maps;
+ghost use Rattle.itch_table.specs.Machine.{row_found};
 ghost use Rattle.order_book.specs.Orders.{added, orders_in, reduced_by};
 ghost use Rattle.order_book.specs.Parts.{AreRising, IsAbove, IsBelow, IsFirst, IsLiveAt, has_shares, live_in, order_at, without_distance};
 
-use itch_table::{Order, OrderRow, Side};
+use itch_table::{Found, Order, OrderRow, Side};
 use std::alloc::{AllocError, Allocator};
 use std::marker::Model;
 
@@ -178,6 +179,21 @@ fn index_of(first: u64, rows: &[RisenRow], reference: u64) -> Option<usize>
     }
 }
 
+// The same, where the order may stand at an index that an earlier search has found.
+fn index_near(first: u64, rows: &[RisenRow], reference: u64, hint: usize) -> Option<usize>
+    requires { AreRising rows.now }
+    ensures found { IfSome result (IsLiveAt first rows.now reference) }
+    ensures none { IfNone result (maps.get (live_in first rows.now) reference ≡ None) }
+{
+    if hint < rows.len()
+        && reference.checked_sub(first) == Some(u64::from(rows[hint].distance))
+        && is_live(&rows[hint])
+    {
+        return Some(hint);
+    }
+    index_of(first, rows, reference)
+}
+
 impl<A: Allocator + Copy> RisingOrders<A> {
     /// No orders. It takes no memory yet.
     pub fn new(alloc: A) -> RisingOrders<A>
@@ -190,12 +206,15 @@ impl<A: Allocator + Copy> RisingOrders<A> {
         }
     }
 
-    /// The order that lives under a reference, without it.
-    pub fn row(&self, reference: u64) -> Option<OrderRow>
-        ensures { result ≡ maps.get self.now reference }
+    /// The order that lives under a reference.
+    pub fn find(&self, reference: u64) -> Option<Found>
+        ensures { row_found result ≡ maps.get self.now reference }
     {
         let index = index_of(self.first, &self.rows, reference)?;
-        Some(self.rows[index].row())
+        Some(Found {
+            row: self.rows[index].row(),
+            hint: index,
+        })
     }
 
     /// Reads what stands in the value itself. What it returns means nothing.
@@ -234,15 +253,15 @@ impl<A: Allocator + Copy> RisingOrders<A> {
         Ok(false)
     }
 
-    /// Takes shares off the order under a reference, which has at least so many where it lives, and answers the order
-    /// as it was. One with none left is gone.
-    pub fn reduce(&mut self, reference: u64, shares: u32) -> Option<OrderRow>
+    /// Takes shares off the order under a reference, which has at least that many where it lives, and returns the order
+    /// as it was. One with none left is gone. The hint is that of a search for it.
+    pub fn reduce(&mut self, reference: u64, hint: usize, shares: u32) -> Option<OrderRow>
         requires { IfSome (maps.get self.old reference) (λ row. shares ≤ row.shares) }
         ensures row { result ≡ maps.get self.old reference }
         ensures left { IfSome result (λ row. self.new ≡ reduced_by self.old reference row shares) }
         ensures none { IfNone result (self.new ≡ self.old) }
     {
-        let index = index_of(self.first, &self.rows, reference)?;
+        let index = index_near(self.first, &self.rows, reference, hint)?;
         let risen = &mut self.rows[index];
         let row = risen.row();
         risen.shares -= shares;
@@ -252,12 +271,12 @@ impl<A: Allocator + Copy> RisingOrders<A> {
         Some(row)
     }
 
-    /// Removes the order under a reference, and answers what it was.
-    pub fn remove(&mut self, reference: u64) -> Option<OrderRow>
+    /// Removes the order under a reference, and returns what it was. The hint is that of a search for it.
+    pub fn remove(&mut self, reference: u64, hint: usize) -> Option<OrderRow>
         ensures row { result ≡ maps.get self.old reference }
         ensures gone { self.new ≡ maps.remove self.old reference }
     {
-        let index = index_of(self.first, &self.rows, reference)?;
+        let index = index_near(self.first, &self.rows, reference, hint)?;
         let risen = &mut self.rows[index];
         let row = risen.row();
         risen.shares = 0;

@@ -3,10 +3,11 @@ ghost use Rattle.std.specs.Prelude.{◌≡◌, ◌≤◌, Some, map, IfOk, IsSom
 ghost use Rattle.std.specs.BTreeMap.{btree_map_len, get, IsOrdered};
 ghost use Rattle.std.specs.FinMap as maps;
 ghost use Rattle.std.specs.Ordering.{nat_cmp};
+ghost use Rattle.itch_table.specs.Machine.{row_found};
 ghost use Rattle.itch_table.specs.World.{order_under};
 ghost use Rattle.order_book.specs.Orders.{reduced_by};
 
-use itch_table::{Order, OrderRow};
+use itch_table::{Found, Order, OrderRow};
 use std::alloc::{AllocError, Allocator};
 use std::collections::BTreeMap;
 
@@ -23,7 +24,23 @@ pub fn as_orders<A: Allocator + Copy>(
         .collect(alloc)
 }
 
-/// Takes shares off a row that has at least so many, and answers the row as it was. A row with none left is gone.
+// A row is found again by its reference alone.
+const NO_HINT: usize = usize::MAX;
+
+/// The row under a reference.
+pub fn found_among<A: Allocator + Copy>(
+    rows: &BTreeMap<u64, OrderRow, A>,
+    reference: u64,
+) -> Option<Found>
+    ensures { row_found result ≡ get nat_cmp rows.now reference }
+{
+    rows.get(&reference).map(|row| Found {
+        row: *row,
+        hint: NO_HINT,
+    })
+}
+
+/// Takes shares off a row that has at least that many, and returns the row as it was. A row with none left is gone.
 pub fn reduce_row<A: Allocator + Copy>(
     rows: &mut BTreeMap<u64, OrderRow, A>,
     reference: u64,

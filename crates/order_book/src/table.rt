@@ -1,12 +1,13 @@
 //! The live orders of one stock.
 ghost use Rattle.std.specs.Prelude.{◌≡◌, ◌<◌, ◌≤◌, ◌^◌, Some, None, IfOk, OnErr, OnOk, IsSome, IsSomeAnd};
 ghost use Rattle.std.specs.FinMap as maps;
+ghost use Rattle.itch_table.specs.Machine.{row_found};
 ghost use Rattle.order_book.specs.Orders.{added, orders_in, reduced_by};
 ghost use Rattle.order_book.specs.Parts.{AreApart, joined};
 
 use crate::rising::RisingOrders;
-use crate::rows::{as_orders, copied, reduce_row};
-use itch_table::{Order, OrderRow};
+use crate::rows::{as_orders, copied, found_among, reduce_row};
+use itch_table::{Found, Order, OrderRow};
 use std::alloc::{AllocError, Allocator};
 use std::collections::BTreeMap;
 use std::marker::Model;
@@ -40,11 +41,12 @@ impl<A: Allocator> Model for OrderTable<A> {
     ghost invariant = { λ t. IsTable t.rising (maps.from_entries t.others.entries) t.count };
 }
 
-// Takes shares off an order that has at least so many, in the part in which it lives, and answers it as it was.
+// Takes shares off an order that has at least that many, in the part in which it lives, and returns it as it was.
 fn reduce_either<A: Allocator + Copy>(
     rising: &mut RisingOrders<A>,
     others: &mut BTreeMap<u64, OrderRow, A>,
     reference: u64,
+    hint: usize,
     shares: u32,
 ) -> OrderRow
     requires apart { AreApart rising.old (maps.from_entries others.old.entries) }
@@ -56,7 +58,7 @@ fn reduce_either<A: Allocator + Copy>(
         reduced_by (joined rising.old (maps.from_entries others.old.entries)) reference result shares }
     ensures apart { AreApart rising.new (maps.from_entries others.new.entries) }
 {
-    match rising.reduce(reference, shares) {
+    match rising.reduce(reference, hint, shares) {
         Some(row) => row,
         None => reduce_row(others, reference, shares),
     }
@@ -74,13 +76,13 @@ impl<A: Allocator + Copy> OrderTable<A> {
         }
     }
 
-    /// The order that lives under a reference, without it.
-    pub fn row(&self, reference: u64) -> Option<OrderRow>
-        ensures { result ≡ maps.get self.now reference }
+    /// The order that lives under a reference.
+    pub fn find(&self, reference: u64) -> Option<Found>
+        ensures { row_found result ≡ maps.get self.now reference }
     {
-        match self.rising.row(reference) {
-            Some(row) => Some(row),
-            None => self.others.get(&reference).copied(),
+        match self.rising.find(reference) {
+            Some(found) => Some(found),
+            None => found_among(&self.others, reference),
         }
     }
 
@@ -117,28 +119,28 @@ impl<A: Allocator + Copy> OrderTable<A> {
         Ok(())
     }
 
-    /// Takes shares off a live order that has at least so many, and answers the order as it was. One with none left is
-    /// gone.
-    pub fn reduce(&mut self, reference: u64, shares: u32) -> OrderRow
+    /// Takes shares off a live order that has at least that many, and returns the order as it was. One with none left is
+    /// gone. The hint is that of a search for it.
+    pub fn reduce(&mut self, reference: u64, hint: usize, shares: u32) -> OrderRow
         requires { IsSomeAnd (maps.get self.old reference) (λ row. shares ≤ row.shares) }
         ensures row { maps.get self.old reference ≡ Some result }
         ensures left { self.new ≡ reduced_by self.old reference result shares }
     {
-        let row = reduce_either(&mut self.rising, &mut self.others, reference, shares);
+        let row = reduce_either(&mut self.rising, &mut self.others, reference, hint, shares);
         if row.shares == shares {
             self.count -= 1;
         }
         row
     }
 
-    /// Removes a live order, and answers what it was.
-    pub fn remove(&mut self, reference: u64) -> OrderRow
+    /// Removes a live order, and returns what it was. The hint is that of a search for it.
+    pub fn remove(&mut self, reference: u64, hint: usize) -> OrderRow
         requires { IsSome (maps.get self.old reference) }
         ensures row { maps.get self.old reference ≡ Some result }
         ensures gone { self.new ≡ maps.remove self.old reference }
     {
         self.count -= 1;
-        match self.rising.remove(reference) {
+        match self.rising.remove(reference, hint) {
             Some(row) => row,
             None => self.others.remove(&reference).unwrap(),
         }

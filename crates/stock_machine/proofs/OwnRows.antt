@@ -31,10 +31,6 @@ stock_set l (Some old) new = same_map nat_cmp_total nat_cmp-IsAntisymmetric _ _ 
 pub keyed_empty : {X : Type 0} (l : ℕ) → keyed {X = X} l empty ≡ empty
 keyed_empty {X} l = same_map key_total key_exact _ _ (λ q. grind (arith, common_steps, get_keyed {X = X} q.locate l q.reference empty, get-empty {X = X} nat_cmp q.reference, get-empty {X = X} key_cmp q))
 
-pub some_mapped : {X Y : Type 0} (f : X → Y) (o : Option X) → IsSome o → IsSome (option_map f o)
-some_mapped f None some = some
-some_mapped f (Some x) some = refl
-
 -- all rows of the one stock are under its locate code
 listed_at : (l : ℕ) (rows : List (ℕ × OrderRow)) → map (λ e. order_of e.0 e.1) (filter (λ e. is_under l e.0) (at l rows)) ≡ map (λ e. order_under e.0 e.1) rows
 listed_at l [] = refl

@@ -5,7 +5,9 @@ ghost use Rattle.itch_table.specs.Levels.{levels, shares_at, top};
 
 use crate::spent::SpentReferences;
 use crate::trades::Trades;
-use itch_table::{Level, Order, OrderRow, Side, Status, StockRow, Store, Top, Totals, TradeRow};
+use itch_table::{
+    Found, Level, Order, OrderRow, Side, Status, StockRow, Store, Top, Totals, TradeRow,
+};
 use order_book::Book;
 use std::alloc::{AllocError, Allocator};
 use std::marker::Model;
@@ -154,8 +156,8 @@ impl<A: Allocator + Copy> Store for Rows<A> {
         self.known.as_ref()
     }
 
-    fn order(&self, _locate: u16, reference: u64) -> Option<OrderRow> {
-        self.book.row(reference)
+    fn order(&self, _locate: u16, reference: u64) -> Option<Found> {
+        self.book.find(reference)
     }
 
     fn spent(&self, _locate: u16, reference: u64) -> bool {
@@ -188,24 +190,25 @@ impl<A: Allocator + Copy> Store for Rows<A> {
         }
     }
 
-    fn reduce_order(&mut self, _locate: u16, reference: u64, _row: OrderRow, shares: u32) {
-        self.book.reduce(reference, shares);
+    fn reduce_order(&mut self, _locate: u16, reference: u64, found: Found, shares: u32) {
+        self.book.reduce_found(reference, found, shares);
     }
 
-    fn remove_order(&mut self, _locate: u16, reference: u64) {
-        self.book.remove(reference);
+    fn remove_order(&mut self, _locate: u16, reference: u64, found: Found) {
+        self.book.remove_found(reference, found);
     }
 
     fn replace_order(
         &mut self,
         _locate: u16,
         old: u64,
+        found: Found,
         new: u64,
         shares: u32,
         price: u32,
     ) -> Result<(), AllocError> {
         self.spent.insert(new)?;
-        match self.book.replace(old, new, shares, price) {
+        match self.book.replace_found(old, found, new, shares, price) {
             Ok(()) => Ok(()),
             Err(error) => {
                 self.spent.remove(new);

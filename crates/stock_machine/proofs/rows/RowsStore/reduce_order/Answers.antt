@@ -7,18 +7,18 @@ use Rattle.stock_machine.proofs.Keyed.{live_keyed}
 use Rattle.stock_machine.proofs.Owned.{held_reduce}
 use Rattle.stock_machine.proofs.rows.RowsStore.reduce_order.Goals as goal
 
-pub reduce-requires : goal.reduce-requires
-reduce-requires g c =
+pub reduce_found-requires-clause-live : goal.reduce_found-requires-clause-live
+reduce_found-requires-clause-live g c =
     let here : c.args._locate ≡ c.args.self.now.locate = c.requires.here in
     let i = c.self.inside in
-    let there : maps.get i.book c.args.reference ≡ Some c.args._row = sym (live_keyed i.locate c.args.reference i.book) ∙ (rw (here, ← c.self.view_is) at c.requires.live) in
-    rw there c.requires.enough
+    sym (live_keyed i.locate c.args.reference i.book) ∙ (rw (here, ← c.self.view_is) at c.requires.live)
 
 pub returns : goal.returns
 returns g c =
     let here : c.args._locate ≡ c.args.self.now.locate = c.requires.here in
     let i = c.self.inside in
-    let there : maps.get i.book c.args.reference ≡ Some c.args._row = sym (live_keyed i.locate c.args.reference i.book) ∙ (rw (here, ← c.self.view_is) at c.requires.live) in
+    let row = c.args.found.row in
+    let there : maps.get i.book c.args.reference ≡ Some row = sym (live_keyed i.locate c.args.reference i.book) ∙ (rw (here, ← c.self.view_is) at c.requires.live) in
     rw (here, ← c.self.view_is) (
-    held_reduce i.locate i.book i.spent i.trades i.known c.args.reference c.args.shares c.args._row _ (ap (λ (o : Option OrderRow). unwrap_or o no_order) there) c.reduce.ensures
+    held_reduce i.locate i.book i.spent i.trades i.known c.args.reference c.args.shares row _ (ap (λ (o : Option OrderRow). unwrap_or o no_order) there) c.reduce_found.ensures
     )

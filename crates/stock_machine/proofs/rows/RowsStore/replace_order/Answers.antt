@@ -4,16 +4,17 @@ use Rattle.itch_table.specs.declared.order.OrderRow.{OrderRow}
 use Rattle.itch_table.specs.World.{order_under}
 use Rattle.stock_machine.proofs.Keyed.{live_keyed}
 use Rattle.stock_machine.proofs.Owned.{held_replace, held_taken_back}
-use Rattle.stock_machine.proofs.OwnRows.{some_mapped, spent_own}
+use Rattle.stock_machine.proofs.OwnRows.{spent_own}
 use Rattle.stock_machine.proofs.rows.RowsStore.replace_order.Goals as goal
 
-pub replace-requires-clause-live : goal.replace-requires-clause-live
-replace-requires-clause-live g c =
+pub replace_found-requires-clause-live : goal.replace_found-requires-clause-live
+replace_found-requires-clause-live g c =
     let here : c.args._locate ≡ c.args.self.now.locate = c.requires.here in
-    some_mapped (order_under c.args.old) _ (rw (here, ← c.self.view_is, live_keyed c.self.inside.locate c.args.old c.self.inside.book) at c.requires.live)
+    let i = c.self.inside in
+    sym (live_keyed i.locate c.args.old i.book) ∙ (rw (here, ← c.self.view_is) at c.requires.live)
 
-pub replace-requires-clause-new : goal.replace-requires-clause-new
-replace-requires-clause-new g c =
+pub replace_found-requires-clause-new : goal.replace_found-requires-clause-new
+replace_found-requires-clause-new g c =
     let here : c.args._locate ≡ c.args.self.now.locate = c.requires.here in
     let i = c.self.inside in
     ap (λ (o : Option OrderRow). option_map (order_under c.args.new) o) (sym (live_keyed i.locate c.args.new i.book) ∙ (rw (here, ← c.self.view_is) at c.requires.new))

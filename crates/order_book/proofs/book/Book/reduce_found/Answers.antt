@@ -1,20 +1,19 @@
-use Rattle.std.proofs.Common.{◌≤◌, arith}
-use Rattle.itch_table.specs.World.{order_under}
+use Rattle.std.proofs.Common.{◌≡◌, ◌≤◌, Some, ap, arith, sym, ◌∙◌}
+use Rattle.itch_table.specs.declared.order.OrderRow.{OrderRow}
 use Rattle.order_book.proofs.Counts.{no_more}
 use Rattle.order_book.proofs.Keeps.{kept_reduced, shares_among}
-use Rattle.order_book.proofs.Live.{and_of}
-use Rattle.order_book.proofs.book.Book.reduce.Goals as goal
-use Rattle.order_book.proofs.book.Book.reduce.Goals.{After-reduce-row}
+use Rattle.order_book.proofs.book.Book.reduce_found.Goals as goal
+use Rattle.order_book.proofs.book.Book.reduce_found.Goals.{After-reduce-row}
 
 pub reduce-row-requires : goal.reduce-row-requires
-reduce-row-requires g c =
-    rw c.self.view_is (and_of (order_under c.args.reference) _ (λ order. c.args.shares ≤ order.shares) c.requires)
+reduce-row-requires g c = rw (c.self.view_is, c.requires.live) c.requires.enough
 
 -- the order has the shares
 enough : (g : _) (c : After-reduce-row g) → c.args.shares ≤ c.reduce-row.result.shares
 enough g c =
-    let has = rw (← c.self.view_is, c.reduce-row.ensures.row) at c.requires in
-    has
+    let there = rw c.self.view_is at c.reduce-row.ensures.row in
+    let same : c.args.found.row ≡ c.reduce-row.result = cc (c.requires.live, there) in
+    omega (arith, c.requires.enough, ap (λ (row : OrderRow). row.shares) same)
 
 pub lower-requires : goal.lower-requires
 lower-requires g c =

@@ -1,12 +1,10 @@
-use Rattle.std.proofs.Common.{arith}
-use Rattle.itch_table.specs.World.{order_under}
+use Rattle.std.proofs.Common.{arith, refl}
 use Rattle.order_book.proofs.Counts.{one_fewer}
 use Rattle.order_book.proofs.Keeps.{kept_remove, shares_among}
-use Rattle.order_book.proofs.Live.{some_of}
-use Rattle.order_book.proofs.book.Book.remove.Goals as goal
+use Rattle.order_book.proofs.book.Book.remove_found.Goals as goal
 
 pub remove-row-requires : goal.remove-row-requires
-remove-row-requires g c = rw c.self.view_is (some_of (order_under c.args.reference) _ c.requires)
+remove-row-requires g c = rw (c.self.view_is, c.requires) refl
 
 pub lower-requires : goal.lower-requires
 lower-requires g c = shares_among c.self.invariant.1 c.args.reference c.remove-row.result c.remove-row.ensures.row

@@ -1,6 +1,6 @@
 use Rattle.std.proofs.Common.{Some, sym, ap, ◌∙◌}
 use Rattle.order_book.proofs.RisingLists.{found}
-use Rattle.order_book.proofs.rising.RisingOrders.row.Goals as goal
+use Rattle.order_book.proofs.rising.RisingOrders.find.Goals as goal
 
 pub returns : goal.returns
 returns g c =
