@@ -24,7 +24,7 @@ impl Tally {
     }
 }
 
-// A place for the machine of each locate code.
+// A list with room for the machine of each locate code, whose index is the code.
 fn places<A: Allocator + Copy>(alloc: A) -> Result<Vec<Option<Stock<A>>, A>, AllocError> {
     let mut places = Vec::with_capacity(alloc, 1 << 16)?;
     for _ in 0..=u16::MAX {
@@ -38,11 +38,11 @@ fn places<A: Allocator + Copy>(alloc: A) -> Result<Vec<Option<Stock<A>>, A>, All
 pub enum Halt {
     /// Memory was refused.
     NoMemory,
-    /// A stock's machine isn't at its place.
+    /// A stock's machine isn't at its index.
     NoMachine,
 }
 
-// Hands a payload to the machine of its stock, which is new at the stock's first message, and answers its outcome.
+// Passes a payload to the machine of its stock, which is new at the stock's first message, and returns its outcome.
 fn take<A: Allocator + Copy>(
     alloc: A,
     places: &mut [Option<Stock<A>>],
@@ -66,7 +66,7 @@ fn take<A: Allocator + Copy>(
     }
 }
 
-/// Steps the machines of all stocks over a day, and answers how many messages had each outcome.
+/// Steps the machines of all stocks over a day, and returns how many messages had each outcome.
 pub fn step_all<A: Allocator + Copy>(alloc: A, day: &Day<A>) -> Result<Tally, Halt> {
     let mut places = places(alloc).map_err(|_| Halt::NoMemory)?;
     let mut tally = Tally {

@@ -45,7 +45,7 @@ pub fn level(price: u32, shares: u64) -> Level {
     Level { price, shares }
 }
 
-/// Makes a call, where it is one that the book takes: what the call answers.
+/// Makes a call, where it is one that the book takes: what the call returns.
 pub fn make<A: Allocator + Copy>(
     book: &mut Book<A>,
     call: Call,
@@ -128,7 +128,7 @@ fn same_levels<A: Allocator + Copy>(
     Ok(())
 }
 
-/// Two books answer the same for each reference and each price that a test names, whether there are orders or not.
+/// Two books return the same for each reference and each price that a test names, whether there are orders or not.
 pub fn same_answers<A: Allocator + Copy>(found: &Book<A>, wanted: &Book<A>) -> Result<(), Fail> {
     for reference in 0..=1_100u64 {
         same(

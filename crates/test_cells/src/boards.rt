@@ -214,7 +214,7 @@ fn cells_that_are_made_take_no_memory(rt: HostRuntime) -> Result<(), Fail> {
 // That the writer is in the middle of its first change, and that a screen stands before the first message.
 const IN_FIRST_CHANGE: (Glance, u32) = (Err(Busy { count: 1 }), 0);
 
-// What glances answer while the first message of the crossed book is shown by single steps, then, and after the other
+// What glances return while the first message of the crossed book is shown by single steps, then, and after the other
 // two.
 fn glance_at_steps<A: Allocator + Copy>(
     day: &Day<A>,

@@ -10,7 +10,7 @@ use std::test::Fail;
 use top_cell::steps::{Opened, begin};
 use top_cell::{Board, Busy, Reading, Screen, TopWriter};
 
-/// What a glance answers.
+/// What a glance returns.
 pub type Glance = Result<Reading, Busy>;
 
 // Takes the next message of a day, and begins to change the writer's cell to it.
@@ -62,7 +62,7 @@ fn end_change<A: Allocator>(
     opened.end(board)
 }
 
-/// Shows the next message of a day by single steps. Answers the writer, and what a glance of three tries has answered
+/// Shows the next message of a day by single steps. Returns the writer, and what a glance of three tries has returned
 /// after the first step and after each word, with the message at which the screen stood then.
 pub fn show_by_steps<A: Allocator + Copy>(
     day: &Day<A>,

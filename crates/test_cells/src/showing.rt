@@ -7,8 +7,8 @@ use itch_table::Plain;
 use std::alloc::{AllocError, Allocator};
 use top_cell::{Board, TopWriter};
 
-/// Takes the next message of a day, and shows the best bid and ask of the writer's stock after it. The answer is
-/// whether there was one.
+/// Takes the next message of a day, and shows the best bid and ask of the writer's stock after it. Returns whether
+/// there was one.
 ///
 /// An error says that memory was refused: the machine and the cell are then as they were.
 pub fn show_next<A: Allocator + Copy>(

@@ -105,8 +105,8 @@ fn look<R: Wait, A: Allocator>(
     }
 }
 
-// Looks until the last of these readings is there, which may come after each number of messages. The answer is how
-// many messages were seen, or the first reading that isn't one of them or that comes after a later one.
+// Looks until the last of these readings is there, which may come after each number of messages. Returns how many
+// messages were seen, or the first reading that isn't one of them or that comes after a later one.
 fn watch<R: Wait, A: Allocator>(
     rt: &R,
     board: &Board<'_, A>,

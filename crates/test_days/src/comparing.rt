@@ -8,7 +8,7 @@ use test_support::{same, same_list};
 // The low references of which it is asked whether they are spent. On a day at random there are no others.
 const LOW: u64 = 40;
 
-/// Hands the plain machine the next payload, and answers what became of it.
+/// Passes the next payload to the plain machine, and returns what became of it.
 pub fn step<A: Allocator + Copy>(plain: &mut Plain<A>, payload: &[u8]) -> Result<Outcome, Fail> {
     if plain.steps() == u32::MAX {
         return Err(Fail::new("a machine takes no more messages"));

@@ -8,7 +8,7 @@ use std::test::Fail;
 use stock_machine::Stock;
 use test_support::same;
 
-// The place of a stock's machine, which is new at the stock's first message.
+// The index of a stock's machine, which is new at the stock's first message.
 fn place_of<A: Allocator + Copy>(
     alloc: A,
     stocks: &mut Vec<Stock<A>, A>,
@@ -22,7 +22,7 @@ fn place_of<A: Allocator + Copy>(
     Ok(place)
 }
 
-// Hands a payload to the machine of its stock, and answers its outcome.
+// Passes a payload to the machine of its stock, and returns its outcome.
 fn take<A: Allocator + Copy>(
     alloc: A,
     stocks: &mut Vec<Stock<A>, A>,
@@ -70,7 +70,7 @@ fn same_named<A: Allocator + Copy>(
 }
 
 /// Leads all machines through a day and compares them after each message of a day of at most 100, and after every
-/// hundredth of a longer one. Answers how many stocks have messages.
+/// hundredth of a longer one. Returns how many stocks have messages.
 pub fn compare<A: Allocator + Copy>(alloc: A, day: &Day<A>) -> Result<usize, Fail> {
     let every = if day.len() <= 100 { 1 } else { 100 };
     let mut plain = Plain::new(alloc);

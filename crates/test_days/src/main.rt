@@ -30,7 +30,7 @@ const LIMITS: Limits = Limits {
     messages: 1 << 16,
 };
 
-// Compares the machines over a day, and answers how many stocks have messages.
+// Compares the machines over a day, and returns how many stocks have messages.
 fn compare_day<R: Threads + Wait + Sync, A: Allocator + Copy + Send + Sync>(
     rt: &R,
     alloc: A,

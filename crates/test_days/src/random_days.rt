@@ -64,7 +64,7 @@ fn compare_moves<A: Allocator + Copy>(alloc: A, day: &Day<A>) -> Result<(), Fail
 }
 
 /// Compares the machines over a day at random of more stocks than a debugger keeps tracks of, and the debugger at each
-/// of its places, so that it drops tracks and makes them again. Answers how many stocks have messages.
+/// of its places, so that it drops tracks and makes them again. Returns how many stocks have messages.
 pub fn compare_wide_day<R: Threads + Wait + Sync, A: Allocator + Copy + Send + Sync>(
     rt: &R,
     alloc: A,
@@ -76,7 +76,7 @@ pub fn compare_wide_day<R: Threads + Wait + Sync, A: Allocator + Copy + Send + S
 }
 
 /// Compares the machines, the debugger and the texts over days at random, and fails too where an outcome is rare.
-/// Answers how often each outcome occurs, and how many changed texts denote a file.
+/// Returns how often each outcome occurs, and how many changed texts denote a file.
 pub fn compare_random_days<R: Threads + Wait + Sync, A: Allocator + Copy + Send + Sync>(
     rt: &R,
     alloc: A,

@@ -18,7 +18,7 @@ const LEAST: u64 = 20;
 pub struct Tally {
     applied: [u64; 256],
     refused: [u64; 13],
-    // Faults of a number that has no place in `refused`.
+    // Faults of a number that is no index of `refused`.
     strange: u64,
     passed: u64,
 }

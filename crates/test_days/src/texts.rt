@@ -9,7 +9,7 @@ use std::alloc::Allocator;
 use std::test::Fail;
 use test_support::{day_of, same, same_bytes};
 
-// Where the line begins that has the byte at a place.
+// Where the line begins that has the byte at an index.
 fn line_start(text: &[u8], place: usize) -> usize {
     match text.iter().take(place).rposition(|byte| *byte == b'\n') {
         Some(before) => before.saturating_add(1),
@@ -17,7 +17,7 @@ fn line_start(text: &[u8], place: usize) -> usize {
     }
 }
 
-// Where the lines begin that follow the one that has the byte at a place.
+// Where the lines begin that follow the one that has the byte at an index.
 fn next_line(text: &[u8], place: usize) -> usize {
     match text.iter().skip(place).position(|byte| *byte == b'\n') {
         Some(offset) => place.saturating_add(offset).saturating_add(1),
@@ -34,7 +34,7 @@ struct Changed<'a> {
 }
 
 impl<'a> Changed<'a> {
-    // A text whose byte at a place was changed.
+    // A text whose byte at an index was changed.
     fn at(text: &'a [u8], place: usize) -> Option<Changed<'a>> {
         let start = line_start(text, place);
         let end = next_line(text, place.saturating_add(1));
@@ -114,7 +114,7 @@ fn between<'a>(text: &'a [u8], before: &[u8], after: &[u8]) -> Option<&'a [u8]> 
     text.strip_prefix(before)?.strip_suffix(after)
 }
 
-// Assembles the text of a day whose byte at a place was changed, and answers whether it denotes a file.
+// Assembles the text of a day whose byte at an index was changed, and returns whether it denotes a file.
 fn take_changed<A: Allocator + Copy>(
     alloc: A,
     day: &Day<A>,
@@ -147,9 +147,9 @@ fn other_byte(random: &mut SmallRng, was: u8) -> u8 {
     if byte == was { was ^ 1 } else { byte }
 }
 
-/// Assembles the text of a day, which gives its bytes, and then that text with one byte changed, so often: it denotes a
-/// file that differs by what that byte's line means, or that line or a later one is faulty. Answers how many denote a
-/// file.
+/// Assembles the text of a day, which gives its bytes, and then that text with one byte changed, this many times: it
+/// denotes a file that differs by what that byte's line means, or that line or a later one is faulty. Returns how many
+/// denote a file.
 pub fn compare_texts<A: Allocator + Copy>(
     alloc: A,
     day: &Day<A>,

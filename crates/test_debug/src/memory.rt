@@ -13,7 +13,7 @@ const BEFORE: &[u8] = b"before\n";
 // The breakpoints of a session before a line.
 const BREAKS: &str = "1 time 3\n";
 
-// Hands a session a line with memory.
+// Passes a line to a session, with memory.
 fn answer<A: Allocator + Copy>(
     alloc: A,
     debugger: &mut Debugger<'_, A>,
@@ -25,7 +25,7 @@ fn answer<A: Allocator + Copy>(
     same_bytes(line, &text, wanted.as_bytes())
 }
 
-// Hands a session a line under a refusal, with a text that has something. The answer follows that, or nothing does
+// Passes a line to a session under a refusal, with a text that has something. The answer follows that, or nothing does
 // where memory was refused.
 fn answer_under<'h>(
     heap: &'h Refusing<Global>,
@@ -65,8 +65,8 @@ fn ask_breaks<A: Allocator + Copy>(
     same_bytes("the breakpoints", &text, after.as_bytes())
 }
 
-// Hands a session at position 5, which has a breakpoint, a line under a refusal. Then the session goes on to list its
-// breakpoints, and to show the day.
+// Passes a line under a refusal to a session at position 5, which has a breakpoint. Then the session goes on to list
+// its breakpoints, and to show the day.
 fn try_line(
     heap: &Refusing<Global>,
     line: &str,

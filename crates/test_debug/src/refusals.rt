@@ -41,7 +41,7 @@ fn answered(bytes: &[u8]) -> Result<usize, Fail> {
     Ok(count)
 }
 
-// Runs a session of these lines whose growths are refused so, and answers how it ended, and how many answers were sent.
+// Runs a session of these lines whose growths are refused so, and returns how it ended, and how many answers were sent.
 fn run<'h, A: Allocator + Copy>(
     alloc: A,
     heap: &'h Refusing<A>,
@@ -58,7 +58,7 @@ fn run<'h, A: Allocator + Copy>(
     Ok((ended, answered(writer.taken())?))
 }
 
-// The first lines, so many of them, with their line feeds.
+// The first lines, this many of them, with their line feeds.
 fn first_lines(count: usize) -> &'static str {
     let mut left = count;
     for (place, byte) in LINES.bytes().enumerate() {

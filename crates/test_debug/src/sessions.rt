@@ -284,7 +284,7 @@ fn other_lines_are_no_command(rt: HostRuntime) -> Result<(), Fail> {
     follow(rt.alloc(), TRADED, 1000, OTHER, OTHER_ANSWERS)
 }
 
-// Hands a session a line of spaces and a command that has this many bytes, and compares what it answers.
+// Passes to a session a line of spaces and a command that has this many bytes, and compares what it answers.
 fn answer_long<A: Allocator + Copy>(
     alloc: A,
     debugger: &mut Debugger<'_, A>,

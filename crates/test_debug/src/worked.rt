@@ -58,7 +58,8 @@ pub fn day_in<A: Allocator + Copy>(alloc: A, text: &str) -> Result<Day<A>, Fail>
     }
 }
 
-/// Hands a new session of a day these lines, each of which ends with a line feed, and compares all answers with these.
+/// Passes these lines, each of which ends with a line feed, to a new session of a day, and compares all answers with
+/// these.
 pub fn follow<A: Allocator + Copy>(
     alloc: A,
     text: &str,

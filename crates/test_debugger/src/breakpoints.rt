@@ -13,7 +13,7 @@ const fn first(at: u32) -> Result<Answer, DebugFault> {
     Ok(Answer::Stopped(Stop { at, hit: Some(0) }))
 }
 
-// A stop of the breakpoint at a place, counted from 0.
+// A stop of the breakpoint at an index, counted from 0.
 const fn stop(at: u32, place: usize) -> Result<Answer, DebugFault> {
     Ok(Answer::Stopped(Stop {
         at,

@@ -1,4 +1,4 @@
-//! Calls of a debugger in a table, each with its answer.
+//! Calls of a debugger in a table, each with its result.
 use debugger::{Break, DebugFault, Debugger, Stop};
 use itch_table::{Outcome, Top, Totals};
 use std::alloc::Allocator;
@@ -19,14 +19,14 @@ pub enum Call {
     Stock(u16),
 }
 
-/// What a call answers.
+/// What a call returns.
 #[derive(Debug, Clone, Copy, PartialEq, Eq)]
 pub enum Answer {
     /// A move by a number, with the position and the outcome there.
     Moved(u32, Option<Outcome>),
     /// A search.
     Stopped(Stop),
-    /// A breakpoint's place.
+    /// A breakpoint's index.
     Place(usize),
     /// The breakpoint that was removed.
     Removed(Option<Break>),
@@ -34,7 +34,7 @@ pub enum Answer {
     Shown(Top, Totals, Option<u8>, bool),
 }
 
-// The answer of a move by a number.
+// The result of a move by a number.
 fn moved<A: Allocator>(debugger: &Debugger<'_, A>) -> Answer {
     Answer::Moved(debugger.position(), debugger.outcome())
 }
@@ -66,7 +66,7 @@ impl Call {
     }
 }
 
-/// Makes calls one after another, and compares their answers.
+/// Makes calls one after another, and compares their results.
 pub fn follow<A: Allocator + Copy>(
     alloc: A,
     debugger: &mut Debugger<'_, A>,

@@ -31,7 +31,7 @@ fn seen_of<A: Allocator>(debugger: &Debugger<'_, A>) -> Seen {
     }
 }
 
-// What a call answers, and what the debugger is then.
+// What a call returns, and what the debugger is then.
 #[derive(Debug, Clone, Copy, PartialEq, Eq)]
 struct Done {
     answer: Result<Answer, DebugFault>,
@@ -76,7 +76,7 @@ const AT_3: Answer = Answer::Shown(
 
 // Makes a call of a new debugger under a refusal. Where it is refused, it leaves the debugger as it was, its stock too,
 // and is made with memory: after the stock was asked for where all later growths were refused as well, and else at
-// once. In the end the answer and the debugger are those of a twin whose call was never refused.
+// once. In the end the result and the debugger are those of a twin whose call was never refused.
 fn call_under<'h>(
     heap: &'h Refusing<Global>,
     debugger: &mut Debugger<'_, &'h Refusing<Global>>,

@@ -35,7 +35,7 @@ const INPUTS: [(Engine, &[u8], ProgFault); 12] = [
     ),
 ];
 
-// A run of an engine, with what it answers and what it writes.
+// A run of an engine, with what it returns and what it writes.
 fn try_run<T: AllocGlobal + Threads + Wait + Sync>(
     rt: &T,
     engine: Engine,

@@ -58,8 +58,8 @@ impl Gate for Counting {
     }
 }
 
-// A replay of the worked file by so many workers. Of them the one that has the stock of locate code 1 comes to messages 1
-// and 2, the only ones of a stock.
+// A replay of the worked file by this many workers. Of them the one that has the stock of locate code 1 comes to
+// messages 1 and 2, the only ones of a stock.
 fn try_workers<T: AllocGlobal + Threads + Wait + Sync>(rt: &T, workers: u32) -> Result<(), Fail> {
     let mut output = Vec::new(rt.alloc());
     if workers == 0 || workers > 64 {
@@ -127,7 +127,7 @@ fn engines_send_nothing_after_a_failed_read(rt: HostRuntime) -> Result<(), Fail>
     Ok(())
 }
 
-// A run whose writer takes one byte a call, and fails when it has taken so many.
+// A run whose writer takes one byte a call, and fails when it has taken this many.
 fn try_write<T: AllocGlobal + Threads + Wait + Sync>(
     rt: &T,
     engine: Engine,

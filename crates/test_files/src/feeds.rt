@@ -1,4 +1,4 @@
-//! Feeds: what one read answers, and readers that fail.
+//! Feeds: what one read returns, and readers that fail.
 use crate::THREE;
 use binaryfile::{Day, Feed, LoadFault};
 use std::alloc::Allocator;

@@ -74,7 +74,7 @@ fn same_references<A: Allocator + Copy>(found: &Plain<A>, wanted: &Plain<A>) -> 
     Ok(())
 }
 
-// Hands a machine a message with memory, which is applied.
+// Passes a message to a machine with memory, which applies it.
 fn apply<A: Allocator + Copy>(alloc: A, machine: &mut Plain<A>, msg: &Msg) -> Result<(), Fail> {
     let payload = payload_of(alloc, msg)?;
     take("a message with memory", machine, &payload, Outcome::Applied)
@@ -124,9 +124,9 @@ fn machine_before<A: Allocator + Copy>(
     Ok(machine)
 }
 
-// Hands a machine over a heap a message, and then its twin, which is never refused memory. Where the machine is refused
-// memory, it says what its twin says before the message, and takes the message with memory. Both say the same after it.
-// Answers what became of the step where it was refused.
+// Passes a message to a machine over a heap, and then to its twin, which is never refused memory. Where the machine is
+// refused memory, it says what its twin says before the message, and takes the message with memory. Both say the same
+// after it. Returns what became of the step where it was refused.
 fn step_both<A: Allocator + Copy>(
     heap: &Refusing<Global>,
     alloc: A,
@@ -156,7 +156,7 @@ fn step_both<A: Allocator + Copy>(
     Ok(refused)
 }
 
-// Hands a machine over a heap, and its twin, messages under a refusal.
+// Passes messages to a machine over a heap, and to its twin, under a refusal.
 fn step_all<A: Allocator + Copy>(
     heap: &Refusing<Global>,
     alloc: A,
@@ -178,7 +178,7 @@ fn step_all<A: Allocator + Copy>(
     }
 }
 
-// Hands a machine a message of a series under a refusal. Its twin is over another heap.
+// Passes a message of a series to a machine under a refusal. Its twin is over another heap.
 fn try_step(
     heap: &Refusing<Global>,
     other: &Refusing<Global>,

@@ -80,7 +80,7 @@ const OTHERS: [(&[u8], Outcome); 3] = [
     (b"", Outcome::Passed),
 ];
 
-// Hands a machine messages that are applied.
+// Passes messages that are applied to a machine.
 fn apply_all<A: Allocator + Copy, B: Allocator + Copy>(
     alloc: B,
     machine: &mut Plain<A>,
@@ -98,7 +98,7 @@ fn apply_all<A: Allocator + Copy, B: Allocator + Copy>(
     Ok(())
 }
 
-// Hands a machine messages that are refused, and payloads that are no messages.
+// Passes to a machine messages that are refused, and payloads that are no messages.
 fn refuse_all<A: Allocator + Copy, B: Allocator + Copy>(
     alloc: B,
     machine: &mut Plain<A>,

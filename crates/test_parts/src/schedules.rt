@@ -224,7 +224,8 @@ fn turns_of_crossed_book() -> [([u64; 4], Shown); 3] {
     ]
 }
 
-// Takes the turn after so many under a refusal. Where it is refused, all is as it was, and it is taken with memory.
+// Takes the turn after this many others under a refusal. Where it is refused, all is as it was, and it is taken with
+// memory.
 fn try_turn<R: Threads + Sync>(
     rt: &R,
     heap: &Refusing<Global>,

@@ -60,8 +60,8 @@ const NO_LEVEL: Level = Level {
     shares: 0,
 };
 
-/// What the machine of a stock says after so many of its messages, without trades, where it has this directory row and
-/// these orders. An ask comes only beside a bid of a lower reference. The second message adds the first order.
+/// What the machine of a stock says after this many of its messages, without trades, where it has this directory row
+/// and these orders. An ask comes only beside a bid of a lower reference. The second message adds the first order.
 pub fn stock_with(
     locate: u16,
     steps: u32,

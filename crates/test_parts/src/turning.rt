@@ -53,7 +53,7 @@ fn runner_of<'p, A: Allocator + Copy>(
     Ok(Runner::new(alloc, parts, worker)?)
 }
 
-// What a turn answers.
+// What a turn returns.
 fn turned(message: u32, outcome: Outcome, place: usize) -> Option<Turned> {
     Some(Turned {
         piece: Piece { message, outcome },
@@ -61,7 +61,7 @@ fn turned(message: u32, outcome: Outcome, place: usize) -> Option<Turned> {
     })
 }
 
-// Takes a worker's turn, which answers this.
+// Takes a worker's turn, which returns this.
 fn take<A: Allocator + Copy>(
     case: &str,
     runner: &mut Runner<'_, A>,
@@ -112,7 +112,7 @@ fn a_worker_does_its_messages_in_order(rt: HostRuntime) -> Result<(), Fail> {
     same("how many stocks", &runner.into_stocks().len(), &2)
 }
 
-// What a replay of the two stocks answers.
+// What a replay of the two stocks returns.
 fn same_day<A: Allocator + Copy>(replayed: &ReplayedDay<A>) -> Result<(), Fail> {
     same_list("the outcomes", &replayed.outcomes, &OUTCOMES)?;
     let [one, two, three] = replayed.stocks.as_slice() else {
@@ -199,7 +199,7 @@ fn said_by<A: Allocator + Copy>(alloc: A, runner: &Runner<'_, A>) -> Result<Said
     ))
 }
 
-// What a turn of the only worker of the two stocks answers, the next message after it, and what the stocks say then.
+// What a turn of the only worker of the two stocks returns, the next message after it, and what the stocks say then.
 type After = (Option<Turned>, Option<u32>, [Shown; 3]);
 
 // All of its turns.

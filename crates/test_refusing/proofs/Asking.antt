@@ -1,4 +1,4 @@
--- `is_refused` at a call: what it is handed, and what its caller has of it. Assumes `Logic`.
+-- `is_refused` at a call: what is passed to it, and what its caller has of it. Assumes `Logic`.
 use Rattle.std.proofs.Common.{◌≡◌, ℕ, Bool, List, [], ◌∷◌, refl, ap}
 use seplogic.Ra.Ura.{Ura}
 use mir.Val.{Val, vbool, vptr}

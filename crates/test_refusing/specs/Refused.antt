@@ -1,4 +1,4 @@
--- Which growths an allocator refuses, and the allocator that answers the others.
+-- Which growths an allocator refuses, and the allocator that makes the others.
 use Rattle.std.specs.Prelude.{◌≡◌, ℕ, ◌≤◌, ◌<◌, ◌^◌, ◌↔◌}
 use Rattle.test_refusing.specs.declared.Refusal.{Refusal}
 use Rattle.test_refusing.specs.declared.Refusal.TheVariants.{Never, Only, From}

@@ -108,7 +108,7 @@ impl<B: Allocator> Drop for Refusing<B> {
     }
 }
 
-// Counts one growth, and answers whether it is refused.
+// Counts one growth, and returns whether it is refused.
 fn is_refused(growths: &Growths) -> bool {
     let number = growths.asked.fetch_add(1, Ordering::SeqCst).wrapping_add(1);
     growths.first.load(Ordering::SeqCst) <= number && number <= growths.last.load(Ordering::SeqCst)

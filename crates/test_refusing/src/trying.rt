@@ -32,11 +32,11 @@ fn demand(refusal: Refusal, tried: Tried) -> Result<(), Fail> {
     }
 }
 
-/// Tries a call with memory, and then with each of its growths refused, alone and with all after it. Answers how many
+/// Tries a call with memory, and then with each of its growths refused, alone and with all after it. Returns how many
 /// growths it has with memory, which may be none.
 ///
 /// Each try is an `attempt`: it makes what the call needs anew, makes the call under the refusal, and fails where the
-/// answer, or what the call leaves, isn't as it must be. A try that ends otherwise than [`Tried::is_allowed`] says is a
+/// result, or what the call leaves, isn't as it must be. A try that ends otherwise than [`Tried::is_allowed`] says is a
 /// failure too.
 pub fn refuse_any<F: Fn(Refusal) -> Result<Tried, Fail>>(attempt: F) -> Result<u64, Fail>
     requires { F.IsAlwaysCallable attempt }

@@ -71,7 +71,7 @@ pub fn same_machines<A: Allocator + Copy>(
     same_spent(found, wanted)
 }
 
-/// Compares what two machines answer for each reference and each price that a test names, whether there are orders or
+/// Compares what two machines return for each reference and each price that a test names, whether there are orders or
 /// not.
 pub fn same_answers<A: Allocator + Copy>(found: &Stock<A>, wanted: &Stock<A>) -> Result<(), Fail> {
     for reference in 0..=1_100u64 {
@@ -97,7 +97,7 @@ pub fn same_answers<A: Allocator + Copy>(found: &Stock<A>, wanted: &Stock<A>) ->
     Ok(())
 }
 
-/// Hands a machine a payload of its stock, whose outcome is `wanted`.
+/// Passes a payload of its stock to a machine, and compares the outcome with `wanted`.
 pub fn take<A: Allocator + Copy>(
     stock: &mut Stock<A>,
     payload: &[u8],
@@ -109,7 +109,7 @@ pub fn take<A: Allocator + Copy>(
     same("an outcome", &stock.step(payload), &Ok(wanted))
 }
 
-/// Hands a machine a message of its stock, whose outcome is `wanted`.
+/// Passes a message of its stock to a machine, and compares the outcome with `wanted`.
 pub fn take_message<A: Allocator + Copy, B: Allocator + Copy>(
     alloc: A,
     stock: &mut Stock<B>,

@@ -52,8 +52,8 @@ fn step_under<'h>(
     Ok(tried)
 }
 
-// Hands a machine a payload under a refusal. Where it is refused, the machine says what its twin says, and takes the
-// payload with memory. In the end it says what the twin says, which took it and was never refused.
+// Passes a payload to a machine under a refusal. Where it is refused, the machine says what its twin says, and takes
+// the payload with memory. In the end it says what the twin says, which took it and was never refused.
 fn take_under<'h>(
     heap: &'h Refusing<Global>,
     stock: &mut Stock<&'h Refusing<Global>>,
@@ -72,7 +72,7 @@ fn take_under<'h>(
     Ok(tried)
 }
 
-// Hands a machine message `number` of a kind under a refusal.
+// Passes message `number` of a kind to a machine under a refusal.
 fn try_step(
     heap: &Refusing<Global>,
     kind: Growing,
@@ -130,7 +130,7 @@ fn fallen_to<A: Allocator + Copy>(
     Ok(stock)
 }
 
-// Hands a machine a message with a falling reference under a refusal.
+// Passes a message with a falling reference to a machine under a refusal.
 fn try_falling(
     heap: &Refusing<Global>,
     kind: Growing,

@@ -1,4 +1,4 @@
-//! The messages of a day of several stocks, each handed to the machine of its stock.
+//! The messages of a day of several stocks, each passed to the machine of its stock.
 use crate::comparing::take_message;
 use itch_layouts::Msg;
 use itch_table::{Fault, Outcome, Top};

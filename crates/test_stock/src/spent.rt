@@ -11,8 +11,8 @@ fn spent_of<A: Allocator + Copy>(stock: &Stock<A>) -> [bool; 8] {
     ASKED.map(|reference| stock.spent(reference))
 }
 
-// Hands the machine of its stock a message of the day, and compares which references are spent after it, by the machine
-// and by a copy.
+// Passes a message of the day to the machine of its stock, and compares which references are spent after it, by the
+// machine and by a copy.
 fn spend<A: Allocator + Copy>(
     alloc: A,
     stock: &mut Stock<A>,

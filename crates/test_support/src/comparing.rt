@@ -20,7 +20,7 @@ pub fn same_list<T: PartialEq + Debug>(case: &str, found: &[T], wanted: &[T]) ->
     }
 }
 
-/// As [`same`], of strings of bytes, of which it shows the lengths and the first place where they differ.
+/// As [`same`], of strings of bytes, of which it shows the lengths and the first index at which they differ.
 pub fn same_bytes(case: &str, found: &[u8], wanted: &[u8]) -> Result<(), Fail> {
     if found == wanted {
         return Ok(());

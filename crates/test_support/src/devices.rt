@@ -52,7 +52,7 @@ impl Read for Pieces<'_> {
 /// How a writer fails.
 #[derive(Debug, Clone, Copy, PartialEq)]
 pub enum Failure {
-    /// It answers an error of this kind.
+    /// It returns an error of this kind.
     Error(ErrorKind),
     /// It takes no byte.
     TakesNone,

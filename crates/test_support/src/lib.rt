@@ -1,7 +1,7 @@
 //! What the tests of several crates share: messages by their fields, days of them, scripts that a machine is led
 //! through, devices that give and take little at a time and fail, and worked files.
 //!
-//! No helper ends the process, which only a test may do: each answers a `Fail` that names the case.
+//! No helper ends the process, which only a test may do: each returns a `Fail` that names the case.
 #![tactic(auto)]
 
 mod comparing;

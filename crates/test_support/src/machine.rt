@@ -30,7 +30,7 @@ pub fn known_of<A: Allocator + Copy>(machine: &Plain<A>, locate: u16) -> Known {
     }
 }
 
-/// Hands a machine the next payload, whose outcome is `wanted`.
+/// Passes the next payload to a machine, and compares the outcome with `wanted`.
 pub fn take<A: Allocator + Copy>(
     case: &str,
     machine: &mut Plain<A>,

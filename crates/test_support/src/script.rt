@@ -1,4 +1,4 @@
-//! Scripts: what a machine is handed, what becomes of it, and what the machine then says.
+//! Scripts: what is passed to a machine, what becomes of it, and what the machine then says.
 use crate::comparing::{same, same_list};
 use crate::machine::take;
 use crate::messages::payload_of;

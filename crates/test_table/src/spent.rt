@@ -4,7 +4,7 @@ use std::alloc::Allocator;
 use std::test::Fail;
 use test_support::{ASKED, Spending, payload_of, same, spent_references, spent_up_to, take};
 
-// Hands a machine a message of the day, and compares which references are spent after it.
+// Passes a message of the day to a machine, and compares which references are spent after it.
 fn spend<A: Allocator + Copy>(
     alloc: A,
     machine: &mut Plain<A>,

@@ -162,7 +162,7 @@ fn put_wrong<A: Allocator>(
     }
 }
 
-// Which word of a line stands at a place where the field at `field` is wrong.
+// Which word of a line stands at an index where the field at `field` is wrong.
 fn word_at(place: usize, field: usize, wrong: Wrong) -> usize {
     match wrong {
         Wrong::Exchanged(other) if place == field => other,
@@ -203,7 +203,7 @@ fn try_wrong<A: Allocator + Copy>(
     same(mnemonic, &found, &(field, wrong, Some(AsmFault::Field(1))))
 }
 
-// A line whose first word is its mnemonic, with each other word wrong in every way. Answers how many lines were faulty.
+// A line whose first word is its mnemonic, with each other word wrong in every way. Returns how many lines were faulty.
 fn try_words<A: Allocator + Copy>(alloc: A, mnemonic: &str, words: &[&[u8]]) -> Result<u64, Fail> {
     let mut faulty = 0u64;
     for field in 1..words.len() {

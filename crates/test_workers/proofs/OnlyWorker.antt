@@ -1,4 +1,4 @@
--- The writers of a day's only worker, and those that a run hands back.
+-- The writers of a day's only worker, and those that a run gives back.
 use Rattle.std.proofs.Common.{◌≡◌, ℕ, ◌%◌, List, [], ◌∷◌, All, Bool, true, cond, eqb, map, filter, get_or, refl, sym, ap, ap₂, subst, ◌∙◌, suc, arith}
 use Rattle.std.proofs.lemmas.Bool.{eq-eqb}
 use Rattle.std.proofs.lemmas.List.Elements.{All-map}

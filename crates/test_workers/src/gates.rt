@@ -25,7 +25,7 @@ struct Meeting {
     met: AtomicU64,
 }
 
-// Waits until a word isn't 0, and answers whether that was seen.
+// Waits until a word isn't 0, and returns whether that was seen.
 fn is_set(word: &AtomicU64) -> bool {
     for _ in 0..LOOKS {
         if word.load(Ordering::SeqCst) != 0 {
@@ -105,7 +105,7 @@ impl Gate for Seeing {
     }
 }
 
-// Reads until message 1 is there, then lets the worker go on. The answer is that reading, or none where it didn't come.
+// Reads until message 1 is there, then lets the worker go on. Returns that reading, or none where it didn't come.
 fn see_first<R: Wait, A: Allocator>(
     rt: &R,
     board: &Board<'_, A>,

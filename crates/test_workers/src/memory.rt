@@ -34,7 +34,7 @@ fn readings() -> [Reading; 5] {
 }
 
 // A run by two workers under a refusal, on a new board: its fault, what a screen of the first stock, made before the
-// run, reads after it, and what became of it. A run that answers has made the whole day.
+// run, reads after it, and what became of it. A run that succeeds has made the whole day.
 fn run_under<'h, R: Threads + Wait + Sync>(
     rt: &R,
     heap: &'h Refusing<Global>,
@@ -56,7 +56,7 @@ fn run_under<'h, R: Threads + Wait + Sync>(
     }
 }
 
-// Whether a run that ends so is as it must be: either it answers, and a screen reads the last message of its stock, or
+// Whether a run that ends so is as it must be: either it succeeds, and a screen reads the last message of its stock, or
 // memory was refused, and what the screen reads is true of the day.
 fn is_true(fault: Option<RunFault>, reading: Reading) -> bool {
     match fault {

@@ -52,8 +52,8 @@ pub fn said_by<A: Allocator + Copy>(alloc: A, stock: &Stock<A>) -> Option<Said> 
     })
 }
 
-/// What a machine says after so many messages, of which the first is the stock's directory message and the second adds
-/// order 7, where this one is a bid of these shares, and where there is none if these are 0.
+/// What a machine says after this many messages, of which the first is the stock's directory message and the second
+/// adds order 7, where this one is a bid of these shares, and where there is none if these are 0.
 pub fn with_bid(stock: Ticker, steps: u32, price: u32, shares: u32) -> Said {
     let order = Order {
         reference: 7,

@@ -228,7 +228,7 @@ fn see<R: Wait, A: Allocator + Copy>(
     )
 }
 
-// A stock after so many of its messages, of which this is the last, with these shares at its only bid.
+// A stock after this many of its messages, of which this is the last, with these shares at its only bid.
 fn stock_after(stock: Ticker, steps: u32, message: u32, price: u32, shares: u32) -> State {
     State {
         stock: with_bid(stock, steps, price, shares),
@@ -236,7 +236,7 @@ fn stock_after(stock: Ticker, steps: u32, message: u32, price: u32, shares: u32)
     }
 }
 
-// What a turn of the only worker of the two stocks answers, and the stocks that have orders after it. The screen reads
+// What a turn of the only worker of the two stocks returns, and the stocks that have orders after it. The screen reads
 // the first of them.
 type After = (Option<Piece>, State, State);
 

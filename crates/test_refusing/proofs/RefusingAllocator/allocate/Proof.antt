@@ -1,4 +1,4 @@
--- A refused growth is an error, and any other is answered by the inner allocator. Assumes `Logic`.
+-- A refused growth is an error, and any other is made by the inner allocator. Assumes `Logic`.
 use Rattle.std.proofs.Common.{◌≡◌, ℕ, Bool, ◌^◌, ◌<◌, true, false, List, [], ◌∷◌, Ok, Err, refl, w64, Bor}
 use seplogic.Ra.Ura.{Ura}
 use mir.Syntax.{Ty, Fn}
@@ -71,7 +71,7 @@ module _ (Z : Al) {M : Type 1} {𝓤 : Ura M} (𝓛 : Logic 𝓤) (at_mem : Memo
     abbrev Post : Val → SProp 𝓤
     Post = (walk_of 𝓛 (ended Z) (stayed Z) held).post bound
 
-    -- it answers Err, and gives back no more than the lifetimes
+    -- it returns Err, and gives back no more than the lifetimes
     ends_err : ent 𝓤 (sep 𝓤 (A.lft ρ s) (sep 𝓤 (A.lft σ t) (emp 𝓤))) (Post (answer_val false 0 0))
     ends_err =
         qed 𝓛 (‵ (flft ρ s) ∷ (‵ (flft σ t) ⊛ ‵ ftrue) ∷ []) ∵ nothing ! $
