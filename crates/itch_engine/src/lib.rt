@@ -21,7 +21,7 @@
 //!
 //! All meet one contract, `Runs`, which says what was read, written and returned for each result. [`limits`] has the
 //! greatest inputs that they take, and [`status`] the exit status for what an engine returned. The functions that begin
-//! with `put_` add the lines of a report that other answers have too.
+//! with `put_` add the lines of a report that other outputs have too.
 #![tactic(auto)]
 
 mod engines;
