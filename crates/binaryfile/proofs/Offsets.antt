@@ -119,7 +119,7 @@ pub stops : (bytes : List ℕ) (at n : ℕ) → AreBytes bytes → at ≡ offset
     → payloads_of (take (length bytes - at) (drop at bytes)) ≡ [] → n ≡ length (payloads_of bytes)
 stops bytes at n are is within none = ends (payloads_of bytes) n within (sym (read_at bytes at n are is) ∙ none)
 
--- the index that has grown by one place, or stays
+-- the index that has grown by one entry, or stays
 pub record Indexed (bytes starts : List ℕ) (n : ℕ) : Type 0 where
   pub enough : n ≤ length starts * STRIDE
   pub few : length starts * STRIDE < n + STRIDE

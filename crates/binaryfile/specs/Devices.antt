@@ -10,7 +10,7 @@ pub record Device (D : Type 0) : Type 0 where
   pub device : D
   pub failed : Bool
 
--- The device has answered an error, or as a writer has taken none of some bytes.
+-- The device has returned an error, or as a writer has taken none of some bytes.
 abbrev pub HasFailed : {D : Type 0} → Device D → Type 0
 HasFailed device = IsTrue device.failed
 

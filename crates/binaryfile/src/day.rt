@@ -54,12 +54,12 @@ impl<A: Allocator + Copy> Day<A> {
     /// Reads a file to its end, of at most `limits.bytes` bytes, which are no more than 2^40. Its memory is that of
     /// `alloc`.
     ///
-    /// No file is refused for its form. In the course of reading the first of these is answered:
-    /// [`LoadFault::Read`] where the feed fails (at once, and with no memory, where it had failed before),
-    /// [`LoadFault::Memory`] where memory is refused, [`LoadFault::TooManyBytes`] where the reader gave more than
-    /// `limits.bytes` bytes. [`LoadFault::TooManyMessages`] is decided once the whole input was read, before any more
-    /// memory is asked for, which tests show. Whatever the result, at most `limits.bytes + 1` bytes are taken from the
-    /// reader; there is no day after a fault.
+    /// No file is refused for its form. In the course of reading the first of these is returned: [`LoadFault::Read`]
+    /// where the feed fails (at once, and with no memory, where it had failed before), [`LoadFault::Memory`] where
+    /// memory is refused, [`LoadFault::TooManyBytes`] where the reader gave more than `limits.bytes` bytes.
+    /// [`LoadFault::TooManyMessages`] is decided once the whole input was read, before any more memory is asked for,
+    /// which tests show. Whatever the result, at most `limits.bytes + 1` bytes are taken from the reader; there is no
+    /// day after a fault.
     ///
     /// ```rust
     /// let limits = Limits { bytes: 1 << 40, messages: u32::MAX };

@@ -13,7 +13,7 @@ use std::marker::Model;
 /// [`ErrorKind::Interrupted`] too (a rule of this project).
 ///
 /// So what was read before a failure is never taken for a whole input. A failed feed stays as it is: each later read
-/// answers an error without asking the reader.
+/// returns an error without asking the reader.
 ///
 /// ```rust
 /// let mut feed = Feed::new(b"\x00\x01A".as_slice());
@@ -53,17 +53,17 @@ impl<R: Read> Feed<R> {
         self.failed
     }
 
-    /// Reads into the first places of `buffer`, and answers how many bytes came: none only at the end of the input or
+    /// Reads into the beginning of `buffer`, and returns how many bytes came: none only at the end of the input or
     /// where `buffer` is empty.
     ///
     /// An error is the reader's own, or one of the kind [`ErrorKind::Other`] where the feed had failed; no byte was
-    /// taken then. That a feed fails only where its reader answered an error, also for an empty buffer, and that it
+    /// taken then. That a feed fails only where its reader returned an error, also for an empty buffer, and that it
     /// passes on that very error, no clause can say: tests show it.
     pub fn read(&mut self, buffer: &mut [u8]) -> io::Result<usize>
         ensures within { ReadsAtMost result buffer.new }
         ensures bytes { ReadConsumes (R.remaining self.old.device) (R.remaining self.new.device)
             result buffer.new }
-        // The feed has failed exactly where this read answers an error.
+        // The feed has failed exactly where this read returns an error.
         ensures failed { IsErr result ↔ HasFailed self.new }
         // A failed feed stays as it is, and its reader is not asked.
         ensures for_good { HasFailed self.old → self.new ≡ self.old }

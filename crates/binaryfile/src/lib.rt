@@ -3,8 +3,21 @@
 //! A file is a sequence of entries: a length of two bytes, the high one first, and then a payload of that length. A
 //! length of zero is the end marker. [`Day::load`] reads a whole file and refuses none for its form: one without a
 //! marker, one that stops inside an entry and one with bytes after the marker are loaded too (a rule of this project).
-//! What it reads from is a [`Feed`], a reader that remembers its failure; what [`send`] writes to is a [`Sink`], a
-//! writer that does so.
+//! What it reads from is a [`Feed`], which wraps any reader and remembers its failure for good; what [`send`] writes to
+//! is a [`Sink`], which does so with any writer.
+//!
+//! `fs::open(rt, path)?` opens a file, and `rt.alloc()` is the usual allocator, where `rt` is what `main` is given:
+//!
+//! ```rust
+//! let limits = Limits { bytes: 1 << 30, messages: 10_000_000 };
+//! let day = Day::load(rt.alloc(), &mut Feed::new(fs::open(rt, path)?), limits)?;
+//! for payload in day.payloads() {
+//!     take(payload);
+//! }
+//! ```
+//!
+//! [`Day::payload`] lends the payload with a number, counted from 1; [`Day::marked`] and [`Day::tail`] say how the file
+//! ended. [`Day::from_bytes`] is a day of bytes that are in memory already.
 #![tactic(auto)]
 
 ghost use Rattle.binaryfile.specs.Entries.{EachHasOneSplitting};

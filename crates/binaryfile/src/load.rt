@@ -49,7 +49,7 @@ fn piece_room<A: Allocator>(alloc: A) -> Result<Vec<u8, A>, AllocError>
     Vec::from_elem(alloc, 0, PIECE)
 }
 
-// Reads once, and adds what came to `bytes`. It answers false at the end of the input.
+// Reads once, and adds what came to `bytes`. Returns false at the end of the input.
 fn read_piece<R: Read, A: Allocator>(
     feed: &mut Feed<R>,
     piece: &mut [u8],
@@ -77,7 +77,7 @@ fn read_piece<R: Read, A: Allocator>(
 /// All that the feed gives to its end, where that is no more than `limit` bytes, which are no more than 2^40. Its
 /// memory is that of `alloc`.
 ///
-/// In the course of reading the first of these is answered: [`LoadFault::Read`] where the feed fails (at once where it
+/// In the course of reading the first of these is returned: [`LoadFault::Read`] where the feed fails (at once where it
 /// had failed before), [`LoadFault::Memory`] where memory is refused, [`LoadFault::TooManyBytes`] where the reader gave
 /// more than `limit` bytes. At most `limit + 1` bytes are taken from the reader, whatever the result.
 ///

@@ -73,7 +73,7 @@ impl<W: Write> Sink<W> {
 ///
 /// The fault says exactly how many bytes were taken, and comes only where the sink has failed. To a sink that had
 /// failed before, sending some bytes is a fault at once, and sending none is Ok. That a sink fails only where its
-/// writer answered an error or took nothing, and that a write isn't tried again after an error, no clause can say:
+/// writer returned an error or took nothing, and that a write isn't tried again after an error, no clause can say:
 /// tests show it, for fewer than 2^31 bytes.
 ///
 /// ```rust

@@ -31,7 +31,7 @@ Stocks are named by locate code, which `itch stocks FILE` lists. Prices are in 1
 /// What the arguments ask for.
 #[derive(Drop)]
 pub enum Task<'a> {
-    /// To replay a file, by so many workers as the arguments say.
+    /// To replay a file, by as many workers as the arguments say.
     Replay {
         file: &'a str,
         workers: u32,

@@ -35,8 +35,8 @@ const MOST_WORKERS: u32 = 64;
 /// The status where something can't be read or written.
 const DEVICE: u8 = 3;
 
-// Ends with the status for what an engine answered, and says why on standard error where it stopped before its work
-// was done. A line that can't be printed changes no status.
+// Ends with the status for what an engine returned, and says why on standard error where it stopped before its work was
+// done. A line that can't be printed changes no status.
 fn end(rt: &impl Eprint, answer: Result<u32, ProgFault>) -> ExitCode {
     if let Err(fault) = &answer {
         let _ = eprintln!(rt; "itch: {fault}");

@@ -37,7 +37,7 @@ bad input error is =
     let nothing : denoted input ≡ None = ap result_ok is in
     record { is = refl; unpaired = unpaired (digits_of input) nothing; nothing = nothing }
 
--- what decoding answers of an input is why the engine fails
+-- what decoding returns for an input is why the engine fails
 pub fails_at_digits : (input : List ℕ) (error : FromHexError) → (error ≡ OutOfMemory) ⊎ (decode_of (digits_of input) ≡ Err error) → Fails digits_replayer input (fault_of_hex error)
 fails_at_digits input OutOfMemory cause = tt
 fails_at_digits input OddLength (inl is) = absurd cc

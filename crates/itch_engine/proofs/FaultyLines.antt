@@ -12,7 +12,7 @@ use Rattle.itch_engine.specs.declared.fault.ProgFault.TheVariants.{Asm}
 at_line : (text : List ℕ) (found : AsmFault) → found ≢ AsmMemory → Blames text found → DenotesNothing text → HasFaultyLine text (Asm found)
 at_line text found is_line blamed nothing = record { line = found; is = refl; line_is = is_line; blamed = blamed; nothing = nothing }
 
--- what the assembler answers of a text is why the engine fails
+-- what the assembler returns for a text is why the engine fails
 pub fails_at_line : (text : List ℕ) (found : AsmFault) → Blames text found → (found ≢ AsmMemory → DenotesNothing text) → Fails assembler text (fault_of_asm found)
 fails_at_line text AsmMemory blamed nothing = tt
 fails_at_line text (Mnemonic line) blamed nothing = at_line text (Mnemonic line) (λ is. cc) blamed (nothing (λ is. cc))

@@ -1,11 +1,11 @@
--- What a run reads, writes and answers, for every engine. Engines differ only in what they make of an input.
+-- What a run reads, writes and returns, for every engine. Engines differ only in what they make of an input.
 use Rattle.std.specs.Prelude.{◌≡◌, ◌≢◌, ◌↔◌, ℕ, ◌+◌, ◌<◌, ◌≤◌, List, length, take, Option, Result, Ok, Err, IsErr, IsErrOf}
 use Rattle.std.specs.Io.KnownBytes.{Appends}
 use Rattle.binaryfile.specs.Devices.{Device, HasFailed, GaveAll, GaveMore, GaveUpTo}
 use Rattle.itch_engine.specs.declared.fault.ProgFault.{ProgFault}
 use Rattle.itch_engine.specs.declared.fault.ProgFault.TheVariants.{Memory, Read, TooManyBytes, Write}
 
--- An engine takes inputs of at most this many bytes. Of an input it makes an output and an answer, or it finds a fault
+-- An engine takes inputs of at most this many bytes. Of an input it makes an output and a result, or it finds a fault
 -- in the input.
 pub record Engine (A : Type 0) : Type 1 where
   pub most : ℕ

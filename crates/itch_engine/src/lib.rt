@@ -10,9 +10,18 @@
 //! | [`dis_between_run`] | a day file | the lines of some of its messages |
 //! | [`asm_run`] | a text | the file that the text denotes |
 //!
-//! All meet one contract, `Runs`, which says what was read, written and answered for each result. [`limits`] has the
-//! greatest inputs that they take, and [`status`] the exit status for what an engine answered. The functions that begin
-//! with `put_` add the lines of a report that other answers have too.
+//! ```rust
+//! let mut feed = Feed::new(reader);
+//! let mut sink = Sink::new(writer);
+//! let refused = replay_run(rt, rt.alloc(), &mut feed, &mut sink, workers, &FreeGate)?;
+//! ```
+//!
+//! The program `itch` calls these. [`replay_run`] and [`hex_run`] take `rt` as well, in whose threads the workers
+//! replay.
+//!
+//! All meet one contract, `Runs`, which says what was read, written and returned for each result. [`limits`] has the
+//! greatest inputs that they take, and [`status`] the exit status for what an engine returned. The functions that begin
+//! with `put_` add the lines of a report that other outputs have too.
 #![tactic(auto)]
 
 mod engines;

@@ -3,6 +3,14 @@
 //! A payload that is a message is a line of its fields by name, any other payload a line of its bytes, and the file's
 //! end follows. That text denotes the file's bytes ([`disassembly_denotes`]): what is disassembled can be assembled
 //! again.
+//!
+//! ```rust
+//! let text = disassemble(alloc, &day)?;
+//! let lines = disassemble_between(alloc, &day, 3, 7)?;
+//! ```
+//!
+//! The second call makes the lines of messages 3 to 7 alone. [`quote`] and [`put_quoted`] give the quoted form of a
+//! field. [`reassembled`] disassembles a day and assembles that text, which gives the bytes that were loaded.
 #![tactic(auto)]
 
 mod disassembling;

@@ -10,7 +10,7 @@ use Rattle.itch_layouts.specs.Layouts.{Field, Form, Integer, Alpha, Value, Numbe
 use Rattle.itch_text.specs.Values.{unescaped, padded, NumberText, ValueText, FieldText, FieldTexts}
 use Rattle.itch_text.specs.Parsing.{after_prefix, number_in, between_quotes, fitting, padded_within, alpha_in, value_in, value_after_prefix, field_in, with_value, values_in}
 
--- a guarded answer
+-- a guarded result
 pub guarded : {X : Type 0} (b : Bool) (o : Option X) (x : X) → cond b o None ≡ Some x → (b ≡ true) × (o ≡ Some x)
 guarded true o x h = (refl, h)
 guarded false o x h = absurd (none-some x h)

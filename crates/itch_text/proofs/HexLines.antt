@@ -17,7 +17,7 @@ use Rattle.itch_text.specs.declared.fault.LineError.TheVariants.{Memory, Wrong}
 use Rattle.itch_text.proofs.ItemParsing.{bytes_complete, bytes_sound}
 use Rattle.itch_text.proofs.Widths.{not_lt}
 
--- what the decoder answers and writes
+-- what the decoder returns and writes
 pub written : (r : Result (List ℕ) FromHexError) (res : Result (Unit {0}) FromHexError) (x : Unit {0}) (new : List ℕ) → MatchResult r (λ bytes. (res ≡ Ok tt) × (new ≡ bytes)) (λ e. res ≡ Err e) → res ≡ Ok x → r ≡ Ok new
 written (Ok bytes) res x new h k = ap Ok (sym h.1)
 written (Err e) res x new h k = cc

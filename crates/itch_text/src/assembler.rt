@@ -14,9 +14,8 @@ use thiserror::Error;
 /// Why a text was not assembled. All lines of the text are counted, from 1, and the first faulty one is named.
 ///
 /// A line has one fault, the first of these: `Mnemonic`, where it begins with no name of a line; `AfterEnd`, where a
-/// line
-/// of its name may not stand there; and `Field`. After a line `end`, for example, `end 1` is `AfterEnd`, and `ends` is
-/// `Mnemonic`. The rules are of this project.
+/// line of its name may not stand there; and `Field`. After a line `end`, for example, `end 1` is `AfterEnd`, and
+/// `ends` is `Mnemonic`. The rules are of this project.
 #[derive(Debug, Clone, Copy, PartialEq, Eq, Drop, Error)]
 pub enum AsmFault {
     /// Memory was refused. It says nothing of the text.

@@ -96,7 +96,7 @@ fn put_field<A: Allocator>(
     Ok(())
 }
 
-/// Appends the bytes of the first words of a line in these fields, a word each, and answers the rest of the line.
+/// Appends the bytes of the first words of a line in these fields, a word each, and returns the rest of the line.
 #[tactic(auto, using(crate::proofs::FieldBytes::fields))]
 pub(crate) fn put_fields<'a, A: Allocator>(
     out: &mut Vec<u8, A>,

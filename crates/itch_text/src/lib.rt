@@ -6,6 +6,12 @@
 //!
 //! [`assemble`] gives the bytes of the file that a text denotes, or its first faulty line. [`one_meaning`] is the law
 //! that a text denotes at most one string of bytes, [`one_first_fault`] that it has at most one first faulty line.
+//!
+//! ```rust
+//! let bytes = assemble(alloc, b"system locate=0 tracking=0 time=0 event=\"O\"\nend\n")?;
+//! ```
+//!
+//! [`split_word`], [`only_word`] and [`number_of_text`] read the words and numbers of other lines by the same rules.
 #![tactic(auto)]
 
 mod assembler;

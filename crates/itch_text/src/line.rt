@@ -75,7 +75,7 @@ fn put_item<A: Allocator>(
     }
 }
 
-/// Appends what a line at this place denotes, and answers where the next line stands.
+/// Appends what a line at this place denotes, and returns where the next line stands.
 pub(crate) fn put_line<A: Allocator>(
     out: &mut Vec<u8, A>,
     place: Place,

@@ -4,6 +4,13 @@
 //! the contract of the engines of `itch_engine`, `Runs`. What a screen sees depends on how the threads run. That each
 //! reading is the stock's best bid and ask after its message, that their numbers rise and that the last is the stock's
 //! last doesn't.
+//!
+//! ```rust
+//! watch_run(rt, rt.alloc(), &mut feed, &mut sink, StockName::Locate(1), workers, &FreeGate)?;
+//! ```
+//!
+//! Both take `rt`, in whose threads the workers replay and the screen looks. [`watch_stock`] is a caller to copy from:
+//! it calls `run_parts` of `stock_workers`, and its screen reads the board meanwhile.
 #![tactic(auto)]
 
 mod engine;

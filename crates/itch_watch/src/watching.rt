@@ -23,7 +23,7 @@ use top_cell::{Board, Reading, Screen, TopWriter};
 const TRIES: u32 = 4;
 
 /// What a screen sees until `ended` isn't 0: a reading for each glance that shows a later message than those before.
-/// The number of that message is stored in `seen`. The caller hands the screen's own board.
+/// The number of that message is stored in `seen`. The caller passes the screen's own board.
 ///
 /// An error says that memory was refused, and comes at once. Else it returns only once `ended` isn't 0, which it looks
 /// at before each glance.

@@ -1,5 +1,6 @@
-//! Callers of the libraries, each a page to copy from: the messages of one kind, a report to a writer of one's own, and
-//! a display beside a replay.
+//! Callers of the libraries, each a page to copy from: the messages of one kind ([`messages_of_kind`]), a report to a
+//! writer of one's own ([`report_lines`]), and a gate that counts ([`Counter`]) and a display ([`next_frame`]) for a
+//! replay. docs/FEED_HANDLERS.md explains the last two.
 //!
 //! They stand on the libraries' public contracts alone. What each promises of its result is in its own contract, in the
 //! libraries' words.

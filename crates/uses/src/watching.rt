@@ -38,7 +38,7 @@ impl Gate for Counter {
 
 /// What the next frame of a display shows: the stock's best bid and ask now or, where its writer is changing the cell
 /// at each of four tries, those of the frame before. It makes at most 24 loads and waits for nobody, so a display that
-/// has to be drawn by a fixed time can call it. The caller hands the screen's own board.
+/// has to be drawn by a fixed time can call it. The caller passes the screen's own board.
 pub fn next_frame<A: Allocator>(
     board: &Board<'_, A>,
     screen: &mut Screen,

@@ -29,7 +29,7 @@ pub(crate) fn report_of_file<R: Threads + Wait + Sync, A: Allocator + Copy + Sen
     Ok(report_of_day(rt, alloc, &day, workers, gate)?)
 }
 
-/// Reads a day file, replays it and writes the report. It answers how many messages were refused.
+/// Reads a day file, replays it and writes the report. Returns how many messages were refused.
 ///
 /// The whole file is read before it is judged, and the whole report is made in memory before it is sent. After
 /// [`ProgFault::Write`] the bytes that were taken are a prefix of the report; after another fault none was sent.

@@ -1,0 +1,285 @@
+//! Growths that are refused in turn: a call that is refused memory changes nothing, and some calls take none.
+use crate::calls::{Call, ask, bid, level, make, make_all, same_answers, same_books};
+use itch_table::{Order, Side, Top};
+use order_book::Book;
+use std::alloc::{AllocError, Allocator, Global};
+use std::test::Fail;
+use test_refusing::{Refusal, Refusing, Tried, refuse_any, refuse_each};
+use test_support::{same, same_list};
+
+// These of the numbers from 1 to 100 are each other, and neither rise nor fall.
+fn scattered(number: u32) -> u32 {
+    number % 101 * 37 % 101
+}
+
+// The call of this number: the first 99 add orders, and the next 99 replace them.
+fn numbered(number: u32) -> Call {
+    if number < 100 {
+        bid(u64::from(scattered(number)), 10, number % 7)
+    } else {
+        let original = u64::from(scattered(number - 99));
+        Call::Replace(original, 1_000 + original, 20, number % 5)
+    }
+}
+
+// A book after the calls with a lower number.
+fn book_before<A: Allocator + Copy>(alloc: A, number: u32) -> Result<Book<A>, Fail> {
+    let mut book = Book::new(alloc);
+    for earlier in 1..number {
+        make_all(&mut book, &[numbered(earlier)])?;
+    }
+    Ok(book)
+}
+
+// Makes a call of a book under a refusal. Where it is refused, the book is as its twin is, and the call is made with
+// memory. In the end the book shows what the twin shows, whose call was never refused.
+fn call_under<'h>(
+    heap: &'h Refusing<Global>,
+    book: &mut Book<&'h Refusing<Global>>,
+    twin: &mut Book<&'h Refusing<Global>>,
+    call: Call,
+    refusal: Refusal,
+) -> Result<Tried, Fail> {
+    heap.restart(refusal);
+    let answer = make(book, call)?;
+    let tried = heap.tried(answer.is_err());
+    if tried.refused {
+        same_books(heap, book, twin)?;
+        same_answers(book, twin)?;
+        make_all(book, &[call])?;
+    }
+    make_all(twin, &[call])?;
+    same_books(heap, book, twin)?;
+    Ok(tried)
+}
+
+// Makes the call of this number under a refusal.
+fn try_call(heap: &Refusing<Global>, number: u32, refusal: Refusal) -> Result<Tried, Fail> {
+    let mut book = book_before(heap, number)?;
+    let mut twin = book_before(heap, number)?;
+    call_under(heap, &mut book, &mut twin, numbered(number), refusal)
+}
+
+// Of the rows of 99 orders some need memory, and some find room.
+#[test]
+fn a_call_without_memory_changes_nothing(rt: HostRuntime) -> Result<(), Fail> {
+    let heap = Refusing::new(rt.alloc(), Refusal::Never);
+    for kind in [1..100u32, 100..199] {
+        let mut growths = 0u64;
+        for number in kind {
+            let more = refuse_any(|refusal: Refusal| -> Result<Tried, Fail> {
+                try_call(&heap, number, refusal)
+            })?;
+            growths = growths.saturating_add(more);
+        }
+        same(
+            "that some needed memory",
+            &(growths > 0, growths < 99),
+            &(true, true),
+        )?;
+    }
+    Ok(())
+}
+
+// Orders of both sides, at three prices, one of which comes after one with a higher reference.
+fn both_sides() -> [Call; 4] {
+    [
+        bid(2, 10, 90),
+        bid(1, 10, 100),
+        ask(3, 5, 110),
+        bid(4, 1, 100),
+    ]
+}
+
+// A book with orders of both sides.
+fn both_sided<A: Allocator + Copy>(alloc: A) -> Result<Book<A>, Fail> {
+    let mut book = Book::new(alloc);
+    make_all(&mut book, &both_sides())?;
+    Ok(book)
+}
+
+// A list that a book makes.
+#[derive(Debug, Clone, Copy, PartialEq, Eq)]
+enum Listing {
+    Orders,
+    Levels(Side),
+}
+
+const LISTINGS: [Listing; 3] = [
+    Listing::Orders,
+    Listing::Levels(Side::Buy),
+    Listing::Levels(Side::Sell),
+];
+
+// The first of the orders of both sides, by their references.
+const FIRST: Order = Order {
+    reference: 1,
+    side: Side::Buy,
+    shares: 10,
+    price: 100,
+    attribution: None,
+};
+
+// The orders of both sides.
+fn orders_of_both() -> [Order; 4] {
+    [
+        FIRST,
+        Order {
+            reference: 2,
+            price: 90,
+            ..FIRST
+        },
+        Order {
+            reference: 3,
+            side: Side::Sell,
+            shares: 5,
+            price: 110,
+            attribution: Some(*b"ABCD"),
+        },
+        Order {
+            reference: 4,
+            shares: 1,
+            ..FIRST
+        },
+    ]
+}
+
+// Makes a list of a book of both sides, and compares it. An error of the list itself says that memory was refused.
+fn list<A: Allocator + Copy>(
+    alloc: A,
+    book: &Book<A>,
+    listing: Listing,
+) -> Result<Result<(), Fail>, AllocError> {
+    match listing {
+        Listing::Orders => {
+            let orders = book.orders(alloc)?;
+            Ok(same_list("the orders", &orders, &orders_of_both()))
+        }
+        Listing::Levels(Side::Buy) => {
+            let bids = book.levels(alloc, Side::Buy)?;
+            Ok(same_list("the bids", &bids, &[level(100, 11), level(90, 10)]))
+        }
+        Listing::Levels(Side::Sell) => {
+            let asks = book.levels(alloc, Side::Sell)?;
+            Ok(same_list("the asks", &asks, &[level(110, 5)]))
+        }
+    }
+}
+
+// A book shows what the orders of both sides make.
+fn shows_both_sides<A: Allocator + Copy>(alloc: A, book: &Book<A>) -> Result<(), Fail> {
+    let top = Top::of(level(100, 11), level(110, 5));
+    same(
+        "the count and the top",
+        &(book.count(), book.top()),
+        &(4, top),
+    )?;
+    for listing in LISTINGS {
+        list(alloc, book, listing)??;
+    }
+    Ok(())
+}
+
+// Makes a list of a book of both sides under a refusal. The book stays as it is, and its lists are made again with
+// memory.
+fn list_under<'h>(
+    heap: &'h Refusing<Global>,
+    book: &Book<&'h Refusing<Global>>,
+    listing: Listing,
+    refusal: Refusal,
+) -> Result<Tried, Fail> {
+    heap.restart(refusal);
+    let listed = list(heap, book, listing);
+    let tried = heap.tried(listed.is_err());
+    if let Ok(compared) = listed {
+        compared?;
+    }
+    shows_both_sides(heap, book)?;
+    Ok(tried)
+}
+
+// A copy shows what the orders of both sides make, and what its book shows.
+fn same_copy<A: Allocator + Copy>(alloc: A, copy: &Book<A>, book: &Book<A>) -> Result<(), Fail> {
+    shows_both_sides(alloc, copy)?;
+    same_books(alloc, copy, book)
+}
+
+// Makes a copy of a book of both sides under a refusal, and with memory where it is refused. It leaves the book as it
+// is.
+fn copy_under<'h>(
+    heap: &'h Refusing<Global>,
+    book: &Book<&'h Refusing<Global>>,
+    refusal: Refusal,
+) -> Result<Tried, Fail> {
+    heap.restart(refusal);
+    let copy = book.copy(heap);
+    let tried = heap.tried(copy.is_err());
+    match copy {
+        Ok(copy) => same_copy(heap, &copy, book)?,
+        Err(AllocError) => same_copy(heap, &book.copy(heap)?, book)?,
+    }
+    Ok(tried)
+}
+
+#[test]
+fn a_list_or_a_copy_without_memory_is_none(rt: HostRuntime) -> Result<(), Fail> {
+    let heap = Refusing::new(rt.alloc(), Refusal::Never);
+    for listing in LISTINGS {
+        refuse_each(|refusal: Refusal| -> Result<Tried, Fail> {
+            list_under(&heap, &both_sided(&heap)?, listing, refusal)
+        })?;
+    }
+    refuse_each(|refusal: Refusal| -> Result<Tried, Fail> {
+        copy_under(&heap, &both_sided(&heap)?, refusal)
+    })?;
+    Ok(())
+}
+
+#[test]
+fn shares_and_orders_go_without_memory(rt: HostRuntime) -> Result<(), Fail> {
+    let heap = Refusing::new(rt.alloc(), Refusal::Never);
+    let mut book = both_sided(&heap)?;
+    heap.restart(Refusal::From(1));
+    make_all(
+        &mut book,
+        &[
+            Call::Reduce(1, 4),
+            Call::Reduce(1, 0),
+            Call::Reduce(4, 1),
+            Call::Remove(2),
+        ],
+    )?;
+    let top = book.top();
+    same(
+        "the best bid, the asks, an order that is gone, and the growths",
+        &(
+            top.bid_shares,
+            book.level(Side::Sell, 110),
+            book.order(4),
+            book.count(),
+            heap.asked(),
+        ),
+        &(6, 5, None, 2, 0),
+    )
+}
+
+// A list that kept all of the orders that have gone would grow from a few rows to 10,000, and to do so by doubling takes
+// more growths than are allowed here.
+#[test]
+fn orders_that_have_gone_take_no_more_memory(rt: HostRuntime) -> Result<(), Fail> {
+    let heap = Refusing::new(rt.alloc(), Refusal::Never);
+    let mut book = Book::new(&heap);
+    for number in 1..=10_000u32 {
+        let reference = u64::from(number);
+        make_all(
+            &mut book,
+            &[bid(reference, 10, number), Call::Remove(reference)],
+        )?;
+    }
+    let growths = heap.asked();
+    same(
+        "the count, and whether there are few growths",
+        &(book.count(), growths > 0, growths < 8),
+        &(0, true, true),
+    )
+}

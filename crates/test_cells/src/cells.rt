@@ -1,0 +1,26 @@
+//! The cells of the tests.
+ghost use Rattle.std.specs.Prelude.{IfOk};
+ghost use Rattle.test_cells.specs.Showing.{AreInStep};
+
+use binaryfile::Day;
+use itch_table::Plain;
+use std::alloc::Allocator;
+use std::test::Fail;
+use test_support::same;
+use top_cell::{Board, TopWriter};
+
+/// The board of a day of one stock, the writer of its only cell, and a machine, all before the first message.
+pub fn only_cell<'a, A: Allocator + Copy>(
+    alloc: &'a A,
+    day: &Day<A>,
+) -> Result<(Board<'a, A>, TopWriter, Plain<A>), Fail>
+    ensures { IfOk result (λ made. AreInStep day.now.payloads made.0 made.2 made.1) }
+{
+    let _few = day.payloads();
+    let (board, mut writers) = Board::new(alloc, day)?;
+    let Some(writer) = writers.pop() else {
+        return Err(Fail::new("no cell"));
+    };
+    same("how many cells more", &writers.len(), &0)?;
+    Ok((board, writer, Plain::new(*alloc)))
+}

@@ -1,0 +1,168 @@
+//! Where breakpoints stop along a day, beside what the bytes of its messages and the plain machine say.
+use crate::comparing::step;
+use crate::places::same_place;
+use binaryfile::Day;
+use debugger::{Break, DebugFault, Debugger};
+use itch_layouts::{Nanos, Shape, read_msg};
+use itch_table::{Plain, Side};
+use std::alloc::{AllocError, Allocator};
+use std::test::Fail;
+use test_support::same_list;
+
+// The number that these bytes of a payload make, the highest first.
+fn number_in(payload: &[u8], from: usize, len: usize) -> u64 {
+    payload
+        .iter()
+        .skip(from)
+        .take(len)
+        .fold(0u64, |number: u64, byte: &u8| -> u64 {
+            number.wrapping_mul(256).wrapping_add(u64::from(*byte))
+        })
+}
+
+// Whether a message names an order reference, by the bytes where Nasdaq TotalView-ITCH 5.0 has them.
+fn names(payload: &[u8], locate: u16, reference: u64) -> bool {
+    let own = number_in(payload, 1, 2) == u64::from(locate);
+    let first = number_in(payload, 11, 8) == reference;
+    let second = number_in(payload, 19, 8) == reference;
+    own && match payload.first() {
+        Some(b'A' | b'F' | b'E' | b'C' | b'X' | b'D' | b'P') => first,
+        Some(b'U') => first || second,
+        _ => false,
+    }
+}
+
+// The shares of a level, by the list of levels.
+fn shares_at<A: Allocator + Copy>(
+    alloc: A,
+    plain: &Plain<A>,
+    locate: u16,
+    side: Side,
+    price: u32,
+) -> Result<u64, AllocError> {
+    for level in &plain.levels(alloc, locate, side)? {
+        if level.price == price {
+            return Ok(level.shares);
+        }
+    }
+    Ok(0)
+}
+
+// What a breakpoint looks at before or after a message: the shares of its level.
+fn level_of<A: Allocator + Copy>(
+    alloc: A,
+    plain: &Plain<A>,
+    breakpoint: &Break,
+) -> Result<u64, AllocError> {
+    match *breakpoint {
+        Break::Price {
+            locate,
+            side,
+            price,
+        } => shares_at(alloc, plain, locate, side, price),
+        _ => Ok(0),
+    }
+}
+
+// Whether a breakpoint that looks at messages alone may stop at one.
+fn may_stop(payload: &[u8], breakpoint: &Break) -> bool {
+    let known = matches!(read_msg(payload), Shape::Known(_));
+    known
+        && match *breakpoint {
+            Break::Reference { locate, reference } => names(payload, locate, reference),
+            Break::Time { time } => number_in(payload, 5, 6) >= time.get(),
+            Break::Price { .. } => false,
+        }
+}
+
+// The messages at which a breakpoint stops, by their numbers.
+fn stops_of<A: Allocator + Copy>(
+    alloc: A,
+    day: &Day<A>,
+    breakpoint: &Break,
+) -> Result<Vec<u32, A>, Fail> {
+    let mut plain = Plain::new(alloc);
+    let mut stops = Vec::new(alloc);
+    let once = matches!(breakpoint, Break::Time { .. });
+    for payload in day.payloads() {
+        let before = level_of(alloc, &plain, breakpoint)?;
+        step(&mut plain, payload)?;
+        let changed = level_of(alloc, &plain, breakpoint)? != before;
+        if changed || may_stop(payload, breakpoint) && !(once && !stops.is_empty()) {
+            stops.push(plain.steps())?;
+        }
+    }
+    Ok(stops)
+}
+
+// The messages at which the debugger stops on its way to the end of the day, or to its start. At each of them, and at
+// the end of the way, all that it shows is compared with the plain machine.
+fn stops_along<A: Allocator + Copy>(
+    alloc: A,
+    day: &Day<A>,
+    debugger: &mut Debugger<'_, A>,
+    onward: bool,
+    locates: &[u16],
+) -> Result<Vec<u32, A>, Fail> {
+    let mut stops = Vec::new(alloc);
+    for _ in 0..=day.len() {
+        let moved = if onward {
+            debugger.onward(alloc)
+        } else {
+            debugger.rearward(alloc)
+        };
+        let stop = match moved {
+            Ok(stop) => stop,
+            Err(DebugFault::PastEnd | DebugFault::BeforeStart) => return Ok(stops),
+            Err(DebugFault::Memory) => return Err(Fail::new("memory was refused")),
+        };
+        same_place(alloc, day, debugger, stop.at, locates)?;
+        if stop.hit.is_some() {
+            stops.push(stop.at)?;
+        }
+    }
+    Ok(stops)
+}
+
+// Compares the messages at which the debugger stops on its way with those that are wanted.
+fn compare_way<A: Allocator + Copy>(
+    alloc: A,
+    day: &Day<A>,
+    debugger: &mut Debugger<'_, A>,
+    onward: bool,
+    locates: &[u16],
+    wanted: &[u32],
+) -> Result<(), Fail> {
+    let found = stops_along(alloc, day, debugger, onward, locates)?;
+    let way = if onward {
+        "stops onward"
+    } else {
+        "stops rearward"
+    };
+    same_list(way, &found, wanted)
+}
+
+// The stops on the way back from the end of a day, which begins at the last message, in the order of that way.
+fn stops_back<A: Allocator>(mut stops: Vec<u32, A>, last: u32) -> Vec<u32, A> {
+    if stops.last() == Some(&last) {
+        stops.pop();
+    }
+    stops.reverse();
+    stops
+}
+
+/// Compares the messages at which a breakpoint stops, on the way to the end of a day and on the way back, with those
+/// that the bytes of the messages and the plain machine give, and what the debugger shows there.
+pub fn compare_stops<A: Allocator + Copy>(
+    alloc: A,
+    day: &Day<A>,
+    breakpoint: Break,
+    locates: &[u16],
+) -> Result<(), Fail> {
+    let stops = stops_of(alloc, day, &breakpoint)?;
+    let mut debugger = Debugger::new(alloc, day, 7)?;
+    debugger.add_break(alloc, breakpoint)?;
+    compare_way(alloc, day, &mut debugger, true, locates, &stops)?;
+    let stops = stops_back(stops, day.len());
+    compare_way(alloc, day, &mut debugger, false, locates, &stops)
+}

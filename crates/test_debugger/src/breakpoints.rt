@@ -1,0 +1,166 @@
+//! Where breakpoints stop, both ways.
+use crate::calls::{Answer, Call, follow};
+use crate::days::{BIDS, time_break, timed, tour};
+use binaryfile::Day;
+use debugger::{Break, DebugFault, Debugger, Stop};
+use itch_table::{Fault, Outcome};
+use std::alloc::Allocator;
+use std::test::Fail;
+use test_support::{AAPL, same, system};
+
+// A stop of the first breakpoint.
+const fn first(at: u32) -> Result<Answer, DebugFault> {
+    Ok(Answer::Stopped(Stop { at, hit: Some(0) }))
+}
+
+// A stop of the breakpoint at an index, counted from 0.
+const fn stop(at: u32, place: usize) -> Result<Answer, DebugFault> {
+    Ok(Answer::Stopped(Stop {
+        at,
+        hit: Some(place),
+    }))
+}
+
+// The end of the day or its start, where no breakpoint stops.
+const fn none(at: u32) -> Result<Answer, DebugFault> {
+    Ok(Answer::Stopped(Stop { at, hit: None }))
+}
+
+#[test]
+fn breakpoints_are_a_list(rt: HostRuntime) -> Result<(), Fail> {
+    let alloc = rt.alloc();
+    let day = tour(alloc)?;
+    let mut debugger = Debugger::new(alloc, &day, 1_000)?;
+    let script = [
+        (Call::AddBreak(BIDS), Ok(Answer::Place(0))),
+        (Call::AddBreak(time_break(3)?), Ok(Answer::Place(1))),
+        (Call::AddBreak(BIDS), Ok(Answer::Place(0))),
+        (Call::RemoveBreak(0), Ok(Answer::Removed(Some(BIDS)))),
+        (Call::RemoveBreak(1), Ok(Answer::Removed(None))),
+        (Call::AddBreak(time_break(3)?), Ok(Answer::Place(0))),
+        (Call::Onward, first(4)),
+        (Call::Onward, none(7)),
+        (Call::Onward, Err(DebugFault::PastEnd)),
+        (Call::Rearward, first(4)),
+        (Call::Rearward, none(0)),
+        (Call::Rearward, Err(DebugFault::BeforeStart)),
+        (Call::Step, Ok(Answer::Moved(1, Some(Outcome::Applied)))),
+        (Call::Back, Ok(Answer::Moved(0, None))),
+    ];
+    follow(alloc, &mut debugger, &script)?;
+    same("no event", &debugger.event(), &None)
+}
+
+#[test]
+fn a_level_stops_where_its_shares_change(rt: HostRuntime) -> Result<(), Fail> {
+    let alloc = rt.alloc();
+    let day = tour(alloc)?;
+    let mut debugger = Debugger::new(alloc, &day, 1_000)?;
+    let script = [
+        (Call::AddBreak(BIDS), Ok(Answer::Place(0))),
+        (Call::Onward, first(2)),
+        (Call::Onward, first(3)),
+        (Call::Onward, first(5)),
+        (Call::Onward, first(7)),
+        (Call::Onward, Err(DebugFault::PastEnd)),
+        (Call::Rearward, first(5)),
+    ];
+    follow(alloc, &mut debugger, &script)
+}
+
+#[test]
+fn a_reference_stops_where_it_is_named(rt: HostRuntime) -> Result<(), Fail> {
+    let alloc = rt.alloc();
+    let day = timed(
+        alloc,
+        &[
+            (0, AAPL.directory()),
+            (1, AAPL.add(1, b'B', 100, 1_500_000)),
+            (2, AAPL.replace(1, 1, 50, 1_490_000)),
+            (3, AAPL.replace(1, 2, 50, 1_490_000)),
+        ],
+    )?;
+    let named = Break::Reference {
+        locate: 1,
+        reference: 1,
+    };
+    let refused = Some(Outcome::Refused(Fault::ReferenceInUse));
+    let mut debugger = Debugger::new(alloc, &day, 1_000)?;
+    let script = [
+        (Call::AddBreak(named), Ok(Answer::Place(0))),
+        (Call::Onward, first(2)),
+        (Call::Onward, first(3)),
+        (Call::Onward, first(4)),
+        (Call::Rearward, first(3)),
+        (Call::Goto(3), Ok(Answer::Moved(3, refused))),
+    ];
+    follow(alloc, &mut debugger, &script)
+}
+
+#[test]
+fn a_time_stops_once(rt: HostRuntime) -> Result<(), Fail> {
+    let alloc = rt.alloc();
+    let event = system(0, b'O');
+    let day = timed(alloc, &[(10, event), (30, event), (20, event), (40, event)])?;
+    let mut debugger = Debugger::new(alloc, &day, 1_000)?;
+    let script = [
+        (Call::AddBreak(time_break(25)?), Ok(Answer::Place(0))),
+        (Call::Onward, first(2)),
+        (Call::Onward, none(4)),
+        (Call::Rearward, first(2)),
+    ];
+    follow(alloc, &mut debugger, &script)?;
+    same("the event", &debugger.event(), &Some(b'O'))
+}
+
+// Two bids at one price, of which the first is executed in part, a trading halt, a refused addition under the first
+// one's reference, and the first one's deletion. Message n is at time n - 1.
+fn two_bids<A: Allocator + Copy>(alloc: A) -> Result<Day<A>, Fail> {
+    timed(
+        alloc,
+        &[
+            (0, AAPL.directory()),
+            (1, AAPL.add(1, b'B', 100, 1_500_000)),
+            (2, AAPL.add(2, b'B', 50, 1_500_000)),
+            (3, AAPL.execute(1, 40, 9)),
+            (4, AAPL.trading(b'H', *b"T1  ")),
+            (5, AAPL.add(1, b'B', 10, 1_500_000)),
+            (6, AAPL.delete(1)),
+        ],
+    )
+}
+
+// Message 3 changes the level alone, message 6 names the reference alone, and messages 2, 4 and 7 do both.
+#[test]
+fn the_first_that_stops_is_named(rt: HostRuntime) -> Result<(), Fail> {
+    let alloc = rt.alloc();
+    let day = two_bids(alloc)?;
+    let named = Break::Reference {
+        locate: 1,
+        reference: 1,
+    };
+    let mut debugger = Debugger::new(alloc, &day, 1_000)?;
+    let script = [
+        (Call::AddBreak(time_break(6)?), Ok(Answer::Place(0))),
+        (Call::AddBreak(named), Ok(Answer::Place(1))),
+        (Call::AddBreak(BIDS), Ok(Answer::Place(2))),
+        (Call::AddBreak(time_break(4)?), Ok(Answer::Place(3))),
+        (Call::Onward, stop(2, 1)),
+        (Call::Onward, stop(3, 2)),
+        (Call::Onward, stop(4, 1)),
+        (Call::Onward, stop(5, 3)),
+        (Call::Onward, stop(6, 1)),
+        (Call::Onward, stop(7, 0)),
+        (Call::Rearward, stop(6, 1)),
+        (Call::Rearward, stop(5, 3)),
+        (Call::RemoveBreak(1), Ok(Answer::Removed(Some(named)))),
+        (Call::Rearward, stop(4, 1)),
+        (Call::AddBreak(named), Ok(Answer::Place(3))),
+        (Call::Rearward, stop(3, 1)),
+        (Call::Onward, stop(4, 1)),
+        (Call::Onward, stop(5, 2)),
+        (Call::Onward, stop(6, 3)),
+        (Call::Onward, stop(7, 0)),
+    ];
+    follow(alloc, &mut debugger, &script)
+}

@@ -1,0 +1,103 @@
+//! A stock with very many messages, whose track is made when a debugger begins.
+use binaryfile::Day;
+use debugger::{DebugFault, Debugger};
+use std::alloc::{Allocator, Global};
+use std::test::Fail;
+use test_refusing::{Refusal, Refusing, Tried, refuse_each};
+use test_support::{AAPL, add_entry, day_of, same, same_list};
+
+// How many orders are added and deleted, one after another. With the directory message there are 60,001 messages.
+const ORDERS: u64 = 30_000;
+
+// A place, and there how many messages the stock has taken, the shares of its best bid, and whether the references of
+// the first and of the last order are spent.
+type Place = (u32, u32, u64, bool, bool);
+
+// After the directory message each even message adds an order, and each odd one deletes it.
+const SHOWN: [Place; 5] = [
+    (0, 0, 0, false, false),
+    (1, 1, 0, false, false),
+    (2, 2, 10, true, false),
+    (30_001, 30_001, 0, true, false),
+    (60_000, 60_000, 10, true, true),
+];
+
+// The bytes of the day.
+fn busy_file<A: Allocator + Copy>(alloc: A) -> Result<Vec<u8, A>, Fail> {
+    let mut file = Vec::new(alloc);
+    add_entry(alloc, &mut file, &AAPL.directory())?;
+    for reference in 1..=ORDERS {
+        add_entry(alloc, &mut file, &AAPL.add(reference, b'B', 10, 100))?;
+        add_entry(alloc, &mut file, &AAPL.delete(reference))?;
+    }
+    Ok(file)
+}
+
+// What a debugger shows of the stock at a place.
+fn shown_at<A: Allocator + Copy>(
+    alloc: A,
+    debugger: &mut Debugger<'_, A>,
+    place: u32,
+) -> Result<Place, DebugFault> {
+    debugger.goto(alloc, place)?;
+    let stock = debugger.stock(alloc, 1)?;
+    let spent = (stock.spent(1), stock.spent(ORDERS));
+    Ok((
+        place,
+        stock.steps(),
+        stock.top().bid_shares,
+        spent.0,
+        spent.1,
+    ))
+}
+
+// What a debugger shows of the stock at each of the places.
+fn shown_along<A: Allocator + Copy>(
+    alloc: A,
+    debugger: &mut Debugger<'_, A>,
+) -> Result<Vec<Place, A>, DebugFault> {
+    let mut list = Vec::new(alloc);
+    for (place, _, _, _, _) in SHOWN {
+        let shown = shown_at(alloc, debugger, place)?;
+        if list.push(shown).is_err() {
+            return Err(DebugFault::Memory);
+        }
+    }
+    Ok(list)
+}
+
+// Compares what a new debugger shows along the day.
+fn go_along<A: Allocator + Copy>(alloc: A, day: &Day<A>) -> Result<Result<(), Fail>, DebugFault> {
+    let mut debugger = Debugger::new(alloc, day, 30_000)?;
+    let list = shown_along(alloc, &mut debugger)?;
+    Ok(same_list("the stock along the day", &list, &SHOWN))
+}
+
+// Goes along the day under a refusal, and with memory where it is refused.
+fn go_under<'h>(
+    heap: &'h Refusing<Global>,
+    day: &Day<&'h Refusing<Global>>,
+    refusal: Refusal,
+) -> Result<Tried, Fail> {
+    heap.restart(refusal);
+    let along = go_along(heap, day);
+    let tried = heap.tried(along.is_err());
+    match along {
+        Ok(compared) => compared?,
+        Err(fault) => {
+            same("a refused growth", &fault, &DebugFault::Memory)?;
+            go_along(heap, day)??;
+        }
+    }
+    Ok(tried)
+}
+
+#[test]
+fn a_busy_stock_is_shown_at_each_place(rt: HostRuntime) -> Result<(), Fail> {
+    let file = busy_file(rt.alloc())?;
+    let heap = Refusing::new(rt.alloc(), Refusal::Never);
+    let growths = refuse_each(|refusal: Refusal| -> Result<Tried, Fail> {
+        go_under(&heap, &day_of(&heap, file.to_vec(&heap)?)?, refusal)
+    })?;
+    same("some growths", &(growths > 20 && growths <= 200), &true)
+}

@@ -1,0 +1,160 @@
+//! The engines, called by one form, and the replay also by two workers.
+use binaryfile::{Feed, Sink};
+use itch_engine::{ProgFault, asm_run, dis_between_run, dis_run, hex_run, replay_run};
+use itch_readings::{Selection, StockName, stocks_run, tops_run};
+use itch_watch::watch_run;
+use std::alloc::Allocator;
+use std::io::{Read, Write};
+use std::sync::Wait;
+use std::sync::atomic::AtomicU64;
+use std::thread::Threads;
+use stock_workers::FreeGate;
+use test_support::{DIGITS, FILE, REPORT, TEXT};
+
+/// An engine.
+#[derive(Debug, Clone, Copy, PartialEq, Eq)]
+pub(crate) enum Engine {
+    Replay,
+    /// The replay by two workers, of a file of two stocks.
+    TwoWorkers,
+    Digits,
+    Disassembler,
+    /// The disassembler of messages 2 and 3.
+    Between,
+    Assembler,
+    Stocks,
+    /// The tops of the file's stock, by its symbol.
+    Tops,
+    /// What a screen sees of the stock that has one message in the file of two stocks, and no directory message.
+    Watch,
+}
+
+/// All of them, where the replay has one worker.
+pub(crate) const ENGINES: [Engine; 8] = [
+    Engine::Replay,
+    Engine::Digits,
+    Engine::Disassembler,
+    Engine::Between,
+    Engine::Assembler,
+    Engine::Stocks,
+    Engine::Tops,
+    Engine::Watch,
+];
+
+// The bytes of examples/two-stocks.itch: two stocks with a bid each, and three deletes, two of which are refused.
+const TWO_STOCKS: &[u8] =
+    b"\x00\x27R\x00\x01\x00\x00\x00\x00\x00\x00\x00\x00AAPL    QN\x00\x00\x00dNCZ PNN1N\x00\x00\x00\x00N\
+      \x00\x27R\x00\x02\x00\x00\x00\x00\x00\x00\x00\x01MSFT    QN\x00\x00\x00dNCZ PNN1N\x00\x00\x00\x00N\
+      \x00\x24A\x00\x01\x00\x00\x00\x00\x00\x00\x00\x02\x00\x00\x00\x00\x00\x00\x00\x07B\x00\x00\x00\x0aAAPL    \x00\x00\x00d\
+      \x00\x24A\x00\x02\x00\x00\x00\x00\x00\x00\x00\x03\x00\x00\x00\x00\x00\x00\x00\x07B\x00\x00\x00\x14MSFT    \x00\x00\x00\xc8\
+      \x00\x13D\x00\x01\x00\x00\x00\x00\x00\x00\x00\x04\x00\x00\x00\x00\x00\x00\x00\x07\
+      \x00\x13D\x00\x03\x00\x00\x00\x00\x00\x00\x00\x05\x00\x00\x00\x00\x00\x00\x00\x07\
+      \x00\x13D\x00\x01\x00\x00\x00\x00\x00\x00\x00\x06\x00\x00\x00\x00\x00\x00\x00\x07";
+
+// The report of that file.
+const TWO_STOCKS_REPORT: &[u8] = b"message 6 refused F2\n\
+      message 7 refused F6\n\
+      messages 7 applied 5 passed 0 refused 2 marked no tail 0 event none\n\
+      stock 1 \"AAPL\" state none reason none regsho none\n\
+      trades 0 shares 0 notional 0 unprinted 0\n\
+      stock 2 \"MSFT\" state none reason none regsho none\n\
+      bid 200 20\n\
+      trades 0 shares 0 notional 0 unprinted 0\n";
+
+// The lines of the worked file's messages 2 and 3.
+const BETWEEN: &[u8] =
+    b"add locate=1 tracking=0 time=1 reference=1 side=\"B\" shares=100 stock=\"AAPL\" price=1010000\n\
+      raw 41\n";
+
+// The lines of the worked file's stocks.
+const STOCKS: &[u8] = b"stock 1 \"AAPL\" messages 2\n";
+
+// The lines of their best bids and asks: message 2 is the only bid.
+const TOPS: &[u8] = b"message,time,bid_price,bid_shares,ask_price,ask_shares\n\
+      2,1,1010000,100,,\n";
+
+// What a screen sees of the stock that is deleted from without a directory message.
+const SEEN: &[u8] = b"at 6 bid none ask none\n";
+
+impl Engine {
+    /// A file in the form that the engine reads.
+    pub(crate) fn input(self) -> &'static [u8] {
+        match self {
+            Engine::Replay
+            | Engine::Disassembler
+            | Engine::Between
+            | Engine::Stocks
+            | Engine::Tops => FILE,
+            Engine::TwoWorkers | Engine::Watch => TWO_STOCKS,
+            Engine::Digits => DIGITS,
+            Engine::Assembler => TEXT,
+        }
+    }
+
+    /// What the engine writes for it.
+    pub(crate) fn output(self) -> &'static [u8] {
+        match self {
+            Engine::Replay | Engine::Digits => REPORT,
+            Engine::TwoWorkers => TWO_STOCKS_REPORT,
+            Engine::Disassembler => TEXT,
+            Engine::Between => BETWEEN,
+            Engine::Assembler => FILE,
+            Engine::Stocks => STOCKS,
+            Engine::Tops => TOPS,
+            Engine::Watch => SEEN,
+        }
+    }
+
+    /// What the engine returns for it: how many messages were refused, and 0 where none is replayed.
+    pub(crate) fn answer(self) -> Result<u32, ProgFault> {
+        match self {
+            Engine::Replay | Engine::Digits => Ok(1),
+            Engine::TwoWorkers => Ok(2),
+            Engine::Disassembler
+            | Engine::Between
+            | Engine::Assembler
+            | Engine::Stocks
+            | Engine::Tops
+            | Engine::Watch => Ok(0),
+        }
+    }
+
+    /// Runs the engine.
+    pub(crate) fn run<
+        T: Threads + Wait + Sync,
+        A: Allocator + Copy + Send + Sync,
+        R: Read + Drop,
+        W: Write,
+    >(self, rt: &T, alloc: A, reader: R, writer: &mut W) -> Result<u32, ProgFault> {
+        let mut feed = Feed::new(reader);
+        let mut sink = Sink::new(writer);
+        match self {
+            Engine::Replay => replay_run(rt, alloc, &mut feed, &mut sink, 1, &FreeGate),
+            Engine::TwoWorkers => replay_run(rt, alloc, &mut feed, &mut sink, 2, &FreeGate),
+            Engine::Digits => hex_run(rt, alloc, &mut feed, &mut sink),
+            Engine::Disassembler => dis_run(alloc, &mut feed, &mut sink).map(|()| 0),
+            Engine::Between => dis_between_run(alloc, &mut feed, &mut sink, 2, 3).map(|()| 0),
+            Engine::Assembler => asm_run(alloc, &mut feed, &mut sink).map(|()| 0),
+            Engine::Stocks => stocks_run(alloc, &mut feed, &mut sink).map(|()| 0),
+            Engine::Tops => tops_run(
+                alloc,
+                &mut feed,
+                &mut sink,
+                StockName::Symbol(*b"AAPL    "),
+                Selection::Changes,
+            )
+            .map(|()| 0),
+            Engine::Watch => watch_run(
+                rt,
+                alloc,
+                &mut feed,
+                &mut sink,
+                StockName::Locate(3),
+                1,
+                &FreeGate,
+                &AtomicU64::new(0),
+            )
+            .map(|()| 0),
+        }
+    }
+}

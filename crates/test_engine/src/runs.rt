@@ -1,0 +1,207 @@
+//! Runs of each engine on its file, with devices and memory that fail.
+use crate::engines::{ENGINES, Engine};
+use binaryfile::{Feed, Sink};
+use itch_engine::{ProgFault, replay_run};
+use std::io::ErrorKind;
+use std::sync::Wait;
+use std::sync::atomic::{AtomicU64, Ordering};
+use std::test::Fail;
+use std::thread::Threads;
+use stock_workers::Gate;
+use test_refusing::{Refusal, Refusing, Tried, refuse_each};
+use test_support::{FILE, Failure, Narrow, Pieces, REPORT, same, same_bytes};
+
+// A run on a file that comes in pieces.
+fn try_pieces<T: AllocGlobal + Threads + Wait + Sync>(
+    rt: &T,
+    engine: Engine,
+    most: usize,
+) -> Result<(), Fail> {
+    let mut output = Vec::new(rt.alloc());
+    let answer = engine.run(
+        rt,
+        rt.alloc(),
+        Pieces::new(engine.input(), most),
+        &mut output,
+    );
+    same("an answer", &(engine, answer), &(engine, engine.answer()))?;
+    same_bytes("an output", &output, engine.output())
+}
+
+#[test]
+fn engines_write_their_output(rt: HostRuntime) -> Result<(), Fail> {
+    for engine in ENGINES {
+        for most in [1, 7, 10_000] {
+            try_pieces(&rt, engine, most)?;
+        }
+    }
+    Ok(())
+}
+
+// Counts how often workers come to a message, and how often the one of this number does, and adds up the numbers of these
+// messages.
+#[derive(Drop)]
+struct Counting {
+    owner: u32,
+    calls: AtomicU64,
+    own: AtomicU64,
+    sum: AtomicU64,
+}
+
+impl Gate for Counting {
+    fn at<R: Threads + Wait + Sync>(&self, _rt: &R, worker: u32, message: u32) {
+        self.calls.fetch_add(1, Ordering::SeqCst);
+        if worker == self.owner {
+            self.own.fetch_add(1, Ordering::SeqCst);
+        }
+        self.sum.fetch_add(u64::from(message), Ordering::SeqCst);
+    }
+}
+
+// A replay of the worked file by this many workers. Of them the one that has the stock of locate code 1 comes to
+// messages 1 and 2, the only ones of a stock.
+fn try_workers<T: AllocGlobal + Threads + Wait + Sync>(rt: &T, workers: u32) -> Result<(), Fail> {
+    let mut output = Vec::new(rt.alloc());
+    if workers == 0 || workers > 64 {
+        return Err(Fail::new("a replay has 1 to 64 workers"));
+    }
+    let gate = Counting {
+        owner: 1 % workers,
+        calls: AtomicU64::new(0),
+        own: AtomicU64::new(0),
+        sum: AtomicU64::new(0),
+    };
+    let answer = replay_run(
+        rt,
+        rt.alloc(),
+        &mut Feed::new(FILE),
+        &mut Sink::new(&mut output),
+        workers,
+        &gate,
+    );
+    same("an answer", &(workers, answer), &(workers, Ok(1)))?;
+    same_bytes("a report", &output, REPORT)?;
+    let calls = gate.calls.load(Ordering::SeqCst);
+    let own = gate.own.load(Ordering::SeqCst);
+    let sum = gate.sum.load(Ordering::SeqCst);
+    same(
+        "calls of the gate",
+        &(workers, calls, own, sum),
+        &(workers, 2, 2, 3),
+    )
+}
+
+#[test]
+fn reports_are_the_same_for_all_numbers_of_workers(rt: HostRuntime) -> Result<(), Fail> {
+    for workers in [1, 2, 3, 64] {
+        try_workers(&rt, workers)?;
+    }
+    Ok(())
+}
+
+// A run whose reader gives one byte a call and fails at one call.
+fn try_read<T: AllocGlobal + Threads + Wait + Sync>(
+    rt: &T,
+    engine: Engine,
+    failing: u64,
+) -> Result<(), Fail> {
+    let mut output = Vec::new(rt.alloc());
+    let reader = Pieces::failing(engine.input(), 1, failing, ErrorKind::Interrupted);
+    let answer = engine.run(rt, rt.alloc(), reader, &mut output);
+    let found = (engine, failing, answer, output.len());
+    same(
+        "a failed read",
+        &found,
+        &(engine, failing, Err(ProgFault::Read), 0),
+    )
+}
+
+// One call for each byte, and one more that gives the end.
+#[test]
+fn engines_send_nothing_after_a_failed_read(rt: HostRuntime) -> Result<(), Fail> {
+    for engine in ENGINES {
+        for failing in 1..=(engine.input().len() as u64).saturating_add(1) {
+            try_read(&rt, engine, failing)?;
+        }
+    }
+    Ok(())
+}
+
+// A run whose writer takes one byte a call, and fails when it has taken this many.
+fn try_write<T: AllocGlobal + Threads + Wait + Sync>(
+    rt: &T,
+    engine: Engine,
+    taken: usize,
+    failure: Failure,
+) -> Result<(), Fail> {
+    let failing = (taken as u64).saturating_add(1);
+    let mut output = Narrow::failing(rt.alloc(), failing, failure);
+    let answer = engine.run(rt, rt.alloc(), engine.input(), &mut output);
+    let found = (engine, failing, answer, output.calls());
+    same(
+        "a failed write",
+        &found,
+        &(engine, failing, Err(ProgFault::Write), failing),
+    )?;
+    let prefix = engine.output().get(..taken).unwrap_or(b"no prefix");
+    same_bytes("what was taken", output.taken(), prefix)
+}
+
+#[test]
+fn engines_have_sent_a_prefix_after_a_failed_write(rt: HostRuntime) -> Result<(), Fail> {
+    for engine in ENGINES {
+        for taken in 0..engine.output().len() {
+            try_write(&rt, engine, taken, Failure::Error(ErrorKind::Interrupted))?;
+            try_write(&rt, engine, taken, Failure::Error(ErrorKind::Other))?;
+            try_write(&rt, engine, taken, Failure::TakesNone)?;
+        }
+    }
+    Ok(())
+}
+
+// A run under a refusal. Where it is out of memory, it has sent nothing, and the engine is run with memory. In the end
+// the output is whole.
+fn try_refusal<T: AllocGlobal + Threads + Wait + Sync>(
+    rt: &T,
+    engine: Engine,
+    refusal: Refusal,
+) -> Result<Tried, Fail> {
+    let heap = Refusing::new(rt.alloc(), refusal);
+    let mut output = Vec::new(rt.alloc());
+    let mut answer = engine.run(rt, &heap, engine.input(), &mut output);
+    let tried = heap.tried(answer.is_err());
+    let case = (engine, refusal);
+    if tried.refused {
+        let found = (case, answer, output.len());
+        same("without memory", &found, &(case, Err(ProgFault::Memory), 0))?;
+        answer = engine.run(rt, &heap, engine.input(), &mut output);
+    }
+    same("an answer", &(case, answer), &(case, engine.answer()))?;
+    same_bytes("an output", &output, engine.output())?;
+    Ok(tried)
+}
+
+#[test]
+fn engines_send_nothing_without_memory(rt: HostRuntime) -> Result<(), Fail> {
+    for engine in [
+        Engine::TwoWorkers,
+        Engine::Replay,
+        Engine::Digits,
+        Engine::Disassembler,
+        Engine::Between,
+        Engine::Assembler,
+        Engine::Stocks,
+        Engine::Tops,
+        Engine::Watch,
+    ] {
+        let growths = refuse_each(|refusal: Refusal| -> Result<Tried, Fail> {
+            try_refusal(&rt, engine, refusal)
+        })?;
+        same(
+            "that there are growths",
+            &(engine, growths > 3),
+            &(engine, true),
+        )?;
+    }
+    Ok(())
+}

@@ -1,0 +1,58 @@
+//! Sinks: sends that succeed, and writers that fail.
+use binaryfile::{Sink, WriteFault, send};
+use std::alloc::Allocator;
+use std::io::ErrorKind;
+use std::test::Fail;
+use test_support::{Failure, Narrow, STORED_RUN, same, same_bytes};
+
+#[test]
+fn a_send_goes_on_until_all_is_taken(rt: HostRuntime) -> Result<(), Fail> {
+    let mut writer = Narrow::failing(rt.alloc(), 0, Failure::TakesNone);
+    let mut sink = Sink::new(&mut writer);
+    same("nothing", &send(&mut sink, b""), &Ok(()))?;
+    same("four bytes", &send(&mut sink, b"abcd"), &Ok(()))?;
+    same("a sink that works", &sink.failed(), &false)?;
+    same_bytes("what was taken", writer.taken(), b"abcd")?;
+    same("how often the writer was asked", &writer.calls(), &4)
+}
+
+// After a failure the writer, which would go on, is not asked again, also where it was interrupted.
+fn try_failure<A: Allocator>(
+    alloc: A,
+    bytes: &[u8],
+    failing: u64,
+    failure: Failure,
+) -> Result<(), Fail> {
+    let mut writer = Narrow::failing(alloc, failing, failure);
+    let mut sink = Sink::new(&mut writer);
+    let written = failing.saturating_sub(1);
+    let first = (failure, send(&mut sink, bytes), sink.failed());
+    let later = (send(&mut sink, b"e"), send(&mut sink, b""), sink.failed());
+    same(
+        "a failed send",
+        &first,
+        &(failure, Err(WriteFault { written }), true),
+    )?;
+    same(
+        "later sends",
+        &later,
+        &(Err(WriteFault { written: 0 }), Ok(()), true),
+    )?;
+    same("how often the writer was asked", &writer.calls(), &failing)?;
+    let sent = bytes.get(..written as usize).unwrap_or(b"none of these");
+    same_bytes("what was taken", writer.taken(), sent)
+}
+
+#[test]
+fn a_sink_fails_for_good_at_any_failure(rt: HostRuntime) -> Result<(), Fail> {
+    for failure in [
+        Failure::Error(ErrorKind::Interrupted),
+        Failure::Error(ErrorKind::Other),
+        Failure::TakesNone,
+    ] {
+        for failing in 1..=STORED_RUN.len() as u64 {
+            try_failure(rt.alloc(), STORED_RUN, failing, failure)?;
+        }
+    }
+    Ok(())
+}

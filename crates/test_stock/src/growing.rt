@@ -1,0 +1,429 @@
+//! Growths that are refused in turn, and steps and calls that take no memory.
+use crate::comparing::{after, same_answers, same_machines, take, take_message};
+use itch_layouts::Msg;
+use itch_table::{Fault, Level, Order, Outcome, Part, Side, Status, Top, Totals, Trading, part};
+use std::alloc::{AllocError, Allocator, Global};
+use std::test::Fail;
+use stock_machine::Stock;
+use test_refusing::{Refusal, Refusing, Tried, refuse_any, refuse_each};
+use test_support::{AAPL, GROWING, Growing, payload_of, same, same_list};
+
+// The directory message, and one that adds a bid.
+fn one_bid() -> [Msg; 2] {
+    [AAPL.directory(), AAPL.add(1, b'B', 10, 100)]
+}
+
+// A machine with order 1 before message `number` of a kind, after the earlier ones from 2 on: each replacement comes
+// after its original.
+fn machine_before<A: Allocator + Copy>(
+    alloc: A,
+    kind: Growing,
+    number: u8,
+) -> Result<Stock<A>, Fail> {
+    let mut stock = after(alloc, &one_bid())?;
+    for earlier in 2..=number {
+        if kind == Growing::Replace {
+            let original = AAPL.add(u64::from(earlier), b'B', 10, 100);
+            take_message(alloc, &mut stock, &original, Outcome::Applied)?;
+        }
+        if earlier < number {
+            take_message(alloc, &mut stock, &kind.message(earlier), Outcome::Applied)?;
+        }
+    }
+    Ok(stock)
+}
+
+// Steps a machine under a refusal through a payload that is applied with memory.
+fn step_under<'h>(
+    heap: &'h Refusing<Global>,
+    stock: &mut Stock<&'h Refusing<Global>>,
+    payload: &[u8],
+    refusal: Refusal,
+) -> Result<Tried, Fail> {
+    if part(payload) != Part::Locate(stock.locate()) || stock.steps() == u32::MAX {
+        return Err(Fail::new("the payload isn't the stock's next one"));
+    }
+    heap.restart(refusal);
+    let answer = stock.step(payload);
+    let tried = heap.tried(answer.is_err());
+    if !tried.refused {
+        same("a step", &answer, &Ok(Outcome::Applied))?;
+    }
+    Ok(tried)
+}
+
+// Passes a payload to a machine under a refusal. Where it is refused, the machine says what its twin says, and takes
+// the payload with memory. In the end it says what the twin says, which took it and was never refused.
+fn take_under<'h>(
+    heap: &'h Refusing<Global>,
+    stock: &mut Stock<&'h Refusing<Global>>,
+    twin: &mut Stock<&'h Refusing<Global>>,
+    payload: &[u8],
+    refusal: Refusal,
+) -> Result<Tried, Fail> {
+    let tried = step_under(heap, stock, payload, refusal)?;
+    if tried.refused {
+        same_machines(heap, stock, twin)?;
+        same_answers(stock, twin)?;
+        take(stock, payload, Outcome::Applied)?;
+    }
+    take(twin, payload, Outcome::Applied)?;
+    same_machines(heap, stock, twin)?;
+    Ok(tried)
+}
+
+// Passes message `number` of a kind to a machine under a refusal.
+fn try_step(
+    heap: &Refusing<Global>,
+    kind: Growing,
+    number: u8,
+    refusal: Refusal,
+) -> Result<Tried, Fail> {
+    let payload = payload_of(heap, &kind.message(number))?;
+    let mut stock = machine_before(heap, kind, number)?;
+    let mut twin = machine_before(heap, kind, number)?;
+    take_under(heap, &mut stock, &mut twin, &payload, refusal)
+}
+
+// Some of 99 messages of a kind need memory, and some find room.
+#[test]
+fn a_step_without_memory_changes_nothing(rt: HostRuntime) -> Result<(), Fail> {
+    let heap = Refusing::new(rt.alloc(), Refusal::Never);
+    for kind in GROWING {
+        let mut growths = 0u64;
+        for number in 2..=100u8 {
+            let more = refuse_any(|refusal: Refusal| -> Result<Tried, Fail> {
+                try_step(&heap, kind, number, refusal)
+            })?;
+            growths = growths.saturating_add(more);
+        }
+        same(
+            "how many messages needed memory",
+            &(kind, growths > 0 && growths < 99),
+            &(kind, true),
+        )?;
+    }
+    Ok(())
+}
+
+// The message that takes a reference lower than all before it: a new order, or a replacement of the one before.
+fn falling_message(kind: Growing, reference: u64) -> Msg {
+    match kind {
+        Growing::Replace => AAPL.replace(reference.saturating_add(1), reference, 10, 300),
+        _ => AAPL.add(reference, b'B', 10, 100),
+    }
+}
+
+// A machine that has taken references from 1,000 down to above this one.
+fn fallen_to<A: Allocator + Copy>(
+    alloc: A,
+    kind: Growing,
+    reference: u64,
+) -> Result<Stock<A>, Fail> {
+    let mut stock = after(alloc, &[AAPL.directory(), AAPL.add(1_000, b'B', 10, 100)])?;
+    for earlier in (reference..1_000).rev() {
+        if earlier > reference {
+            let msg = falling_message(kind, earlier);
+            take_message(alloc, &mut stock, &msg, Outcome::Applied)?;
+        }
+    }
+    Ok(stock)
+}
+
+// Passes a message with a falling reference to a machine under a refusal.
+fn try_falling(
+    heap: &Refusing<Global>,
+    kind: Growing,
+    reference: u64,
+    refusal: Refusal,
+) -> Result<Tried, Fail> {
+    let payload = payload_of(heap, &falling_message(kind, reference))?;
+    let mut stock = fallen_to(heap, kind, reference)?;
+    let mut twin = fallen_to(heap, kind, reference)?;
+    take_under(heap, &mut stock, &mut twin, &payload, refusal)
+}
+
+// References that don't rise stand in trees, which grow by other steps than lists.
+#[test]
+fn a_falling_reference_without_memory_changes_nothing(rt: HostRuntime) -> Result<(), Fail> {
+    let heap = Refusing::new(rt.alloc(), Refusal::Never);
+    for kind in [Growing::Add, Growing::Replace] {
+        let mut growths = 0u64;
+        for reference in 970..1_000u64 {
+            let more = refuse_any(|refusal: Refusal| -> Result<Tried, Fail> {
+                try_falling(&heap, kind, reference, refusal)
+            })?;
+            growths = growths.saturating_add(more);
+        }
+        same(
+            "that messages needed memory",
+            &(kind, growths > 2),
+            &(kind, true),
+        )?;
+    }
+    Ok(())
+}
+
+// The directory message, and others that add two bids and a trade, and a bid that goes again.
+fn two_bids() -> [Msg; 6] {
+    [
+        AAPL.directory(),
+        AAPL.add(1, b'B', 10, 100),
+        AAPL.add(2, b'B', 10, 200),
+        AAPL.trade(b'B', 1, 1, 3),
+        AAPL.add(4, b'B', 10, 300),
+        AAPL.delete(4),
+    ]
+}
+
+// The directory message, and others that add orders of both sides and trades.
+fn both_sides() -> [Msg; 9] {
+    [
+        AAPL.directory(),
+        AAPL.add(2, b'B', 10, 90),
+        AAPL.add(1, b'B', 10, 100),
+        AAPL.add_mpid(3, b'S', 6, 110),
+        AAPL.add(4, b'B', 1, 100),
+        AAPL.execute(3, 1, 1),
+        AAPL.execute_price(1, 2, 2, b'N', 5),
+        AAPL.trade(b'B', 7, 2, 3),
+        AAPL.trading(b'T', *b"    "),
+    ]
+}
+
+// A list that a machine makes.
+#[derive(Debug, Clone, Copy, PartialEq, Eq)]
+enum Listing {
+    Orders,
+    Levels(Side),
+}
+
+const LISTINGS: [Listing; 3] = [
+    Listing::Orders,
+    Listing::Levels(Side::Buy),
+    Listing::Levels(Side::Sell),
+];
+
+// The first of the orders of both sides, by their references.
+const FIRST: Order = Order {
+    reference: 1,
+    side: Side::Buy,
+    shares: 8,
+    price: 100,
+    attribution: None,
+};
+
+// The orders of both sides.
+fn orders_of_both() -> [Order; 4] {
+    [
+        FIRST,
+        Order {
+            reference: 2,
+            shares: 10,
+            price: 90,
+            ..FIRST
+        },
+        Order {
+            reference: 3,
+            side: Side::Sell,
+            shares: 5,
+            price: 110,
+            attribution: Some(*b"ABCD"),
+        },
+        Order {
+            reference: 4,
+            shares: 1,
+            ..FIRST
+        },
+    ]
+}
+
+// A level as its price and its shares.
+fn level(price: u32, shares: u64) -> Level {
+    Level { price, shares }
+}
+
+// Makes a list of a machine with orders of both sides, and compares it. An error of the list itself says that memory
+// was refused.
+fn list<A: Allocator + Copy>(
+    alloc: A,
+    stock: &Stock<A>,
+    listing: Listing,
+) -> Result<Result<(), Fail>, AllocError> {
+    match listing {
+        Listing::Orders => {
+            let orders = stock.orders(alloc)?;
+            Ok(same_list("the orders", &orders, &orders_of_both()))
+        }
+        Listing::Levels(Side::Buy) => {
+            let bids = stock.levels(alloc, Side::Buy)?;
+            Ok(same_list("the bids", &bids, &[level(100, 9), level(90, 10)]))
+        }
+        Listing::Levels(Side::Sell) => {
+            let asks = stock.levels(alloc, Side::Sell)?;
+            Ok(same_list("the asks", &asks, &[level(110, 5)]))
+        }
+    }
+}
+
+// A machine says what the messages of both sides make.
+fn shows_both_sides<A: Allocator + Copy>(alloc: A, stock: &Stock<A>) -> Result<(), Fail> {
+    let totals = Totals {
+        trades: 2,
+        shares: 8,
+        notional: 124,
+        unprinted: 2,
+    };
+    let top = Top::of(level(100, 9), level(110, 5));
+    same(
+        "the locate code, the steps, the totals and the top",
+        &(stock.locate(), stock.steps(), stock.totals(), stock.top()),
+        &(1, 9, totals, top),
+    )?;
+    for listing in LISTINGS {
+        list(alloc, stock, listing)??;
+    }
+    let status = Status {
+        directory: Some(AAPL.directory_row()),
+        trading: Some(Trading {
+            state: b'T',
+            reserved: b' ',
+            reason: *b"    ",
+        }),
+        regsho: None,
+    };
+    same("the status", &stock.status(), &status)
+}
+
+// Makes a list of a machine with orders of both sides under a refusal. The machine stays as it is, and its lists are
+// made again with memory.
+fn list_under<'h>(
+    heap: &'h Refusing<Global>,
+    stock: &Stock<&'h Refusing<Global>>,
+    listing: Listing,
+    refusal: Refusal,
+) -> Result<Tried, Fail> {
+    heap.restart(refusal);
+    let listed = list(heap, stock, listing);
+    let tried = heap.tried(listed.is_err());
+    if let Ok(compared) = listed {
+        compared?;
+    }
+    shows_both_sides(heap, stock)?;
+    Ok(tried)
+}
+
+// A copy says what the messages of both sides make, and what its machine says.
+fn same_copy<A: Allocator + Copy>(alloc: A, copy: &Stock<A>, stock: &Stock<A>) -> Result<(), Fail> {
+    shows_both_sides(alloc, copy)?;
+    same_machines(alloc, copy, stock)
+}
+
+// Makes a copy of a machine with orders of both sides under a refusal, and with memory where it is refused. It leaves
+// the machine as it is.
+fn copy_under<'h>(
+    heap: &'h Refusing<Global>,
+    stock: &Stock<&'h Refusing<Global>>,
+    refusal: Refusal,
+) -> Result<Tried, Fail> {
+    heap.restart(refusal);
+    let copy = stock.copy(heap);
+    let tried = heap.tried(copy.is_err());
+    match copy {
+        Ok(copy) => same_copy(heap, &copy, stock)?,
+        Err(AllocError) => same_copy(heap, &stock.copy(heap)?, stock)?,
+    }
+    Ok(tried)
+}
+
+#[test]
+fn a_list_or_a_copy_without_memory_is_none(rt: HostRuntime) -> Result<(), Fail> {
+    let heap = Refusing::new(rt.alloc(), Refusal::Never);
+    for listing in LISTINGS {
+        refuse_each(|refusal: Refusal| -> Result<Tried, Fail> {
+            list_under(&heap, &after(&heap, &both_sides())?, listing, refusal)
+        })?;
+    }
+    refuse_each(|refusal: Refusal| -> Result<Tried, Fail> {
+        copy_under(&heap, &after(&heap, &both_sides())?, refusal)
+    })?;
+    Ok(())
+}
+
+// Messages that need no new row, after two bids and a trade, with their outcomes.
+fn without_a_new_row() -> [(Msg, Outcome); 23] {
+    [
+        (AAPL.directory(), Outcome::Applied),
+        (AAPL.participant(), Outcome::Applied),
+        (AAPL.collar(), Outcome::Applied),
+        (AAPL.operational(), Outcome::Applied),
+        (AAPL.imbalance(), Outcome::Applied),
+        (AAPL.retail(), Outcome::Applied),
+        (
+            AAPL.add(1, b'B', 1, 1),
+            Outcome::Refused(Fault::ReferenceInUse),
+        ),
+        (
+            AAPL.add_mpid(3, b'B', 0, 1),
+            Outcome::Refused(Fault::ZeroShares),
+        ),
+        (
+            AAPL.replace(1, 2, 1, 1),
+            Outcome::Refused(Fault::ReferenceInUse),
+        ),
+        (
+            AAPL.add(4, b'B', 1, 1),
+            Outcome::Refused(Fault::ReferenceSpent),
+        ),
+        (
+            AAPL.replace(1, 4, 1, 1),
+            Outcome::Refused(Fault::ReferenceSpent),
+        ),
+        (AAPL.trade(b'Z', 1, 1, 1), Outcome::Refused(Fault::BadSide)),
+        (AAPL.trading(b'H', *b"T1  "), Outcome::Applied),
+        (AAPL.regsho(b'1'), Outcome::Applied),
+        (
+            AAPL.execute(1, 11, 9),
+            Outcome::Refused(Fault::TooManyShares),
+        ),
+        (
+            AAPL.execute_price(1, 1, 9, b'Z', 5),
+            Outcome::Refused(Fault::BadPrintable),
+        ),
+        (AAPL.cancel(1, 11), Outcome::Refused(Fault::TooManyShares)),
+        (AAPL.delete(9), Outcome::Refused(Fault::ReferenceUnknown)),
+        (AAPL.broken(9), Outcome::Refused(Fault::NoTrade)),
+        (AAPL.cancel(1, 4), Outcome::Applied),
+        (AAPL.cancel(1, 6), Outcome::Applied),
+        (AAPL.delete(2), Outcome::Applied),
+        (AAPL.broken(3), Outcome::Applied),
+    ]
+}
+
+#[test]
+fn steps_without_a_new_row_take_no_memory(rt: HostRuntime) -> Result<(), Fail> {
+    let heap = Refusing::new(rt.alloc(), Refusal::Never);
+    let mut stock = after(&heap, &two_bids())?;
+    heap.restart(Refusal::From(1));
+    for (msg, outcome) in &without_a_new_row() {
+        take_message(rt.alloc(), &mut stock, msg, *outcome)?;
+    }
+    same(
+        "the trades, the state and the steps",
+        &(stock.totals().trades, stock.status().regsho, stock.steps()),
+        &(0, Some(b'1'), 29),
+    )?;
+    let level = stock.level(Side::Buy, 200);
+    let spent = (stock.spent(2), stock.spent(3), stock.spent(4));
+    same(
+        "the orders, the spent references, and the growths",
+        &(
+            stock.top().bid_shares,
+            level,
+            stock.order(2),
+            spent,
+            heap.asked(),
+        ),
+        &(0, 0, None, (true, false, true), 0),
+    )
+}

@@ -1,0 +1,102 @@
+//! Texts where memory is refused. A list that is refused more room than it needs may make do with less; where all
+//! growths are refused from one on, there is no value, and what was lent is as it was.
+use binaryfile::Day;
+use itch_print::{disassemble, put_quoted, quote, reassembled};
+use itch_text::{AsmFault, assemble};
+use std::alloc::{Allocator, Global};
+use std::test::Fail;
+use test_refusing::{Refusal, Refusing, Tried, refuse_each};
+use test_support::{FILE, TEXT, same, same_bytes};
+
+const FIELD: &[u8] = b"A\x00B     ";
+
+const QUOTED: &[u8] = b"\"A\\x00B\"";
+
+// A call that makes a text, or the file of one.
+#[derive(Debug, Clone, Copy, PartialEq, Eq)]
+enum Call {
+    Disassemble,
+    Reassembled,
+    Assemble,
+    Quote,
+}
+
+impl Call {
+    // What the call gives for the worked file, or for the field.
+    fn output(self) -> &'static [u8] {
+        match self {
+            Call::Disassemble => TEXT,
+            Call::Reassembled | Call::Assemble => FILE,
+            Call::Quote => QUOTED,
+        }
+    }
+
+    // Makes the call.
+    fn make<A: Allocator + Copy>(self, alloc: A, day: &Day<A>) -> Result<Vec<u8, A>, AsmFault> {
+        match self {
+            Call::Disassemble => disassemble(alloc, day).map_err(|_| AsmFault::Memory),
+            Call::Reassembled => reassembled(alloc, day).map_err(|_| AsmFault::Memory),
+            Call::Assemble => assemble(alloc, TEXT),
+            Call::Quote => quote(alloc, FIELD).map_err(|_| AsmFault::Memory),
+        }
+    }
+}
+
+// Makes a call under a refusal, which leaves the day as it is, and with memory where it is refused.
+fn try_call(heap: &Refusing<Global>, call: Call, refusal: Refusal) -> Result<Tried, Fail> {
+    let day = Day::from_bytes(heap, FILE.to_vec(heap)?, u32::MAX)?;
+    heap.restart(refusal);
+    let made = call.make(heap, &day);
+    let tried = heap.tried(made.is_err());
+    same_bytes("the day that was lent", day.bytes(), FILE)?;
+    let output = match made {
+        Ok(output) => output,
+        Err(fault) => {
+            same("out of memory", &(call, fault), &(call, AsmFault::Memory))?;
+            call.make(heap, &day)?
+        }
+    };
+    same_bytes("what is made", &output, call.output())?;
+    Ok(tried)
+}
+
+#[test]
+fn each_growth_of_a_text_may_be_refused(rt: HostRuntime) -> Result<(), Fail> {
+    let heap = Refusing::new(rt.alloc(), Refusal::Never);
+    for call in [
+        Call::Disassemble,
+        Call::Reassembled,
+        Call::Assemble,
+        Call::Quote,
+    ] {
+        refuse_each(|refusal: Refusal| -> Result<Tried, Fail> { try_call(&heap, call, refusal) })?;
+    }
+    Ok(())
+}
+
+// Adds a quoted field to a text under a refusal. Where it is refused, the text is as it was, and the field is added
+// with memory.
+fn try_field(heap: &Refusing<Global>, refusal: Refusal) -> Result<Tried, Fail> {
+    let mut text = b"stock ".to_vec(heap)?;
+    heap.restart(refusal);
+    let mut added = put_quoted(&mut text, FIELD);
+    let tried = heap.tried(added.is_err());
+    if tried.refused {
+        same_bytes("the text", &text, b"stock ")?;
+        added = put_quoted(&mut text, FIELD);
+    }
+    same("a field that is added", &added, &Ok(()))?;
+    same_bytes(
+        "after the text",
+        text.strip_prefix(b"stock ").unwrap_or(b"lost"),
+        QUOTED,
+    )?;
+    Ok(tried)
+}
+
+#[test]
+fn a_field_is_added_whole_or_not_at_all(rt: HostRuntime) -> Result<(), Fail> {
+    let heap = Refusing::new(rt.alloc(), Refusal::Never);
+    refuse_each(|refusal: Refusal| -> Result<Tried, Fail> { try_field(&heap, refusal) })?;
+    Ok(())
+}

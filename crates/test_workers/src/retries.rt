@@ -1,0 +1,88 @@
+//! Turns that are refused memory and taken again, at a gate that notes with which messages it is called.
+ghost use Rattle.std.specs.Prelude.{◌≡◌, All};
+ghost use Rattle.top_cell.specs.Boards.{IsOn};
+
+use crate::turns::{only_worker, prepare, turn};
+use binaryfile::Day;
+use std::alloc::Global;
+use std::sync::Wait;
+use std::sync::atomic::{AtomicU64, Ordering};
+use std::test::Fail;
+use std::thread::Threads;
+use stock_workers::{Gate, Worker};
+use test_refusing::{Refusal, Refusing, Tried, refuse_each};
+use test_support::{same, two_stocks};
+use top_cell::Board;
+
+// Notes the message of each call as a decimal digit, the last one lowest.
+#[derive(Drop)]
+struct Noting {
+    digits: AtomicU64,
+}
+
+// Digits with one more.
+fn with_digit(digits: u64, message: u32) -> u64 {
+    digits.wrapping_mul(10).wrapping_add(u64::from(message))
+}
+
+impl Gate for Noting {
+    fn at<R: Threads + Wait + Sync>(&self, _rt: &R, _worker: u32, message: u32) {
+        let digits = self.digits.load(Ordering::SeqCst);
+        let more = with_digit(digits, message);
+        self.digits.store(more, Ordering::SeqCst);
+    }
+}
+
+// Takes the turns of the only worker of two stocks under a refusal, and one more where none of its seven messages is
+// left. A turn that is refused is taken again with memory. The gate was called once for each try, with the message of
+// that turn, and not at all where no message was left.
+fn take_turns<'h, R: Threads + Wait + Sync>(
+    rt: &R,
+    heap: &'h Refusing<Global>,
+    day: &Day<&'h Refusing<Global>>,
+    board: &Board<'_, &'h Refusing<Global>>,
+    worker: &mut Worker<'_, &'h Refusing<Global>>,
+) -> Result<Tried, Fail>
+    requires day { day.now.payloads ≡ worker.old.state.day }
+    requires board { All (IsOn board.now) worker.old.places }
+{
+    let gate = Noting {
+        digits: AtomicU64::new(0),
+    };
+    let mut tried = None;
+    let mut wanted = 0;
+    for message in 1..=7 {
+        wanted = with_digit(wanted, message);
+        if turn(rt, day, board, worker, &gate).is_err() {
+            tried = Some(heap.tried(true));
+            wanted = with_digit(wanted, message);
+            turn(rt, day, board, worker, &gate)?;
+        }
+    }
+    let last = turn(rt, day, board, worker, &gate)?;
+    let digits = gate.digits.load(Ordering::SeqCst);
+    same("the gate's messages", &(last, digits), &(None, wanted))?;
+    Ok(tried.unwrap_or_else(|| heap.tried(false)))
+}
+
+// Takes the turns of a new worker under a refusal.
+fn try_turns<R: Threads + Wait + Sync>(
+    rt: &R,
+    heap: &&Refusing<Global>,
+    refusal: Refusal,
+) -> Result<Tried, Fail> {
+    let day = two_stocks(*heap)?;
+    let (parts, waiting) = prepare(rt, heap, &day)?;
+    let (mut worker, board, _) = only_worker(*heap, &parts, waiting)?;
+    heap.restart(refusal);
+    take_turns(rt, *heap, &day, &board, &mut worker)
+}
+
+#[test]
+fn a_refused_turn_comes_to_the_gate_again(rt: HostRuntime) -> Result<(), Fail> {
+    let heap = Refusing::new(rt.alloc(), Refusal::Never);
+    let growths = refuse_each(|refusal: Refusal| -> Result<Tried, Fail> {
+        try_turns(&rt, &&heap, refusal)
+    })?;
+    same("some growths", &(growths > 1 && growths <= 100), &true)
+}

@@ -1,0 +1,358 @@
+//! One worker, turn by turn.
+ghost use Rattle.std.specs.Prelude.{◌≡◌, All, IfOk};
+ghost use Rattle.top_cell.specs.Boards.{IsOn};
+ghost use Rattle.stock_workers.specs.Running.{IsWaiting};
+
+use crate::screens::first_screen;
+use crate::stocks::{Said, said_by, with_bid};
+use binaryfile::Day;
+use day_core::{Parts, Piece, Turns, split};
+use itch_table::{Fault, Outcome, Top};
+use std::alloc::{AllocError, Allocator, Global};
+use std::sync::Wait;
+use std::test::Fail;
+use std::thread::Threads;
+use stock_workers::{FreeGate, Gate, Worker};
+use test_refusing::{Refusal, Refusing, Tried, refuse_any, refuse_each};
+use test_support::{AAPL, MSFT, Ticker, crossed_book, same, same_list, two_stocks};
+use top_cell::{Board, Reading, Screen, TopWriter};
+
+/// The writers of the only worker of a day, their board, and a screen of the day's first stock.
+#[derive(Drop)]
+pub struct Waiting<'a, A: Allocator> {
+    board: Board<'a, A>,
+    writers: Vec<TopWriter, A>,
+    screen: Screen,
+}
+
+/// The parts of a day for one worker, and what the worker is made of.
+pub fn prepare<'a, R: Threads + Wait + Sync, A: Allocator + Copy + Send + Sync>(
+    rt: &R,
+    alloc: &'a A,
+    day: &Day<A>,
+) -> Result<(Parts<A>, Waiting<'a, A>), Fail>
+    ensures day { IfOk result (λ made. made.0.day ≡ day.now.payloads) }
+    ensures waits { IfOk result (λ made. IsWaiting made.0 made.1.board 0 made.1.writers.items) }
+    ensures screen { IfOk result (λ made. IsOn made.1.board made.1.screen.place) }
+{
+    let parts = split(rt, *alloc, day, 1)?;
+    let (board, mut writers) = Board::new(alloc, day)?;
+    let screen = first_screen(&board, &mut writers)?;
+    let waiting = Waiting {
+        board,
+        writers,
+        screen,
+    };
+    Ok((parts, waiting))
+}
+
+/// The only worker of a day, its board, and a screen of the day's first stock.
+pub fn only_worker<'p, 'a, A: Allocator + Copy>(
+    alloc: A,
+    parts: &'p Parts<A>,
+    waiting: Waiting<'a, A>,
+) -> Result<(Worker<'p, A>, Board<'a, A>, Screen), AllocError>
+    requires waits { IsWaiting parts.now waiting.board 0 waiting.writers.items }
+    requires screen { IsOn waiting.board waiting.screen.place }
+    ensures day { IfOk result (λ made. made.0.state.day ≡ parts.now.day) }
+    ensures worker { IfOk result (λ made. All (IsOn made.1) made.0.places) }
+    ensures screen { IfOk result (λ made. IsOn made.1 made.2.place) }
+{
+    let Waiting {
+        board,
+        writers,
+        screen,
+    } = waiting;
+    let worker = Worker::new(alloc, parts, 0, writers)?;
+    Ok((worker, board, screen))
+}
+
+/// A worker's turn, after which its next one may be taken.
+pub fn turn<R: Threads + Wait + Sync, A: Allocator + Copy, G: Gate>(
+    rt: &R,
+    day: &Day<A>,
+    board: &Board<'_, A>,
+    worker: &mut Worker<'_, A>,
+    gate: &G,
+) -> Result<Option<Piece>, AllocError>
+    requires day { day.now.payloads ≡ worker.old.state.day }
+    requires board { All (IsOn board.now) worker.old.places }
+    ensures day { worker.new.state.day ≡ worker.old.state.day }
+    ensures places { worker.new.places ≡ worker.old.places }
+{
+    worker.turn(rt, day, board, gate)
+}
+
+// What becomes of a message.
+fn piece(message: u32, outcome: Outcome) -> Option<Piece> {
+    Some(Piece { message, outcome })
+}
+
+// The four words of a reading.
+fn words_of(reading: Reading) -> [u64; 4] {
+    let Reading {
+        message,
+        bid_price,
+        bid_shares,
+        ask_price,
+        ask_shares,
+    } = reading;
+    let top = Top {
+        bid_price,
+        bid_shares,
+        ask_price,
+        ask_shares,
+    };
+    top.to_words(message)
+}
+
+// Takes the turns of the only worker of a day, and the same turns without threads. After each of them, the screen reads
+// what is looked at there.
+fn follow<R: Threads + Wait + Sync, A: Allocator + Copy>(
+    rt: &R,
+    day: &Day<A>,
+    board: &Board<'_, A>,
+    worker: &mut Worker<'_, A>,
+    screen: &mut Screen,
+    turns: &mut Turns<'_, A>,
+    wanted: &[(Option<Piece>, [u64; 4])],
+) -> Result<(), Fail>
+    requires day { day.now.payloads ≡ worker.old.state.day }
+    requires board { All (IsOn board.now) worker.old.places }
+    requires screen { IsOn board.now screen.old.place }
+{
+    for after in wanted {
+        let piece = turn(rt, day, board, worker, &FreeGate)?;
+        let words = words_of(screen.read(rt, board));
+        same("a turn", &(piece, words), after)?;
+        let looked = (turns.turn(0)?, turns.look(1));
+        same("the same turn without threads", &looked, after)?;
+    }
+    Ok(())
+}
+
+#[test]
+fn a_screen_reads_what_each_turn_leaves(rt: HostRuntime) -> Result<(), Fail> {
+    let alloc = rt.alloc();
+    let day = crossed_book(alloc)?;
+    let (parts, waiting) = prepare(&rt, &alloc, &day)?;
+    let (mut worker, board, mut screen) = only_worker(alloc, &parts, waiting)?;
+    let mut turns = Turns::new(alloc, &parts, &day)?;
+    let crossed = [3, 0x000f_6950_000f_4240, 100, 50];
+    let wanted = [
+        (piece(1, Outcome::Applied), [1, 0, 0, 0]),
+        (
+            piece(2, Outcome::Applied),
+            [2, 0x000f_6950_0000_0000, 100, 0],
+        ),
+        (piece(3, Outcome::Applied), crossed),
+        (None, crossed),
+    ];
+    follow(
+        &rt,
+        &day,
+        &board,
+        &mut worker,
+        &mut screen,
+        &mut turns,
+        &wanted,
+    )
+}
+
+// Makes the only worker of the two stocks under a refusal. Where it is refused, the parts are as they were, and a
+// worker is made with memory. A list that is refused more room than it needs may ask again for less: where one growth
+// alone is refused, there is no worker exactly where no other growth is asked for after it.
+fn try_worker<R: Threads + Wait + Sync>(
+    rt: &R,
+    heap: &Refusing<Global>,
+    refusal: Refusal,
+) -> Result<Tried, Fail> {
+    let day = two_stocks(heap)?;
+    let (parts, waiting) = prepare(rt, &heap, &day)?;
+    heap.restart(refusal);
+    let made = only_worker(heap, &parts, waiting).is_ok();
+    let tried = heap.tried(!made);
+    if let Refusal::Only(growth) = refusal {
+        let last = tried.growths == growth;
+        same("one alone", &(growth, tried.refused), &(growth, last))?;
+    }
+    if tried.refused {
+        same_list(
+            "the worker's messages",
+            parts.own(0),
+            &[1, 2, 3, 4, 5, 6, 7],
+        )?;
+        let (parts, waiting) = prepare(rt, &heap, &day)?;
+        only_worker(heap, &parts, waiting)?;
+    }
+    Ok(tried)
+}
+
+#[test]
+fn a_worker_without_memory_is_none(rt: HostRuntime) -> Result<(), Fail> {
+    let heap = Refusing::new(rt.alloc(), Refusal::Never);
+    let growths = refuse_each(|refusal: Refusal| -> Result<Tried, Fail> {
+        try_worker(&rt, &heap, refusal)
+    })?;
+    same("some growths", &(growths > 2 && growths <= 100), &true)
+}
+
+// What a worker has of a stock: what its machine says, and the message of its writer.
+#[derive(Debug, Clone, Copy, PartialEq)]
+struct State {
+    stock: Said,
+    message: u32,
+}
+
+fn state_of<A: Allocator + Copy>(alloc: A, worker: &Worker<'_, A>, locate: u16) -> Option<State> {
+    let stock = said_by(alloc, worker.stock(locate)?)?;
+    let message = worker.writer(locate)?.message();
+    Some(State { stock, message })
+}
+
+// What a refused turn leaves as it was: the two stocks that have orders, and what a screen reads.
+fn see<R: Wait, A: Allocator + Copy>(
+    rt: &R,
+    alloc: A,
+    board: &Board<'_, A>,
+    worker: &Worker<'_, A>,
+    screen: &mut Screen,
+) -> (Option<State>, Option<State>, Reading)
+    requires { IsOn board.now screen.old.place }
+    ensures { screen.new.place ≡ screen.old.place }
+{
+    (
+        state_of(alloc, worker, 1),
+        state_of(alloc, worker, 2),
+        screen.read(rt, board),
+    )
+}
+
+// A stock after this many of its messages, of which this is the last, with these shares at its only bid.
+fn stock_after(stock: Ticker, steps: u32, message: u32, price: u32, shares: u32) -> State {
+    State {
+        stock: with_bid(stock, steps, price, shares),
+        message,
+    }
+}
+
+// What a turn of the only worker of the two stocks returns, and the stocks that have orders after it. The screen reads
+// the first of them.
+type After = (Option<Piece>, State, State);
+
+// All of its turns.
+fn turns_of_two_stocks() -> [After; 8] {
+    let unlisted = Outcome::Refused(Fault::NoDirectory);
+    let unknown = Outcome::Refused(Fault::ReferenceUnknown);
+    let start = stock_after(AAPL, 1, 1, 0, 0);
+    let one = stock_after(AAPL, 2, 3, 100, 10);
+    let deleted = stock_after(AAPL, 3, 5, 0, 0);
+    let end = stock_after(AAPL, 4, 7, 0, 0);
+    let listed = stock_after(MSFT, 1, 2, 0, 0);
+    let two = stock_after(MSFT, 2, 4, 200, 20);
+    [
+        (
+            piece(1, Outcome::Applied),
+            start,
+            stock_after(MSFT, 0, 0, 0, 0),
+        ),
+        (piece(2, Outcome::Applied), start, listed),
+        (piece(3, Outcome::Applied), one, listed),
+        (piece(4, Outcome::Applied), one, two),
+        (piece(5, Outcome::Applied), deleted, two),
+        (piece(6, unlisted), deleted, two),
+        (piece(7, unknown), end, two),
+        (None, end, two),
+    ]
+}
+
+// Finds a worker's stocks and writers, and none of a stock of no message, without memory.
+fn find_without_memory<'h>(
+    heap: &'h Refusing<Global>,
+    worker: &Worker<'_, &'h Refusing<Global>>,
+) -> Result<(), Fail> {
+    heap.restart(Refusal::From(1));
+    for (locate, has) in [(1, true), (2, true), (9, false)] {
+        let found = (
+            worker.stock(locate).is_some(),
+            worker.writer(locate).is_some(),
+        );
+        same(
+            "a stock and its writer",
+            &(locate, found),
+            &(locate, (has, has)),
+        )?;
+    }
+    same("the growths", &heap.tried(false).growths, &0)
+}
+
+// Takes turns of a worker with memory.
+fn lead<R: Threads + Wait + Sync, A: Allocator + Copy>(
+    rt: &R,
+    day: &Day<A>,
+    board: &Board<'_, A>,
+    worker: &mut Worker<'_, A>,
+    turns: &[After],
+) -> Result<(), Fail>
+    requires day { day.now.payloads ≡ worker.old.state.day }
+    requires board { All (IsOn board.now) worker.old.places }
+    ensures day { IfOk result (λ _. worker.new.state.day ≡ worker.old.state.day) }
+    ensures places { IfOk result (λ _. worker.new.places ≡ worker.old.places) }
+{
+    for wanted in turns {
+        let piece = turn(rt, day, board, worker, &FreeGate)?;
+        same("an earlier turn", &piece, &wanted.0)?;
+    }
+    Ok(())
+}
+
+// Takes the last of these turns under a refusal, after the earlier ones. Where it is refused, all is as it was, and it
+// is taken with memory.
+fn try_turn<R: Threads + Wait + Sync>(
+    rt: &R,
+    heap: &&Refusing<Global>,
+    turns: &[After],
+    refusal: Refusal,
+) -> Result<Tried, Fail> {
+    let Some((wanted, earlier)) = turns.split_last() else {
+        return Err(Fail::new("no turn"));
+    };
+    let day = two_stocks(*heap)?;
+    let (parts, waiting) = prepare(rt, heap, &day)?;
+    let (mut worker, board, mut screen) = only_worker(*heap, &parts, waiting)?;
+    lead(rt, &day, &board, &mut worker, earlier)?;
+    find_without_memory(*heap, &worker)?;
+    let before = see(rt, *heap, &board, &worker, &mut screen);
+    heap.restart(refusal);
+    let mut answer = turn(rt, &day, &board, &mut worker, &FreeGate);
+    let tried = heap.tried(answer.is_err());
+    if tried.refused {
+        let after = see(rt, *heap, &board, &worker, &mut screen);
+        same("a refused turn", &after, &before)?;
+        answer = turn(rt, &day, &board, &mut worker, &FreeGate);
+    }
+    let (first, second, reading) = see(rt, *heap, &board, &worker, &mut screen);
+    let (piece, one, two) = *wanted;
+    same("a turn", &answer, &Ok(piece))?;
+    same(
+        "the stocks and the screen",
+        &(first, second, words_of(reading)),
+        &(Some(one), Some(two), one.stock.top.to_words(one.message)),
+    )?;
+    Ok(tried)
+}
+
+#[test]
+fn a_turn_without_memory_is_tried_again(rt: HostRuntime) -> Result<(), Fail> {
+    let heap = Refusing::new(rt.alloc(), Refusal::Never);
+    let turns = turns_of_two_stocks();
+    let mut growths = 0u64;
+    for last in 1..=turns.len() {
+        let some = turns.get(..last).unwrap_or(&[]);
+        let more = refuse_any(|refusal: Refusal| -> Result<Tried, Fail> {
+            try_turn(&rt, &&heap, some, refusal)
+        })?;
+        growths = growths.saturating_add(more);
+    }
+    same("some growths", &(growths > 1), &true)
+}
