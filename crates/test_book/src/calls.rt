@@ -1,5 +1,5 @@
 //! Calls that change a book, and what a book shows.
-use itch_table::{Level, Order, Side};
+use itch_table::{Level, Order, OrderRow, Side};
 use order_book::Book;
 use std::alloc::{AllocError, Allocator};
 use std::test::Fail;
@@ -94,6 +94,11 @@ pub fn make_all<A: Allocator + Copy>(book: &mut Book<A>, calls: &[Call]) -> Resu
     Ok(())
 }
 
+// The row of the order that a book finds under a reference.
+fn row_in<A: Allocator + Copy>(book: &Book<A>, reference: u64) -> Option<OrderRow> {
+    book.find(reference).map(|found| found.row)
+}
+
 // Two books have the same orders, in their lists and by their references.
 fn same_orders<A: Allocator + Copy>(
     alloc: A,
@@ -106,7 +111,7 @@ fn same_orders<A: Allocator + Copy>(
         let reference = order.reference;
         same(
             "an order",
-            &(found.order(reference), found.row(reference)),
+            &(found.order(reference), row_in(found, reference)),
             &(Some(*order), Some(order.row())),
         )?;
     }
@@ -133,8 +138,8 @@ pub fn same_answers<A: Allocator + Copy>(found: &Book<A>, wanted: &Book<A>) -> R
     for reference in 0..=1_100u64 {
         same(
             "an order",
-            &(found.order(reference), found.row(reference)),
-            &(wanted.order(reference), wanted.row(reference)),
+            &(found.order(reference), row_in(found, reference)),
+            &(wanted.order(reference), row_in(wanted, reference)),
         )?;
     }
     for price in 0..=7u32 {
