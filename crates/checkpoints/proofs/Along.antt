@@ -23,7 +23,7 @@ use Rattle.day_core.proofs.Running.{machine_stepped, payload_is}
 use Rattle.checkpoints.specs.Copies.{IsTrack, copies_of, machine_after_own, numbers_of}
 use Rattle.checkpoints.proofs.Splitting.{found, parted, taken}
 
--- so many messages are there for another copy
+-- there are enough messages for another copy
 pub room_left : (count every last : ℕ) → last < count / every → (last + 1) * every ≤ count
 room_left count every last lt =
     let whole = div-mul-le_self count every in

@@ -13,7 +13,7 @@ numbers_of day locate = of_stock day locate (range_with_len 1 (length day))
 unfoldable pub machine_after_own : List (List ℕ) → ℕ → ℕ → StockMachine
 machine_after_own day locate count = machine_of day locate (last_or 0 (take count (numbers_of day locate)))
 
--- a stock's machine before its first message, and after every so many of its own messages
+-- a stock's machine before its first message, and after every `every` of its own messages
 unfoldable pub copies_of : List (List ℕ) → ℕ → ℕ → List StockMachine
 copies_of day locate every =
     map (λ k. machine_after_own day locate (k * every))
@@ -34,7 +34,7 @@ pub record Tracked : Type 0 where
   pub locate : ℕ
   pub every : ℕ
 
--- the stock's messages are kept by their numbers, and a copy of its machine after every so many of them
+-- the stock's messages are kept by their numbers, and a copy of its machine after every `every` of them
 pub record IsTrack (day : List (List ℕ)) (locate every : ℕ) (numbers : List ℕ)
     (copies : List StockMachine) : Type 0 where
   pub some : 0 < every

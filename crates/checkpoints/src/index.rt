@@ -10,7 +10,7 @@ use std::marker::Model;
 /// The numbers of the messages of every stock of a day, made in one pass over the day.
 ///
 /// They take four bytes for each message, mostly less than twice as much where lists have just grown, and a few words
-/// for each locate code up to the greatest one. It is seen as the day. All is of this project.
+/// for each locate code up to the greatest one. It is seen as the day.
 #[derive(Drop)]
 pub struct StockIndex<'d, A: Allocator> {
     day: &'d Day<A>,
@@ -80,7 +80,7 @@ fn lists_of<A: Allocator + Copy>(alloc: A, day: &Day<A>) -> Result<Vec<Vec<u32, 
 }
 
 impl<'d, A: Allocator + Copy> StockIndex<'d, A> {
-    /// Goes through the day once. An error says that memory was refused.
+    /// Goes through the day once.
     pub fn new(alloc: A, day: &'d Day<A>) -> Result<StockIndex<'d, A>, AllocError>
         ensures { IfOk result (λ index. index ≡ day.now.payloads) }
     {

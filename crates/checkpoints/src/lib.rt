@@ -1,4 +1,17 @@
 //! A stock's machine after any number of messages of a day, by copies that are kept along the day.
+//!
+//! [`Track::make`] goes through the day once and keeps a copy of the machine each time that the stock has had `every`
+//! more messages; [`Track::at`] is the machine after the first `n` messages of the day.
+//!
+//! ```rust
+//! let track = Track::make(alloc, &day, locate, 1_000)?;
+//! let stock = track.at(alloc, n)?;
+//! ```
+//!
+//! A [`StockIndex`] has the numbers of every stock's messages, and [`Track::from_index`] makes a track by it without
+//! another pass over the day. [`is_of_stock`] says whether a payload is a message of a stock.
+//!
+//! An error of a call says that memory was refused. All is of this project.
 #![tactic(auto)]
 
 mod index;

@@ -18,7 +18,7 @@ pub fn is_of_stock(payload: &[u8], locate: u16) -> bool
     }
 }
 
-/// The numbers of a stock's messages in a day, rising. An error says that memory was refused.
+/// The numbers of a stock's messages in a day, rising.
 pub fn numbers_of<A: Allocator + Copy>(
     alloc: A,
     day: &Day<A>,
@@ -38,7 +38,7 @@ pub fn numbers_of<A: Allocator + Copy>(
 }
 
 /// Steps a stock's machine, which has taken the first `from` of the stock's messages, over the next ones, so that it
-/// has taken the first `to`. The caller hands the numbers of all of them. An error says that memory was refused.
+/// has taken the first `to`. The caller passes the numbers of all of them.
 pub fn advance<A: Allocator + Copy>(
     stock: &mut Stock<A>,
     day: &Day<A>,

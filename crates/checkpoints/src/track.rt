@@ -13,8 +13,8 @@ use stock_machine::Stock;
 /// One stock along a day: its machine after any number of the day's messages.
 ///
 /// The stock's messages are kept by their numbers, four bytes each, and a copy of its machine before the first and
-/// after every so many of them, so that fewer than so many are stepped to any place. It is seen as the day, the stock's
-/// locate code and how many messages lie from one copy to the next. All is of this project.
+/// after every `every` of them, so that fewer than `every` are stepped for any `n`. It is seen as the day, the stock's
+/// locate code and how many messages lie from one copy to the next.
 #[derive(Drop)]
 pub struct Track<'d, A: Allocator> {
     day: &'d Day<A>,
@@ -34,7 +34,7 @@ impl<'d, A: Allocator> Model for Track<'d, A> {
     ghost invariant = { λ t. IsTrack t.day.now.payloads t.locate t.every t.numbers.items t.copies.items };
 }
 
-// A stock's machine before its first message, and after every so many of its messages: copies of one that goes along
+// A stock's machine before its first message, and after every `every` of its messages: copies of one that goes along
 // them, so that each takes no more memory than it needs.
 fn copies_of<A: Allocator + Copy>(
     alloc: A,
@@ -86,7 +86,7 @@ impl<'d, A: Allocator + Copy> Track<'d, A> {
     }
 
     /// Goes through the day once, and keeps a copy of the stock's machine after every `every` of its messages. `every`
-    /// is at least 1. An error says that memory was refused.
+    /// is at least 1.
     pub fn make(
         alloc: A,
         day: &'d Day<A>,
@@ -104,8 +104,7 @@ impl<'d, A: Allocator + Copy> Track<'d, A> {
         Track::along(alloc, day, locate, every, numbers)
     }
 
-    /// What [`Track::make`] makes, by an index of the day and without going through the day. `every` is at least 1. An
-    /// error says that memory was refused.
+    /// What [`Track::make`] makes, by an index of the day and without going through the day. `every` is at least 1.
     pub fn from_index(
         alloc: A,
         index: &StockIndex<'d, A>,
@@ -119,8 +118,7 @@ impl<'d, A: Allocator + Copy> Track<'d, A> {
         Track::along(alloc, index.day(), locate, every, numbers)
     }
 
-    /// The stock's machine after the first `n` messages of the day, of which there are as many. An error says that
-    /// memory was refused.
+    /// The stock's machine after the first `n` messages of the day, which has at least `n`.
     pub fn at(&self, alloc: A, n: u32) -> Result<Stock<A>, AllocError>
         requires { n ≤ length self.now.day }
         ensures { IfOk result (λ stock. stock ≡ machine_of self.now.day self.now.locate n) }

@@ -70,7 +70,7 @@ none_from : (slot : Option Outcome) → false ≡ is_some slot → slot ≡ None
 none_from None e = refl
 none_from (Some x) e = cc
 
--- an empty slot, by the answer of a test
+-- an empty slot, by the result of a test
 pub empty_from : (slots : List (Option Outcome)) (i : ℕ) (d : Option Outcome) → i < length slots → false ≡ is_some (get_or slots i d) → get_or slots i None ≡ None
 empty_from slots i d lt tested = none_from (get_or slots i None) (tested ∙ ap is_some (get_or_default slots i d None lt))
 
@@ -83,7 +83,7 @@ holds_more before list i d slots lt holds = rw (take_more list i d lt, ← appen
 pub holds_all : (before list : List Piece) (i : ℕ) (slots : List (Option Outcome)) → length list ≤ i → Holds (before ++ take i list) slots → Holds (before ++ list) slots
 holds_all before list i slots le holds = rw (take_all i list le) at holds
 
--- a fault of the piece at a place of a list
+-- a fault of the piece at an index of a list
 pub found_at : (count : ℕ) (before list : List Piece) (i : ℕ) (d : Piece) (slots : List (Option Outcome)) (fault : MergeFault) → length slots ≡ count → i < length list
     → Holds (before ++ take i list) slots → IsFaulty (length slots) (before ++ take i list) (get_or list i d) fault → Found count before list fault
 found_at count before list i d slots fault long lt holds faulty =

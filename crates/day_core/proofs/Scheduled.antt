@@ -84,7 +84,7 @@ module _ (day : List (List ℕ)) (workers : ℕ) (before : List Event) where
       let more = count_more k (Look screen locate) before in
       done_at k lt ∙ ap (λ (n : ℕ). min n (length (own_of workers k day))) (sym (more ∙ omega arith)))
 
-  -- an event changes the workers as its place in the schedule says
+  -- an event changes the workers as its index in the schedule says
   pub changed : (event : Event) (new : TurnsState) → Changes (turns_after day workers before) event new → new ≡ turns_after day workers (before ++ event ∷ [])
   changed (Turn worker) new h = turned worker h.0 new h.1
   changed (Look screen locate) new h = h ∙ looked screen locate

@@ -123,7 +123,7 @@ module _ {T : Type 0} (f : ℕ → T) (workers : ℕ) (locates : List ℕ) (i : 
     ];
   }
 
--- what stands at a place of the lists that are kept in other values
+-- what stands at an index of the lists that are kept in other values
 module _ {T V : Type 0} (items : V → List T) (f : ℕ → T) (workers : ℕ) (locates : List ℕ) (i : ℕ) (by_worker : List V) (k : ℕ) (lt : i < length locates)
     (are : ByOwner f workers (drop i locates) (map items by_worker)) (mine : k ≡ owner workers (get_or locates i 0)) where
   pub taken : (old : V) → old ≡ get_or by_worker k old → items old ≡ f (get_or locates i 0) ∷ map f (locates_by workers k (drop (i + 1) locates))

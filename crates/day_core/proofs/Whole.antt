@@ -1,4 +1,4 @@
--- The outcomes of all workers' messages and of those of no stock, put at their places, are those of the day.
+-- The outcomes of all workers' messages and of those of no stock, put at their indices, are those of the day.
 use Rattle.std.proofs.Common.{◌≡◌, ◌≢◌, ℕ, ◌+◌, ◌-◌, ◌<◌, ◌≤◌, List, length, true, get_or, set, filter, refl, sym, ap, ◌∙◌, arith, inl, inr}
 use Rattle.std.specs.List.{Contains, range_with_len}
 use Rattle.std.proofs.lemmas.Bool.{cases_eq, eq-eqb}
@@ -16,7 +16,7 @@ use Rattle.day_core.specs.Splitting.{Split}
 use Rattle.day_core.proofs.Kept.{kept_there, kept_within}
 use Rattle.day_core.proofs.Running.{map_by_all}
 
--- one outcome more at its place
+-- one outcome more at its index
 pub placed : (day : List (List ℕ)) (all : List Outcome) (m n : ℕ) (o : Outcome) → 1 ≤ m → m ≤ length all → 1 ≤ n → o ≡ outcome day m
     → (n ≢ m → HasOutcome day all n) → HasOutcome day (set all (m - 1) o) n
 placed day all m n o some within low is others d = elim (cases_eq n m) [

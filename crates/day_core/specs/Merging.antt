@@ -42,7 +42,7 @@ IsFaulty messages others piece (Stranger message) =
 IsFaulty messages others piece Memory = ⊥
 IsFaulty messages others piece (Missing message) = ⊥
 
--- the fault is that of the piece at a place, where all before it are sound
+-- the fault is that of the piece at an index, where all before it are sound
 pub record IsFirstFault (messages : ℕ) (pieces : List Piece) (fault : MergeFault) : Type 0 where
   pub place : ℕ
   pub within : place < length pieces
@@ -79,7 +79,7 @@ Found messages others list fault =
     (place : ℕ) × (place < length list) × AreSound messages (others ++ take place list)
     × ((d : Piece) → IsFaulty messages (others ++ take place list) (slice_index_or list place d) fault)
 
--- each slot has the outcome at its place
+-- each slot has the outcome at its index
 abbrev pub AreFilled : List (Option Outcome) → List Outcome → Type 0
 AreFilled slots outcomes =
     (length outcomes ≡ length slots)

@@ -24,7 +24,7 @@ pub record IsReplayed (day : List (List ℕ)) (all : List Outcome) (stocks : Lis
 abbrev pub outcomes_by : Split → ℕ → List Outcome
 outcomes_by split worker = map (outcome split.day) (own_of split.workers worker split.day)
 
--- in a list with a place for each message of a day the outcome of this one, counted from 1, stands at its place
+-- in a list with an index for each message of a day the outcome of this one, counted from 1, stands at its index
 abbrev pub HasOutcome : List (List ℕ) → List Outcome → ℕ → Type 0
 HasOutcome day all message = (d : Outcome) → slice_index_or all (message - 1) d ≡ outcome day message
 

@@ -41,7 +41,7 @@ TurnsWorker old new worker (Some piece) =
     × (piece ≡ piece_of old.day (slice_index (messages_of old worker) (slice_index old.done worker)))
     × (new ≡ record old { done = slice_set old.done worker (slice_index old.done worker + 1) })
 
--- the states of all workers of a day, each at its place
+-- the states of all workers of a day, each at its index
 pub record AreWorkers (day : List (List ℕ)) (states : List WorkerState) : Type 0 where
   pub some : 0 < length states
   pub each : (k : ℕ) (d : WorkerState) → k < length states

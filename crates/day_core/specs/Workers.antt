@@ -52,7 +52,7 @@ machine_at s locate = machine_of s.day locate (progress s.day s.workers locate s
 abbrev pub new_machine : ℕ → StockMachine
 new_machine locate = record { locate = locate; world = empty_world; steps = 0 }
 
--- what a turn answers of the worker's next message: the message with its outcome, and which of the worker's
+-- what a turn returns of the worker's next message: the message with its outcome, and which of the worker's
 -- stocks it is of
 pub record IsTurned (s : WorkerState) (turned : Turned) : Type 0 where
   pub more : s.done < length (worker_messages s)

@@ -23,8 +23,8 @@ pub struct ReplayedDay<A: Allocator> {
     pub event: Option<u8>,
 }
 
-// Puts the outcomes of a worker's messages at their places among those of the day; those of others that stand at theirs
-// stay there.
+// Puts the outcomes of a worker's messages at their indices among those of the day; those of others that stand at
+// theirs stay there.
 fn place_own<A: Allocator>(
     all: &mut Vec<Outcome, A>,
     parts: &Parts<A>,
@@ -79,12 +79,11 @@ fn all_outcomes<A: Allocator + Copy>(
     Ok(all)
 }
 
-/// Puts together what the workers of a day made of it. The caller hands the day that was split, and for each worker,
+/// Puts together what the workers of a day made of it. The caller passes the day that was split, and for each worker,
 /// in the order of their numbers, the outcomes of its messages, by their rising numbers, and the machines of its stocks
 /// after all of them, by rising locate code.
 ///
-/// What it answers is the same for every number of workers. An error says that memory was refused. The parts are of
-/// this project.
+/// What it returns is the same for every number of workers.
 pub fn assemble<A: Allocator + Copy>(
     alloc: A,
     parts: &Parts<A>,

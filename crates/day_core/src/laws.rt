@@ -8,8 +8,6 @@ ghost use Rattle.day_core.specs.declared.playing.Event.{Event};
 
 /// Once a stock's worker has done all of its messages, the stock's machine is the one after the whole day, for every
 /// number of workers.
-///
-/// The law is of this project.
 #[tactic(auto, using(crate::proofs::Progress::machine_last))]
 pub fn days_come_to_their_end()
     ensures { (day : List (List ℕ)) (workers locate : ℕ) →
@@ -20,8 +18,6 @@ pub fn days_come_to_their_end()
 
 /// What a look shows of a stock is the stock's best bid and ask after some message of the day, or before the first:
 /// after the last of the stock's messages that its worker has done.
-///
-/// The law is of this project.
 #[tactic(auto, using(crate::proofs::Showing::shows_progress))]
 pub fn looks_show_their_stock()
     ensures { (day : List (List ℕ)) (workers locate done : ℕ) →
@@ -31,8 +27,6 @@ pub fn looks_show_their_stock()
 /// Looks at a stock never go back: after more events a look shows the stock as it was shown before, or after a later
 /// message (`progress`). So of two looks at one stock that a schedule lists, the later one never shows an earlier
 /// message (`seen`).
-///
-/// The law is of this project.
 #[tactic(auto, using(crate::proofs::NeverBack::never_back))]
 pub fn looks_never_go_back()
     ensures progress { (day : List (List ℕ)) (workers locate : ℕ) (before more : List Event) →

@@ -1,4 +1,19 @@
 //! A day in parts: what several workers make of it, put together.
+//!
+//! [`split`] says which messages each of 1 to 64 workers does, and [`replay_parts`] does them, one worker after
+//! another: the outcome of each message, and each stock's machine after the day. [`parts_of`] is [`split`] for a number
+//! of workers that is proved to be from 1 to 64.
+//!
+//! ```rust
+//! let parts = split(rt, alloc, &day, workers)?;
+//! let replayed = replay_parts(alloc, &parts, &day)?;
+//! ```
+//!
+//! `stock_workers` replays the parts in threads. [`Turns`] and [`play`] replay them without threads, in any order of
+//! the workers, and [`merge`] puts outcomes together that come in any order. [`Runner`] is one worker without threads.
+//!
+//! The effects of messages are those of Nasdaq TotalView-ITCH 5.0; the rest is of this project. An `AllocError` says
+//! that memory was refused.
 #![tactic(auto)]
 
 mod assembling;

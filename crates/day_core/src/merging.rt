@@ -17,7 +17,7 @@ pub struct Piece {
     pub outcome: Outcome,
 }
 
-/// Why pieces don't make a day. The faults are of this project.
+/// Why pieces don't make a day.
 #[derive(Debug, Clone, Copy, PartialEq, Eq)]
 pub enum MergeFault {
     /// Memory was refused.
@@ -102,7 +102,7 @@ fn gathered<A: Allocator + Copy>(
 /// The first faulty piece, in the order of the lists and in each of its own, is the fault: [`MergeFault::Double`] or
 /// [`MergeFault::Stranger`]. Where all pieces are sound and a message has none, the least such message is
 /// [`MergeFault::Missing`]. [`MergeFault::Memory`] where memory is refused: all of it is taken before the pieces are
-/// looked at. The order of the faults is of this project.
+/// looked at.
 pub fn merge<A: Allocator + Copy>(
     alloc: A,
     messages: u32,

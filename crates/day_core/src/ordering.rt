@@ -37,10 +37,10 @@ pub(crate) fn empty_lists<T: Drop, A: Allocator + Copy>(
 }
 
 /// Values of a day's stocks by their workers: for each worker, in the order of their numbers, the values of its stocks.
-/// The caller hands one value for each stock that has messages in the day, by rising locate code, and so stand those of
-/// each worker.
+/// The caller passes one value for each stock that has messages in the day, by rising locate code, and so stand those
+/// of each worker.
 ///
-/// An error says that memory was refused; the values are gone. The order is of this project.
+/// After an error the values are gone.
 pub fn by_worker<T: Drop, A: Allocator + Copy>(
     alloc: A,
     parts: &Parts<A>,
@@ -64,10 +64,8 @@ pub fn by_worker<T: Drop, A: Allocator + Copy>(
     Ok(lists)
 }
 
-/// What each worker has for its stocks, for all stocks of a day by rising locate code. The caller hands for each
+/// What each worker has for its stocks, for all stocks of a day by rising locate code. The caller passes for each
 /// worker, in the order of their numbers, one value for each of its stocks, by rising locate code.
-///
-/// An error says that memory was refused. The order is of this project.
 pub fn in_order<T: Drop, A: Allocator + Copy>(
     alloc: A,
     parts: &Parts<A>,

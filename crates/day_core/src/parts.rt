@@ -13,7 +13,7 @@ use std::snapshot::Snapshot;
 /// The parts of a day, one for each worker, and what belongs to none.
 ///
 /// A stock belongs to the worker whose number is the remainder of its locate code by the number of workers, which is
-/// from 1 to 64. How a day is split is of this project.
+/// from 1 to 64.
 #[derive(Drop)]
 pub struct Parts<A: Allocator> {
     pub(crate) workers: u32,

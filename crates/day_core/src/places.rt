@@ -1,4 +1,4 @@
-//! The places of locate codes in a list.
+//! The places of locate codes in a list: the index of each.
 ghost use Rattle.std.specs.Prelude.{◌≡◌, ◌<◌, IfOk, MatchOption, length, slice_index};
 ghost use Rattle.std.specs.List.{Contains};
 ghost use Rattle.std.specs.List.Sorted.{IsStrictlyIncreasing};
@@ -6,11 +6,11 @@ ghost use Rattle.std.specs.List.Sorted.{IsStrictlyIncreasing};
 use std::alloc::{AllocError, Allocator};
 use std::marker::Model;
 
-/// Locate codes, rising, with a table of their places. It is seen as the list of the codes.
+/// Locate codes, rising, with a table of their indices. It is seen as the list of the codes.
 #[derive(Drop)]
 pub(crate) struct Places<A: Allocator> {
     locates: Vec<u16, A>,
-    // At each locate code of the list its place there.
+    // At each locate code of the list its index there.
     table: Vec<u16, A>,
 }
 

@@ -9,7 +9,7 @@ use binaryfile::Day;
 use std::alloc::{AllocError, Allocator};
 use std::thread::Threads;
 
-/// An event of a schedule, of this project.
+/// An event of a schedule.
 #[derive(Debug, Clone, Copy, PartialEq, Eq)]
 pub enum Event {
     /// The next message of this worker is done, where it has one left. Workers are numbered from 0.
@@ -23,7 +23,7 @@ pub enum Event {
     },
 }
 
-/// What a screen sees in one look, of this project.
+/// What a screen sees in one look.
 #[derive(Debug, Clone, Copy, PartialEq, Eq)]
 pub struct Seen {
     /// Which screen.
@@ -61,7 +61,7 @@ fn happen<A: Allocator + Copy>(
     Ok(())
 }
 
-// Lets events happen from the first turn on, and answers what they show.
+// Lets events happen from the first turn on, and returns what they show.
 fn watch<A: Allocator + Copy>(
     alloc: A,
     turns: Turns<'_, A>,
@@ -86,7 +86,7 @@ fn watch<A: Allocator + Copy>(
 /// the stock's best bid and ask after the last of its messages that its worker has done by then, so that looks at a
 /// stock never go back ([`looks_never_go_back`](crate::looks_never_go_back)).
 /// [`SplitFault::Workers`] where the number of workers is another, which is looked at first, and else
-/// [`SplitFault::Memory`] where memory is refused. Schedules are of this project.
+/// [`SplitFault::Memory`] where memory is refused.
 pub fn play<R: Threads + Sync, A: Allocator + Copy + Send + Sync>(
     rt: &R,
     alloc: A,

@@ -31,12 +31,11 @@ fn replay_part<A: Allocator + Copy>(
     Ok((outcomes, VecDeque::from_vec(runner.into_stocks())))
 }
 
-/// Replays a day by its parts, one worker after another, and puts together what they made. The caller hands the day
+/// Replays a day by its parts, one worker after another, and puts together what they made. The caller passes the day
 /// that was split.
 ///
-/// What it answers is the same for every number of workers: the outcome of each message, and each stock's machine
-/// after the day. An error says that memory was refused. The effects are those of Nasdaq TotalView-ITCH 5.0; the
-/// parts are of this project.
+/// What it returns is the same for every number of workers: the outcome of each message, and each stock's machine
+/// after the day.
 pub fn replay_parts<A: Allocator + Copy>(
     alloc: A,
     parts: &Parts<A>,

@@ -28,8 +28,7 @@ pub struct Turned {
 /// One worker of a day that is split: the machines of its stocks, and how many of its messages it has done. It borrows
 /// the parts of the day, and reads its list of messages there.
 ///
-/// It does its messages in their order, one a turn, whatever other workers do. The effects of messages are those
-/// of Nasdaq TotalView-ITCH 5.0; the rest is of this project.
+/// It does its messages in their order, one a turn, whatever other workers do.
 #[derive(Drop)]
 pub struct Runner<'p, A: Allocator> {
     parts: &'p Parts<A>,
@@ -87,7 +86,7 @@ fn new_stocks<A: Allocator + Copy>(
     Ok(stocks)
 }
 
-// A worker's message: its payload, and the place of its stock among the worker's. It is looked for from a place of the
+// A worker's message: its payload, and the index of its stock among the worker's. It is looked for from a place of the
 // day, and another one, for the message after it, is left there.
 fn message_of<'d, A: Allocator>(
     day: &'d Day<A>,
@@ -117,7 +116,7 @@ fn message_of<'d, A: Allocator>(
 
 impl<'p, A: Allocator + Copy> Runner<'p, A> {
     /// A worker that has done nothing yet. Workers are numbered from 0; a number from `parts.workers()` on has no
-    /// messages and no stocks. An error says that memory was refused.
+    /// messages and no stocks.
     pub fn new(alloc: A, parts: &'p Parts<A>, worker: u32) -> Result<Runner<'p, A>, AllocError>
         ensures { IfOk result (λ runner. runner ≡ first_state parts.now worker) }
     {
@@ -134,16 +133,16 @@ impl<'p, A: Allocator + Copy> Runner<'p, A> {
         })
     }
 
-    /// Does the worker's next message on the machine of its stock, and answers what became of it; none, with nothing
-    /// changed, exactly where the worker has done all of them. The caller hands the day that was split.
+    /// Does the worker's next message on the machine of its stock, and returns what became of it; none, with nothing
+    /// changed, exactly where the worker has done all of them. The caller passes the day that was split.
     ///
-    /// An error says that memory was refused, which comes only where a message is left that would be applied and may
-    /// need a new order or trade. It leaves the worker as it was, so that its next turn tries the same message. The
-    /// stock's best bid and ask after the message are those of its machine: `stock_at(turned.place)`.
+    /// An error comes only where a message is left that would be applied and may need a new order or trade. It leaves
+    /// the worker as it was, so that its next turn tries the same message. The stock's best bid and ask after the
+    /// message are those of its machine: `stock_at(turned.place)`.
     pub fn turn(&mut self, day: &Day<A>) -> Result<Option<Turned>, AllocError>
         requires { day.now.payloads ≡ self.old.day }
         ensures turned { IfOk result (TakesTurn self.old self.new) }
-        // The next turn is handed the same day.
+        // The next turn is passed the same day.
         ensures day { self.new.day ≡ self.old.day }
         ensures err { OnErr result (self.new ≡ self.old) }
         ensures grows { OnErr result (MayGrowNext self.old) }
@@ -171,7 +170,7 @@ impl<'p, A: Allocator + Copy> Runner<'p, A> {
         self.near
     }
 
-    /// The place of the stock of a message to come, `ahead` messages after the worker's next one; none after its last
+    /// The index of the stock of a message to come, `ahead` messages after the worker's next one; none after its last
     /// message. The caller passes the day that was split, and a place of it.
     pub fn place_ahead(&self, day: &Day<A>, near: &mut Place, ahead: usize) -> Option<usize>
         requires day { day.now.payloads ≡ self.now.day }
@@ -219,8 +218,8 @@ impl<'p, A: Allocator> Runner<'p, A> {
         self.stocks.len()
     }
 
-    /// The machine of one of the worker's stocks, by its place among them. The caller hands a place below the number of
-    /// its stocks.
+    /// The machine of one of the worker's stocks, by its index among them. The caller passes an index below the number
+    /// of its stocks.
     pub fn stock_at(&self, place: usize) -> &Stock<A>
         requires { place < length (worker_locates self.now) }
         ensures { result.now ≡ machine_at self.now (slice_index (worker_locates self.now) place) }
@@ -228,7 +227,7 @@ impl<'p, A: Allocator> Runner<'p, A> {
         &self.stocks[place]
     }
 
-    /// The place of a stock among the worker's; none where it isn't one of them.
+    /// The index of a stock among the worker's; none where it isn't one of them.
     pub fn place_of(&self, locate: u16) -> Option<usize>
         ensures { MatchOption result (¬ Contains (worker_locates self.now) locate) (λ place.
             (place < length (worker_locates self.now))

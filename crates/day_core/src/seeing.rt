@@ -10,7 +10,7 @@ use std::alloc::{AllocError, Allocator};
 /// How many locate codes there are.
 pub(crate) const LOCATES: usize = 1 << 16;
 
-/// At each of so many locate codes that no message of its stock was seen.
+/// At each of this many locate codes that no message of its stock was seen.
 pub(crate) fn none_seen<A: Allocator + Copy>(
     alloc: A,
     count: usize,
@@ -54,8 +54,6 @@ pub(crate) fn locates_seen<A: Allocator + Copy>(
 }
 
 /// The locate codes of the stocks that have messages in a day, rising. They are found by the calling thread.
-///
-/// An error says that memory was refused. The list is of this project.
 pub fn locates<A: Allocator + Copy>(alloc: A, day: &Day<A>) -> Result<Vec<u16, A>, AllocError>
     ensures { IfOk result (λ locates. locates.items ≡ locates_of_day day.now.payloads) }
 {

@@ -13,7 +13,7 @@ use std::thread::Threads;
 // The most workers that a day is split for.
 const MOST_WORKERS: u32 = 64;
 
-/// Why a day isn't split. The faults are of this project.
+/// Why a day isn't split.
 #[derive(Debug, Clone, Copy, PartialEq, Eq)]
 pub enum SplitFault {
     /// Memory was refused.
@@ -30,7 +30,7 @@ impl From<AllocError> for SplitFault {
     }
 }
 
-/// Splits a day as [`split`] does, for a number of workers that is from 1 to 64. An error says that memory was refused.
+/// Splits a day as [`split`] does, for a number of workers that is from 1 to 64.
 pub fn parts_of<R: Threads + Sync, A: Allocator + Copy + Send + Sync>(
     rt: &R,
     alloc: A,
@@ -57,8 +57,7 @@ pub fn parts_of<R: Threads + Sync, A: Allocator + Copy + Send + Sync>(
 ///
 /// [`SplitFault::Workers`] where the number is another, which is looked at first, and else
 /// [`SplitFault::Memory`] where memory is refused; there are no parts after a fault. While a long day is split its
-/// messages stand in the parts' own lists and in those of its chunks; each list grows by doubling. How a day is split is
-/// of this project.
+/// messages stand in the parts' own lists and in those of its chunks; each list grows by doubling.
 pub fn split<R: Threads + Sync, A: Allocator + Copy + Send + Sync>(
     rt: &R,
     alloc: A,

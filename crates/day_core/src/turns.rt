@@ -17,7 +17,7 @@ use stock_machine::Stock;
 /// All workers of a day without threads, whose turns come in any order, and the words that screens read of each stock.
 /// They borrow the day and its parts.
 ///
-/// It is seen as the day, and how many of its own messages each worker has done. All is of this project.
+/// It is seen as the day, and how many of its own messages each worker has done.
 #[derive(Drop)]
 pub struct Turns<'d, A: Allocator> {
     day: &'d Day<A>,
@@ -53,8 +53,7 @@ fn new_worker_cells<'p, A: Allocator + Copy>(
 }
 
 impl<'d, A: Allocator + Copy> Turns<'d, A> {
-    /// The workers of the parts of a day, before their first turn. The caller hands the day that was split. An error
-    /// says that memory was refused.
+    /// The workers of the parts of a day, before their first turn. The caller passes the day that was split.
     pub fn new(alloc: A, parts: &'d Parts<A>, day: &'d Day<A>) -> Result<Turns<'d, A>, AllocError>
         requires { day.now.payloads ≡ parts.now.day }
         ensures { IfOk result (λ turns.
@@ -64,10 +63,9 @@ impl<'d, A: Allocator + Copy> Turns<'d, A> {
         Ok(Turns { day, workers })
     }
 
-    /// Does the next message of a worker, sets the words of its stock, and answers what became of it; none, with
-    /// nothing changed, exactly where the worker has done all of its messages or isn't one. An error says that memory
-    /// was refused, which comes only where a message is left that would be applied and may need a new order or trade.
-    /// It leaves all as it was.
+    /// Does the next message of a worker, sets the words of its stock, and returns what became of it; none, with
+    /// nothing changed, exactly where the worker has done all of its messages or isn't one. An error comes only where
+    /// a message is left that would be applied and may need a new order or trade. It leaves all as it was.
     pub fn turn(&mut self, worker: u32) -> Result<Option<Piece>, AllocError>
         ensures turned { IfOk result (TurnsWorker self.old self.new worker) }
         ensures err { OnErr result (self.new ≡ self.old) }

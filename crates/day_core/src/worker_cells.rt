@@ -40,7 +40,7 @@ impl<'p, A: Allocator + Copy> WorkerCells<'p, A> {
         Ok(WorkerCells { runner, cells })
     }
 
-    /// Does the worker's next message, sets the cell of its stock, and answers what became of it; none, with nothing
+    /// Does the worker's next message, sets the cell of its stock, and returns what became of it; none, with nothing
     /// changed, exactly where the worker has done all of them. An error says that memory was refused, and leaves all
     /// as it was.
     pub fn turn(&mut self, day: &Day<A>) -> Result<Option<Turned>, AllocError>

@@ -31,7 +31,7 @@ moved_to s n = record s { position = n }
 abbrev pub with_break : Session → Break → Session
 with_break s breakpoint = record s { breaks = s.breaks ++ breakpoint ∷ [] }
 
--- a session without the breakpoint at a place; the later ones close up
+-- a session without the breakpoint at an index; the later ones close up
 abbrev pub without_break : Session → ℕ → Session
 without_break s place = record s { breaks = remove s.breaks place }
 
@@ -61,7 +61,7 @@ pub record Copied : Type 0 where
   pub day : List (List ℕ)
   pub every : ℕ
 
--- how many messages of a stock that has so many lie from one copy of its machine to the next: the fewest that are
+-- how many messages of a stock that has this many lie from one copy of its machine to the next: the fewest that are
 -- asked for, or the least number that leaves at most 48 copies, the first among them, where it is greater
 abbrev pub distance_of : ℕ → ℕ → ℕ
 distance_of every messages = max every (messages / 48 + 1)

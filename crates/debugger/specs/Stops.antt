@@ -70,7 +70,7 @@ stop (Time time) day n = first_reaches time day n
 unfoldable pub stops_of : List (List ℕ) → Break → List ℕ
 stops_of day breakpoint = filter (stop breakpoint day) (range_with_len 1 (length day))
 
--- the place, counted from 0, of the first of some breakpoints that stops at message n
+-- the index, counted from 0, of the first of some breakpoints that stops at message n
 abbrev pub hit : List Break → List (List ℕ) → ℕ → Option ℕ
 hit breaks day n = position (λ breakpoint. stop breakpoint day n) breaks
 

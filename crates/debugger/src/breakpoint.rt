@@ -3,7 +3,7 @@ use itch_layouts::Nanos;
 use itch_table::Side;
 use std::hash::{Hash, Hasher};
 
-/// Where a debugger stops, of this project.
+/// Where a debugger stops.
 #[derive(Debug, Clone, Copy, PartialEq, Eq)]
 pub enum Break {
     /// At each message that changes the shares of a stock's level at a side and a price.

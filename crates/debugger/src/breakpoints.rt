@@ -35,7 +35,7 @@ impl<'d, A: Allocator> Model for Breakpoints<'d, A> {
         map (λ list. list.items) b.stops.items ≡ map (stops_of b.day.now.payloads) b.breaks.keys };
 }
 
-// The place of a breakpoint.
+// The index of a breakpoint.
 fn place_of(breaks: &[Break], breakpoint: &Break) -> Option<usize>
     ensures found { IfSome result (λ place. slice_get breaks.now place ≡ Some breakpoint.now) }
     ensures first { IfSome result (λ place. (earlier : ℕ) → earlier < place →
@@ -87,7 +87,7 @@ fn greatest_before<A: Allocator>(
     greatest
 }
 
-// The place of the first of these lists that has a message.
+// The index of the first of these lists that has a message.
 fn first_hit<A: Allocator>(
     day: &Day<A>,
     stops: &[Vec<u32, A>],
@@ -119,7 +119,7 @@ impl<'d, A: Allocator + Copy> Breakpoints<'d, A> {
         }
     }
 
-    // Adds a breakpoint that isn't there as the last, and answers its place.
+    // Adds a breakpoint that isn't there as the last, and returns its index.
     fn add_new(&mut self, alloc: A, breakpoint: Break) -> Result<usize, AllocError>
         requires { ¬ Contains self.old.breaks breakpoint }
         ensures place { IfOk result (λ place. slice_get self.new.breaks place ≡ Some breakpoint) }
@@ -136,7 +136,7 @@ impl<'d, A: Allocator + Copy> Breakpoints<'d, A> {
         Ok(place)
     }
 
-    /// Adds a breakpoint as the last, and answers its place; one that is there keeps its place. An error says that
+    /// Adds a breakpoint as the last, and returns its index; one that is there keeps its index. An error says that
     /// memory was refused, and leaves all as it was.
     pub fn add(&mut self, alloc: A, breakpoint: Break) -> Result<usize, AllocError>
         ensures place { IfOk result (λ place. slice_get self.new.breaks place ≡ Some breakpoint) }
@@ -163,14 +163,14 @@ impl<'d, A: Allocator> Breakpoints<'d, A> {
         self.breaks.len()
     }
 
-    /// The breakpoint at a place, counted from 0.
+    /// The breakpoint at an index, counted from 0.
     pub fn at(&self, place: usize) -> Option<Break>
         ensures { result ≡ slice_get self.now.breaks place }
     {
         self.breaks.get_index(place).copied()
     }
 
-    /// Removes the breakpoint at a place, and answers it. Those after it close up.
+    /// Removes the breakpoint at an index, and returns it. Those after it close up.
     pub fn remove(&mut self, place: usize) -> Option<Break>
         ensures removed { result ≡ slice_get self.old.breaks place }
         ensures none { IfNone result (self.new ≡ self.old) }
@@ -185,7 +185,7 @@ impl<'d, A: Allocator> Breakpoints<'d, A> {
     }
 
     /// The least message after `from` at which a breakpoint stops, or where there is none the last one. The caller
-    /// hands a message before the last.
+    /// passes a message before the last.
     pub fn next_stop(&self, from: u32) -> u32
         requires { from < length self.now.day }
         ensures { IsOnward (stops_at self.now.breaks self.now.day) from (length self.now.day) result }
@@ -193,7 +193,7 @@ impl<'d, A: Allocator> Breakpoints<'d, A> {
         least_after(self.day, &self.stops, self.breaks.as_slice(), from)
     }
 
-    /// The greatest message before `from` at which a breakpoint stops, or where there is none 0. The caller hands a
+    /// The greatest message before `from` at which a breakpoint stops, or where there is none 0. The caller passes a
     /// message of the day.
     pub fn previous_stop(&self, from: u32) -> u32
         requires some { 0 < from }
@@ -203,7 +203,7 @@ impl<'d, A: Allocator> Breakpoints<'d, A> {
         greatest_before(self.day, &self.stops, self.breaks.as_slice(), from)
     }
 
-    /// The place of the first breakpoint that stops at a message of the day.
+    /// The index of the first breakpoint that stops at a message of the day.
     pub fn hit(&self, at: u32) -> Option<usize>
         requires some { 0 < at }
         requires within { at ≤ length self.now.day }

@@ -18,7 +18,7 @@ use std::alloc::{AllocError, Allocator};
 use std::marker::Model;
 use stock_machine::Stock;
 
-/// Why a debugger doesn't move, of this project.
+/// Why a debugger doesn't move.
 #[derive(Debug, Clone, Copy, PartialEq, Eq)]
 pub enum DebugFault {
     /// Memory was refused.
@@ -42,16 +42,18 @@ impl From<AllocError> for DebugFault {
 pub struct Stop {
     /// The new position.
     pub at: u32,
-    /// The place of the first breakpoint that stops there, counted from 0; none where no breakpoint does.
+    /// The index of the first breakpoint that stops there, counted from 0; none where no breakpoint does.
     pub hit: Option<usize>,
 }
 
 /// A position in a day, which moves both ways, and breakpoints, at which it stops.
 ///
-/// A position is a number of messages, from 0 to all of the day's, and shows what the day has built up after exactly so
-/// many, however it was reached. The debugger is seen as the day, the position, the list of the breakpoints, and how
-/// many messages of a stock lie at least from one copy of its machine to the next. An error leaves all as they were.
-/// All is of this project.
+/// A position is a number of messages, from 0 to all of the day's, and shows what the day has built up after exactly
+/// that many, however it was reached. The debugger is seen as the day, the position, the list of the breakpoints, and
+/// how many messages of a stock lie at least from one copy of its machine to the next.
+///
+/// An error says that memory was refused, but for a move past an end of the day, whose fault is decided first. It
+/// leaves all as it was.
 #[derive(Drop)]
 pub struct Debugger<'d, A: Allocator> {
     day: &'d Day<A>,
@@ -83,7 +85,7 @@ impl<'d, A: Allocator + Copy> Debugger<'d, A> {
     /// A debugger of a day at position 0, without breakpoints. It keeps copies of a stock's machine `every` of its
     /// messages apart, or further apart where that would make more than 48 ([`Track`](checkpoints::Track)); `every` is
     /// at least 1. It goes through the day twice, steps the stocks with very many messages along it, so that no later
-    /// move has to, and keeps copies of these and four to eight bytes a message. An error says that memory was refused.
+    /// move has to, and keeps copies of these and four to eight bytes a message.
     pub fn new(alloc: A, day: &'d Day<A>, every: u32) -> Result<Debugger<'d, A>, AllocError>
         requires { 0 < every }
         ensures { IfOk result (λ debugger. debugger ≡ new_session day.now.payloads every) }
@@ -109,10 +111,7 @@ impl<'d, A: Allocator + Copy> Debugger<'d, A> {
         Ok(())
     }
 
-    /// Moves to the position after `n` messages.
-    ///
-    /// [`DebugFault::PastEnd`] where the day has fewer, which is decided first, and else [`DebugFault::Memory`] where
-    /// memory is refused.
+    /// Moves to the position after `n` messages. [`DebugFault::PastEnd`] where the day has fewer.
     pub fn goto(&mut self, alloc: A, n: u32) -> Result<(), DebugFault>
         ensures moved { OnOk result (self.new ≡ moved_to self.old n) }
         ensures err { OnErr result (self.new ≡ self.old) }
@@ -126,10 +125,7 @@ impl<'d, A: Allocator + Copy> Debugger<'d, A> {
         Ok(())
     }
 
-    /// Moves one message on.
-    ///
-    /// [`DebugFault::PastEnd`] after the last message, which is decided first, and else [`DebugFault::Memory`] where
-    /// memory is refused.
+    /// Moves one message on. [`DebugFault::PastEnd`] after the last message.
     pub fn step(&mut self, alloc: A) -> Result<(), DebugFault>
         ensures moved { OnOk result (self.new ≡ moved_to self.old (self.old.position + 1)) }
         ensures err { OnErr result (self.new ≡ self.old) }
@@ -143,10 +139,7 @@ impl<'d, A: Allocator + Copy> Debugger<'d, A> {
         Ok(())
     }
 
-    /// Moves one message back.
-    ///
-    /// [`DebugFault::BeforeStart`] at position 0, which is decided first, and else [`DebugFault::Memory`] where
-    /// memory is refused.
+    /// Moves one message back. [`DebugFault::BeforeStart`] at position 0.
     pub fn back(&mut self, alloc: A) -> Result<(), DebugFault>
         ensures moved { OnOk result (self.new ≡ moved_to self.old (self.old.position - 1)) }
         ensures err { OnErr result (self.new ≡ self.old) }
@@ -161,9 +154,7 @@ impl<'d, A: Allocator + Copy> Debugger<'d, A> {
     }
 
     /// Moves to the least later message at which a breakpoint stops, or where there is none to the last message.
-    ///
-    /// [`DebugFault::PastEnd`] after the last message, which is decided first, and else [`DebugFault::Memory`] where
-    /// memory is refused.
+    /// [`DebugFault::PastEnd`] after the last message.
     pub fn onward(&mut self, alloc: A) -> Result<Stop, DebugFault>
         ensures at { IfOk result (λ stop. IsOnward (stops_at self.old.breaks self.old.day)
             self.old.position (length self.old.day) stop.at) }
@@ -183,10 +174,7 @@ impl<'d, A: Allocator + Copy> Debugger<'d, A> {
     }
 
     /// Moves to the greatest earlier message at which a breakpoint stops, or where there is none to position 0, which
-    /// no breakpoint stops at.
-    ///
-    /// [`DebugFault::BeforeStart`] at position 0, which is decided first, and else [`DebugFault::Memory`] where
-    /// memory is refused.
+    /// no breakpoint stops at. [`DebugFault::BeforeStart`] at position 0.
     pub fn rearward(&mut self, alloc: A) -> Result<Stop, DebugFault>
         ensures at { IfOk result (λ stop. IsRearward (stops_at self.old.breaks self.old.day)
             self.old.position stop.at) }
@@ -211,10 +199,10 @@ impl<'d, A: Allocator + Copy> Debugger<'d, A> {
         Ok(Stop { at, hit })
     }
 
-    /// Adds a breakpoint as the last, and answers its place, counted from 0; one that is there keeps its place.
+    /// Adds a breakpoint as the last, and returns its index, counted from 0; one that is there keeps its index.
     ///
     /// It goes over the day once and keeps four bytes for each message at which the breakpoint stops, so that moves
-    /// look for a stop by halves. An error says that memory was refused.
+    /// look for a stop by halves.
     pub fn add_break(&mut self, alloc: A, breakpoint: Break) -> Result<usize, AllocError>
         ensures place { IfOk result (λ place. slice_get self.new.breaks place ≡ Some breakpoint) }
         ensures first { IfOk result (λ place. (earlier : ℕ) → earlier < place →
@@ -227,8 +215,7 @@ impl<'d, A: Allocator + Copy> Debugger<'d, A> {
         self.breakpoints.add(alloc, breakpoint)
     }
 
-    /// The machine of a stock at the position; that of a stock without messages is a new one. An error says that memory
-    /// was refused.
+    /// The machine of a stock at the position; that of a stock without messages is a new one.
     pub fn stock(&mut self, alloc: A, locate: u16) -> Result<Stock<A>, AllocError>
         ensures stock { IfOk result (λ stock. stock ≡ machine_of self.old.day locate self.old.position) }
         ensures unchanged { self.new ≡ self.old }
@@ -274,14 +261,14 @@ impl<'d, A: Allocator> Debugger<'d, A> {
         self.breakpoints.len()
     }
 
-    /// The breakpoint at a place, counted from 0.
+    /// The breakpoint at an index, counted from 0.
     pub fn break_at(&self, place: usize) -> Option<Break>
         ensures { result ≡ slice_get self.now.breaks place }
     {
         self.breakpoints.at(place)
     }
 
-    /// Removes the breakpoint at a place, and answers it; none, with nothing changed, where there is none. Those
+    /// Removes the breakpoint at an index, and returns it; none, with nothing changed, where there is none. Those
     /// after it close up.
     pub fn remove_break(&mut self, place: usize) -> Option<Break>
         ensures removed { result ≡ slice_get self.old.breaks place }

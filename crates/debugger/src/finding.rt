@@ -11,7 +11,7 @@ fn count_until(numbers: &[u32], n: u32) -> usize
     numbers.partition_point(|number| *number <= n)
 }
 
-// The number at a place.
+// The number at an index.
 fn number_at(numbers: &[u32], place: usize) -> Option<u32>
     ensures { result ≡ slice_get numbers.now place }
 {

@@ -126,8 +126,8 @@ fn time_stops<A: Allocator + Copy>(
     Ok(stops)
 }
 
-// Hands a stock's machine the next payload of a day, which it takes where it is a message of the stock, and
-// answers whether the shares at a side and a price change.
+// Gives a stock's machine the next payload of a day, which it takes where it is a message of the stock, and
+// returns whether the shares at a side and a price change.
 fn changes_level<A: Allocator + Copy>(
     stock: &mut Stock<A>,
     payload: &[u8],

@@ -20,7 +20,7 @@ const MOST_COPIES: usize = 48;
 // A stock is busy that has more messages than this.
 const BUSY_MESSAGES: u32 = 60_000;
 
-// And more than one in so many of the day's.
+// And more than one in this many of the day's.
 const BUSY_SHARE: u32 = 200;
 
 /// Tracks of the busy stocks, and of the stocks that were asked for last, at most 64 of them, seen as the day that they
@@ -45,7 +45,7 @@ impl<'d, A: Allocator> Model for Tracks<'d, A> {
     ghost invariant = { λ t. AreTracks t.index t.every t.busy.items t.recent.items };
 }
 
-// The place of a stock's track.
+// The index of a stock's track.
 fn place_of<A: Allocator>(tracks: &[Track<'_, A>], locate: u16) -> Option<usize>
     ensures within { IfSome result (λ place. place < length tracks.now) }
     ensures found { IfSome result (λ place. (track : Tracked) →
@@ -54,7 +54,7 @@ fn place_of<A: Allocator>(tracks: &[Track<'_, A>], locate: u16) -> Option<usize>
     tracks.iter().position(|track| track.locate() == locate)
 }
 
-// How many messages of a stock that has so many lie from one copy of its machine to the next.
+// How many messages of a stock that has this many lie from one copy of its machine to the next.
 fn distance_of(every: u32, messages: usize) -> usize
     ensures distance { result ≡ distance_of every messages }
     ensures few { messages / result < 48 }
@@ -77,7 +77,7 @@ fn track_of<'d, A: Allocator + Copy>(
     Track::from_index(alloc, index, locate, distance)
 }
 
-// Adds the track of a stock that has more than so many messages.
+// Adds the track of a stock that has more than this many messages.
 fn add_busy<'d, A: Allocator + Copy>(
     alloc: A,
     index: &StockIndex<'d, A>,
@@ -97,7 +97,7 @@ fn add_busy<'d, A: Allocator + Copy>(
     Ok(())
 }
 
-// The tracks of the stocks that have more than so many messages.
+// The tracks of the stocks that have more than this many messages.
 fn busy_tracks<'d, A: Allocator + Copy>(
     alloc: A,
     index: &StockIndex<'d, A>,
@@ -155,7 +155,7 @@ impl<'d, A: Allocator + Copy> Tracks<'d, A> {
         Ok(())
     }
 
-    /// A stock's machine after the first `n` messages of the day, of which there are as many, by its track, which is
+    /// A stock's machine after the first `n` messages of the day, which has at least `n`, by its track, which is
     /// made where there is none. An error says that memory was refused.
     pub fn stock_at(&mut self, alloc: A, locate: u16, n: u32) -> Result<Stock<A>, AllocError>
         requires { n ≤ length self.old.day }

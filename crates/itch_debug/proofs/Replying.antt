@@ -153,13 +153,13 @@ none_past p xs h = elim (cases_lt (position_or_len p xs) (length xs)) [
   | inr past ↦ past
 ]
 
--- a breakpoint without a place isn't there
+-- a breakpoint without an index isn't there
 not_there : (bs : List Break) (b : Break) → place_of bs b ≡ None → ¬ Contains bs b
 not_there bs b h there =
     let fails : same_break b (get_or bs there.0 b) ≡ false = fails_before_first (same_break b) bs there.0 b (omega (arith, none_past (same_break b) bs h, there.1)) in
     false≢true (sym fails ∙ ap (λ (x : Break). same_break b x) there.2 ∙ break_same b)
 
--- the first place of a breakpoint is its place
+-- the first index of a breakpoint is its index
 first_place : (bs : List Break) (b : Break) (place found : ℕ) → slice_get bs place ≡ Some b → ((earlier : ℕ) → earlier < place → slice_get bs earlier ≢ Some b) → place_of bs b ≡ Some found → found ≡ place
 first_place bs b place found at first is =
     let facts = position-Some (same_break b) bs found b is in

@@ -38,7 +38,7 @@ outcome_text (Some (Refused fault)) = codes "refused F" ++ decimal (number_of fa
 abbrev pub position_text : List (List ℕ) → ℕ → List ℕ
 position_text day n = codes "at " ++ decimal n ++ codes " " ++ outcome_text (outcome_at day n)
 
--- the number of the breakpoint at a place, which counts from 1
+-- the number of the breakpoint at an index, which counts from 1
 abbrev pub hit_text : Option ℕ → List ℕ
 hit_text None = codes " no break"
 hit_text (Some place) = codes " break " ++ decimal (place + 1)
@@ -124,7 +124,7 @@ same_break (Reference locate reference) (Reference locate' reference') =
 same_break (Time time) (Time time') = time == time'
 same_break one other = false
 
--- the place of a breakpoint in a list, counted from 0, where it is there
+-- the index of a breakpoint in a list, counted from 0, where it is there
 abbrev pub place_of : List Break → Break → Option ℕ
 place_of breaks b = position (same_break b) breaks
 
@@ -167,7 +167,7 @@ stands s = record { text = position_text s.day s.position ++ codes "\n"; next = 
 abbrev pub moves : Session → ℕ → Reply
 moves s n = stands (moved_to s n)
 
--- the line of a session's position, which a search came to, with the place of the breakpoint that stops there
+-- the line of a session's position, which a search came to, with the index of the breakpoint that stops there
 abbrev pub stop_text : Session → Option ℕ → List ℕ
 stop_text s place = position_text s.day s.position ++ hit_text place ++ codes "\n"
 
@@ -199,7 +199,7 @@ next_stop s =
 abbrev pub previous_stop : Session → ℕ
 previous_stop s = last_or 0 (filter (stops_at s.breaks s.day) (range_with_len 1 (s.position - 1)))
 
--- the place of the first breakpoint that stops at a message; at 0 none does
+-- the index of the first breakpoint that stops at a message; at 0 none does
 abbrev pub hit_at : Session → ℕ → Option ℕ
 hit_at s zero = None
 hit_at s (suc n) = hit s.breaks s.day (suc n)
@@ -212,7 +212,7 @@ abbrev pub rearward_reply : Session → Reply
 rearward_reply s =
     if s.position == 0 then before_start s else finds s (previous_stop s) (hit_at s (previous_stop s))
 
--- a breakpoint that is there at a place keeps it, another one goes last
+-- a breakpoint that is there at an index keeps it, another one goes last
 abbrev pub added_at : Session → Break → Option ℕ → Reply
 added_at s b (Some place) = says s (break_line (place + 1))
 added_at s b None = record { text = break_line (length s.breaks + 1); next = Some (with_break s b) }

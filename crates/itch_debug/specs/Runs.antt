@@ -24,8 +24,8 @@ IsPrefix day commands text =
     (more : List ℕ) → (rest : List ℕ) × (answers day (commands ++ more) ≡ text ++ rest)
 
 -- The session stands where the commands that have come in bring it: each line that has ended was answered,
--- and nothing else was written. Of the line that has begun at most so many bytes are kept that it is known to
--- be too long.
+-- and nothing else was written. Of the line that has begun no more bytes are kept than show that it is too
+-- long.
 pub record Stands (day : List (List ℕ)) (before after : Option (List ℕ)) (commands : List ℕ)
     (session : Option Session) (kept : List ℕ) : Type 0 where
   pub lines : List (List ℕ)

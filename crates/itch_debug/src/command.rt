@@ -9,7 +9,7 @@ use itch_layouts::Nanos;
 use itch_table::Side;
 use itch_text::{number_of_text, only_word, split_word};
 
-/// What a line of a session asks for. Numbers of breakpoints count from 1. All is of this project.
+/// What a line of a session asks for. Numbers of breakpoints count from 1.
 #[derive(Debug, Clone, Copy, PartialEq, Eq)]
 pub enum Command {
     /// Nothing: the line is blank.

@@ -1,7 +1,17 @@
 //! A debugging session over a day: a line asks for something, and its answer is lines of text.
 //!
-//! [`debug_run`] answers the lines that a reader gives, and [`answer_line`] does what one line asks for. The commands
-//! and their answers are of this project.
+//! [`answer_line`] does what one line such as `goto 5` or `show 1` asks for, and adds its answer to a text.
+//! [`debug_run`] answers the lines that a reader gives, to its end or to `quit`. docs/FORMATS.md has all lines.
+//!
+//! ```rust
+//! let mut debugger = Debugger::new(alloc, &day, 1_000)?;
+//! let mut text = Vec::new(alloc);
+//! answer_line(alloc, &mut text, &mut debugger, b"goto 5")?;
+//!
+//! debug_run(alloc, &day, &mut commands, &mut sink)?;
+//! ```
+//!
+//! All is of this project.
 #![tactic(auto)]
 
 mod answer;

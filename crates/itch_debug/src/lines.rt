@@ -49,7 +49,7 @@ pub(crate) fn put_position_line<A: Allocator>(
     Ok(())
 }
 
-/// Adds the number of the breakpoint at a place.
+/// Adds the number of the breakpoint at an index.
 pub(crate) fn put_hit<A: Allocator>(
     text: &mut Vec<u8, A>,
     place: Option<usize>,
@@ -62,7 +62,7 @@ pub(crate) fn put_hit<A: Allocator>(
     }
 }
 
-/// Adds why a move was refused. Where memory was, the answer is an error.
+/// Adds why a move was refused. Where memory was, it returns an error.
 pub(crate) fn put_refusal<A: Allocator>(
     text: &mut Vec<u8, A>,
     fault: DebugFault,
@@ -77,7 +77,7 @@ pub(crate) fn put_refusal<A: Allocator>(
     }
 }
 
-/// Adds the line of the number of the breakpoint at a place.
+/// Adds the line of the number of the breakpoint at an index.
 pub(crate) fn put_place<A: Allocator>(text: &mut Vec<u8, A>, place: usize) -> Result<(), AllocError>
     ensures { Extends text.old text.new (break_line (place + 1)) result }
 {

@@ -13,10 +13,10 @@ use itch_engine::ProgFault;
 use std::alloc::{AllocError, Allocator};
 use std::io::{Read, Write};
 
-/// The most bytes of commands: 2^30. It is of this project.
+/// The most bytes of commands: 2^30.
 pub const MOST_COMMAND_BYTES: u64 = 1 << 30;
 
-// After so many messages of a stock the debugger keeps a copy of its machine.
+// How many messages of a stock lie at least from one copy of its machine to the next.
 const EVERY: u32 = 1000;
 
 // The reader is asked for at most this number of bytes at once.
@@ -36,7 +36,7 @@ fn piece_room<A: Allocator>(alloc: A) -> Result<Vec<u8, A>, AllocError>
     Vec::from_elem(alloc, 0, PIECE)
 }
 
-// Reads once, and sends the answers of the lines that have come in whole. It answers how many bytes came, and refuses
+// Reads once, and sends the answers of the lines that have come in whole. It returns how many bytes came, and refuses
 // more than `left`.
 fn serve_piece<A: Allocator + Copy, R: Read, W: Write>(
     alloc: A,
@@ -115,7 +115,7 @@ fn serve<A: Allocator + Copy, R: Read, W: Write>(
 /// An error is [`ProgFault::Read`] where the feed has failed or gave more than [`MOST_COMMAND_BYTES`],
 /// [`ProgFault::Write`] where the sink has failed, and [`ProgFault::Memory`] where memory was refused. What was sent
 /// then is a prefix of the answers, and after `Read` and `Memory` no part of an answer; where the feed has failed, it
-/// is the answers of all lines that came in whole. The commands and their answers are of this project.
+/// is the answers of all lines that came in whole.
 pub fn debug_run<A: Allocator + Copy, R: Read, W: Write>(
     alloc: A,
     day: &Day<A>,

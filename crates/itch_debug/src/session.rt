@@ -41,8 +41,7 @@ pub(crate) fn put_answer<A: Allocator + Copy>(
 }
 
 /// Does what a line of a session asks for, and adds its answer to `text`: the lines that answer the command, and
-/// nothing for a blank line and for `quit`, which ends the session. `line` has no line feed. The commands and their
-/// answers are of this project.
+/// nothing for a blank line and for `quit`, which ends the session. `line` has no line feed.
 ///
 /// An error says that memory was refused. `text` is then as it was, and the debugger stands as it did or as the line
 /// makes it stand.

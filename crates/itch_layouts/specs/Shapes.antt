@@ -26,7 +26,7 @@ abbrev pub first_byte : List ℕ → ℕ
 first_byte [] = 0
 first_byte (b ∷ bs) = b
 
--- the value at a place, counted from 0: a number, bytes, or a single byte
+-- the value at an index, counted from 0: a number, bytes, or a single byte
 abbrev pub number : List Value → ℕ → ℕ
 number values place = as_number (slice_get values place)
 

@@ -1,4 +1,17 @@
 //! The layouts of Nasdaq TotalView-ITCH 5.0's messages, and the message that a payload means.
+//!
+//! [`read_msg`] returns a [`Shape`]: `Known` with the message, `Unknown` where the type has no layout, `BadLength`
+//! where the length isn't the type's. Every payload has one of the three.
+//!
+//! ```rust
+//! match read_msg(payload) {
+//!     Shape::Known(Msg::Add(head, add)) => see(head.locate, add.reference, add.shares, add.price),
+//!     Shape::Known(_) | Shape::Unknown | Shape::BadLength => {}
+//! }
+//! ```
+//!
+//! [`write_msg`] appends the payload of a message. [`layout_of_kind`] and [`layout_of_mnemonic`] look a layout up in
+//! the table, for code that walks the fields of every type alike.
 #![tactic(auto)]
 
 mod at_offset;

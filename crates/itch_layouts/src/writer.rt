@@ -66,8 +66,8 @@ fn put_msg<A: Allocator>(out: &mut Vec<u8, A>, msg: &Msg) -> Result<(), AllocErr
 
 /// Appends the one payload that means the message.
 ///
-/// It reserves room for a payload of 50 bytes, the largest size, whatever the message. An error is out of memory, and
-/// leaves the bytes of `out` as they were.
+/// It reserves room for a payload of 50 bytes, the largest size, whatever the message. An error says that memory was
+/// refused, and leaves the bytes of `out` as they were.
 ///
 /// Nasdaq TotalView-ITCH 5.0, "Message Formats".
 ///

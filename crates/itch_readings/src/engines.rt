@@ -32,7 +32,7 @@ fn stocks_of_file<A: Allocator + Copy>(alloc: A, input: Vec<u8, A>) -> Result<Ve
 /// [`ProgFault::Write`] the bytes that were taken are a prefix of the text; after another fault none was sent.
 /// [`ProgFault::Read`] comes exactly where the feed has failed, [`ProgFault::TooManyBytes`] above
 /// [`MOST_FILE_BYTES`] bytes, [`ProgFault::TooManyMessages`] above [`MOST_MESSAGES`] messages, and
-/// [`ProgFault::Memory`] only where memory was refused. The lines are of this project.
+/// [`ProgFault::Memory`] only where memory was refused.
 pub fn stocks_run<A: Allocator + Copy, R: Read, W: Write>(
     alloc: A,
     feed: &mut Feed<R>,
@@ -73,7 +73,7 @@ fn tops_of_file<A: Allocator + Copy>(
 /// of a currency unit; the fields of an empty side are empty.
 ///
 /// One machine takes the messages of this stock alone. [`ProgFault::NoStock`] comes where the day has no message of the
-/// stock; other faults are those of [`stocks_run`]. The form is of this project.
+/// stock; other faults are those of [`stocks_run`].
 pub fn tops_run<A: Allocator + Copy, R: Read, W: Write>(
     alloc: A,
     feed: &mut Feed<R>,

@@ -6,6 +6,18 @@
 //! | [`tops_run`] | a day file | a stock's best bid and ask after each of its messages, or each that changes them |
 //!
 //! They meet the contract of the engines of `itch_engine`, `Runs`.
+//!
+//! [`tops`] is the best bid and ask of a stock after each of its messages, and [`list_stocks`] has the symbol and the
+//! number of messages of each stock; [`locate_of`] finds the stock that a name names in that list.
+//!
+//! ```rust
+//! let listed = list_stocks(alloc, &day)?;
+//! if let Some(locate) = locate_of(&listed, StockName::Symbol(*b"AAPL    ")) {
+//!     let moments = tops(alloc, &day, locate)?;
+//! }
+//! ```
+//!
+//! The forms of lines and of names are of this project.
 #![tactic(auto)]
 
 mod engines;

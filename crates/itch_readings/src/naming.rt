@@ -10,7 +10,7 @@ use std::alloc::{AllocError, Allocator};
 // How many locate codes there are.
 const LOCATES: usize = 1 << 16;
 
-/// A stock as a user names it. The forms are of this project.
+/// A stock as a user names it.
 #[derive(Debug, Clone, Copy, PartialEq, Eq)]
 pub enum StockName {
     /// By its locate code.
@@ -105,7 +105,7 @@ fn first_with(listed: &[Listed], symbol: &[u8; 8]) -> Option<u16>
 }
 
 /// The locate code of a stock that is named, by what a day's messages say of each stock; none where the day has no
-/// message of it. By a symbol it is the first stock, by locate code, that has the symbol. This is of this project.
+/// message of it. By a symbol it is the first stock, by locate code, that has the symbol.
 pub fn locate_of(listed: &[Listed], name: StockName) -> Option<u16>
     requires { length listed.now ≤ 0x1_0000 }
     ensures { result ≡ locate_of listed.now name }
@@ -118,8 +118,6 @@ pub fn locate_of(listed: &[Listed], name: StockName) -> Option<u16>
 }
 
 /// A stock that is named by what a day says of its stocks has a message in the day.
-///
-/// The law is of this project.
 pub fn named_stocks_have_messages()
     ensures { NamedHaveMessages }
 {}

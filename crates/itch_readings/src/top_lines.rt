@@ -9,7 +9,7 @@ use itch_engine::put_count;
 use itch_table::Top;
 use std::alloc::{AllocError, Allocator};
 
-/// Which of a stock's messages have a line. This is of this project.
+/// Which of a stock's messages have a line.
 #[derive(Debug, Clone, Copy, PartialEq, Eq)]
 pub enum Selection {
     /// Those after which the best bid or ask is another than before.

@@ -33,7 +33,7 @@ pub rising : (day : List (List ℕ)) → IsStrictlyIncreasing (locates_of_day da
 unfolding locates_of_day
 rising day = IsStrictlyIncreasing-filter (λ (locate : ℕ). list_any (is_of_stock locate) day) (range_with_len 0 0x1_0000) (range_rises 0 0x1_0000)
 
--- an element that passes is at some place
+-- an element that passes is at some index
 place_of : {X : Type 0} (p : X → Bool) (d : X) (xs : List X) → list_any p xs ≡ true → (i : ℕ) × (i < length xs) × (p (get_or xs i d) ≡ true)
 place_of p d [] any = let never : ⊥ = cc in absurd never
 place_of p d (x ∷ xs) any = elim (p x) as (λ (b : Bool). p x ≡ b → (i : ℕ) × (i < length (x ∷ xs)) × (p (get_or (x ∷ xs) i d) ≡ true)) [

@@ -31,12 +31,12 @@ fn follow_message<S: Store>(store: &mut S, msg: &Msg) -> Result<Outcome, AllocEr
     Ok(Outcome::Applied)
 }
 
-/// Takes a payload of any bytes over rows that hold what it may read and change, and answers what became of it.
+/// Takes a payload of any bytes over rows that hold what it may read and change, and returns what became of it.
 ///
 /// A message that is refused or passed over changes nothing. An error says that memory was refused: it comes only where
 /// the message would be applied and is one that may need a new row, and it leaves the rows as they were.
 ///
-/// The rows have room for an order and a trade more. Of this project; the effects are those of Nasdaq TotalView-ITCH 5.0.
+/// The rows have room for an order and a trade more.
 pub fn follow<S: Store>(store: &mut S, payload: &[u8]) -> Result<Outcome, AllocError>
     requires here { HoldsPart (S.held store.old) (part payload.now) }
     requires room { S.has_room store.old }

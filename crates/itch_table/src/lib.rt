@@ -1,4 +1,21 @@
 //! The written table of instructions, and the plain machine that follows it over the rows of all stocks.
+//!
+//! The table is `Table.step` of `specs/Table.antt`. [`Plain::new`] is a machine before the first message, and
+//! [`Plain::step`] takes the next payload and returns what became of it. It requires that fewer than 2^32 - 1 messages
+//! have been taken.
+//!
+//! ```rust
+//! let mut machine = Plain::new(alloc);
+//! let outcome = machine.step(payload)?;
+//! let top = machine.top(locate);
+//! ```
+//!
+//! [`part`] says whose message a payload is: `Part::Locate(locate)` where it is one of the stock with that code, and
+//! `Part::Nowhere(outcome)` where it is one of no stock, with what becomes of it. `stock_machine` has a faster machine,
+//! for one stock. [`follow`] follows the table over any rows that are a [`Store`].
+//!
+//! The effects are those of Nasdaq TotalView-ITCH 5.0; the faults and their numbers, parts, the words that show a top,
+//! and the laws, functions without arguments such as [`stocks_are_independent`], are of this project.
 #![tactic(auto)]
 
 mod effects;

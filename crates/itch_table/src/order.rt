@@ -83,8 +83,6 @@ impl Top {
 
     /// The four words that show this top after a number of messages: the number; the bid's price times 2^32 and the
     /// ask's price, in one word; the bid's shares; and the ask's.
-    ///
-    /// The words are of this project.
     pub fn to_words(self, message: u32) -> [u64; 4]
         ensures { result ≡ words_of message self }
     {
@@ -93,8 +91,6 @@ impl Top {
     }
 
     /// The number of messages and the top that four words show, where the first of them fits 32 bits.
-    ///
-    /// The words are of this project.
     pub fn from_words(words: &[u64; 4]) -> (u32, Top)
         requires { slice_index words.now 0 < 2 ^ 32 }
         ensures { words_of result.0 result.1 ≡ words.now }
@@ -147,7 +143,7 @@ impl OrderRow {
     }
 }
 
-/// A live order as a look-up found it, so that it isn't looked for again. It is of this project.
+/// A live order as a look-up found it, so that it isn't looked for again.
 #[derive(Debug, Clone, Copy, PartialEq, Eq)]
 pub struct Found {
     /// The order without its reference.

@@ -17,7 +17,8 @@ use std::marker::Model;
 
 /// A machine that takes a day's messages one by one and follows the table of instructions over the rows of all stocks.
 ///
-/// It keeps the rows alone, and computes levels and lists from them at each call.
+/// It keeps the rows alone, and computes levels and lists from them at each call. An error of a call says that memory
+/// was refused.
 #[derive(Drop)]
 pub struct Plain<A: Allocator> {
     rows: Rows<A>,
@@ -72,8 +73,7 @@ impl<A: Allocator + Copy> Plain<A> {
         self.rows.live_order(locate, reference)
     }
 
-    /// Whether an order has had a reference under a locate code, so that no later one may take it. This is of this
-    /// project.
+    /// Whether an order has had a reference under a locate code, so that no later one may take it.
     pub fn spent(&self, locate: u16, reference: u64) -> bool
         ensures { result ≡ is_spent self.now.world locate reference }
     {
@@ -102,36 +102,35 @@ impl<A: Allocator + Copy> Plain<A> {
         self.rows.top(locate)
     }
 
-    /// A side's levels: bids by falling price, asks by rising price. An error says that memory was refused.
+    /// A side's levels: bids by falling price, asks by rising price.
     pub fn levels(&self, alloc: A, locate: u16, side: Side) -> Result<Vec<Level, A>, AllocError>
         ensures { IfOk result (λ list. list.items ≡ levels (orders_of self.now.world locate) side) }
     {
         self.rows.levels(alloc, locate, side)
     }
 
-    /// A stock's live orders, by rising reference. An error says that memory was refused.
+    /// A stock's live orders, by rising reference.
     pub fn orders(&self, alloc: A, locate: u16) -> Result<Vec<Order, A>, AllocError>
         ensures list { IfOk result (λ list. list.items ≡ orders_of self.now.world locate) }
-        // They are fewer than messages can be, as `levels_of` asks.
+        // They are fewer than messages can be, as `levels_of` requires.
         ensures few { length (orders_of self.now.world locate) < 2 ^ 32 }
     {
         self.rows.orders(alloc, locate)
     }
 
-    /// The locate codes that have a directory row, rising. An error says that memory was refused.
+    /// The locate codes that have a directory row, rising.
     pub fn locates(&self, alloc: A) -> Result<Vec<u16, A>, AllocError>
         ensures { IfOk result (λ list. list.items ≡ locates self.now.world) }
     {
         self.rows.locates(alloc)
     }
 
-    /// Takes the next message of the day, a payload of any bytes, and answers what became of it.
+    /// Takes the next message of the day, a payload of any bytes, and returns what became of it.
     ///
-    /// A message that is refused or passed over changes nothing but the number of steps. An error says that memory was
-    /// refused: it comes only where the message would be applied and is one that may need a new row, and it leaves the
-    /// machine as it was.
+    /// A message that is refused or passed over changes nothing but the number of steps. An error comes only where the
+    /// message would be applied and is one that may need a new row, and it leaves the machine as it was.
     ///
-    /// At most 2^32 - 1 messages are taken: the caller hands the next one while `steps()` is below that.
+    /// At most 2^32 - 1 messages are taken: the caller passes the next one while `steps()` is below that.
     ///
     /// ```rust
     /// let mut machine = Plain::new(rt.alloc());

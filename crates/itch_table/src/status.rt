@@ -63,8 +63,7 @@ pub struct StockRow {
     pub regsho: Option<u8>,
 }
 
-/// Sums over a stock's trades that no later message broke, in shares and in 1/10,000 of a currency unit, of this
-/// project.
+/// Sums over a stock's trades that no later message broke, in shares and in 1/10,000 of a currency unit.
 ///
 /// They don't wrap: a day has fewer than 2^32 trades, each of at most 2^64 - 1 shares at a price below 2^32.
 #[derive(Debug, Clone, Copy, PartialEq, Eq)]

@@ -13,7 +13,7 @@ use crate::status::StockRow;
 use crate::trades::TradeRow;
 use std::alloc::AllocError;
 
-/// Rows that the table of instructions can be followed over, of this project: those of all stocks, or of one.
+/// Rows that the table of instructions can be followed over: those of all stocks, or of one.
 ///
 /// Each call is one step of an effect, or a look-up of a check. An error says that memory was refused, and leaves the
 /// rows as they were.

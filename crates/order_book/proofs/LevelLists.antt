@@ -33,7 +33,7 @@ pub price_total : (side : Side) → IsTotalOrder (price_cmp side)
 price_total Buy = nat_cmp_total
 price_total Sell = back_total nat_cmp_total
 
--- what a search for a price asks of the levels
+-- what a search for a price requires of the levels
 searchable : (side : Side) (levels : List Level) (price : ℕ) → AreInOrder side levels
     → IsNonDecreasingBy (λ level. ordering_index (price_cmp side level.price price)) levels
 searchable side levels price sorted =
@@ -47,7 +47,7 @@ price_tied : (side : Side) (price other : ℕ) → price_cmp side price other �
 price_tied Buy price other tied = nat_cmp-IsAntisymmetric price other tied
 price_tied Sell price other tied = sym (nat_cmp-IsAntisymmetric other price tied)
 
--- what a search for a price answers
+-- what a search for a price returns
 module _ (side : Side) (levels : List Level) (price : ℕ) where
   pub found_by_search : (r : Result ℕ ℕ) → IsSearchInRange r (length levels)
       → IsBinarySearchResult (λ level. price_cmp side level.price price) levels r → IfOk r (IsFound levels price)

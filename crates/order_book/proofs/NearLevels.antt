@@ -1,4 +1,4 @@
--- The place of a price among levels that are looked at one by one, the best first.
+-- The index of a price among levels that are looked at one by one, the best first.
 use Rattle.std.proofs.Common.{◌≡◌, ℕ, ◌-◌, ◌<◌, ◌≤◌, ◌==◌, List, Bool, true, false, refl, length, get_or, arith}
 use Rattle.std.specs.declared.cmp.Ordering.TheVariants.{Less}
 use Rattle.std.specs.List.{AllWithin}

@@ -17,8 +17,8 @@ use std::marker::Model;
 ///
 /// What the calls do is of Nasdaq TotalView-ITCH 5.0, "Add Order Message" and "Modify Order Messages"; levels are of
 /// this project. A book refuses nothing: its caller sees by [`Book::order`] that a reference is live, or isn't. Prices
-/// are in 1/10,000 of a currency unit. A call that answers a `Result` may take memory, and its only error is that memory
-/// was refused; no other call takes any.
+/// are in 1/10,000 of a currency unit. A call that returns a `Result` may take memory, and its only error is that
+/// memory was refused; no other call takes any.
 ///
 /// ```text
 /// let mut book = Book::new(alloc);
@@ -101,8 +101,7 @@ impl<A: Allocator + Copy> Book<A> {
     }
 
     /// Adds an order that has shares, under a reference that isn't live, to a book of fewer than 2^32 - 1 orders.
-    ///
-    /// An error says that memory was refused, and leaves the book as it was.
+    /// An error leaves the book as it was.
     pub fn add(&mut self, order: Order) -> Result<(), AllocError>
         requires new { order_in self.old order.reference ≡ None }
         requires some { 1 ≤ order.shares }
@@ -117,9 +116,7 @@ impl<A: Allocator + Copy> Book<A> {
     }
 
     /// Puts a new order, which has shares, in the place of a live one, whose side and market participant it takes
-    /// over. The new reference isn't live before, and the old one isn't afterwards.
-    ///
-    /// An error says that memory was refused, and leaves the book as it was.
+    /// over. The new reference isn't live before, and the old one isn't afterwards. An error leaves the book as it was.
     pub fn replace(&mut self, old: u64, new: u64, shares: u32, price: u32) -> Result<(), AllocError>
         requires live { IsSome (order_in self.old old) }
         requires new { order_in self.old new ≡ None }
@@ -213,14 +210,14 @@ impl<A: Allocator + Copy> Book<A> {
         Top::of(self.levels.best(Side::Buy), self.levels.best(Side::Sell))
     }
 
-    /// A side's levels: bids by falling price, asks by rising price. An error says that memory was refused.
+    /// A side's levels: bids by falling price, asks by rising price.
     pub fn levels(&self, alloc: A, side: Side) -> Result<Vec<Level, A>, AllocError>
         ensures { IfOk result (λ list. list.items ≡ levels (orders_in self.now) side) }
     {
         self.levels.list(alloc, side)
     }
 
-    /// The live orders, by rising reference. An error says that memory was refused.
+    /// The live orders, by rising reference.
     pub fn orders(&self, alloc: A) -> Result<Vec<Order, A>, AllocError>
         ensures list { IfOk result (λ list. list.items ≡ orders_in self.now) }
         // They are few enough for `levels_of`.
@@ -229,7 +226,7 @@ impl<A: Allocator + Copy> Book<A> {
         self.orders.list(alloc)
     }
 
-    /// A book with the same orders, whose memory is that of `alloc`. An error says that memory was refused.
+    /// A book with the same orders, whose memory is that of `alloc`.
     pub fn copy(&self, alloc: A) -> Result<Book<A>, AllocError>
         ensures { IfOk result (λ book. book ≡ self.now) }
     {

@@ -161,7 +161,7 @@ impl<A: Allocator + Copy> Ladder<A> {
         }
     }
 
-    /// Takes shares off a price that has at least so many. A level with none left is gone.
+    /// Takes shares off a price that has at least that many. A level with none left is gone.
     pub fn lower(&mut self, price: u32, shares: u32)
         requires { shares ≤ shares_on self.old.levels price }
         ensures side { self.new.side ≡ self.old.side }

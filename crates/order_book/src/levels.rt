@@ -114,7 +114,7 @@ impl<A: Allocator + Copy> Levels<A> {
         }
     }
 
-    /// Takes shares off a side at a price that has at least so many. A level with none left is gone.
+    /// Takes shares off a side at a price that has at least that many. A level with none left is gone.
     pub fn lower(&mut self, side: Side, price: u32, shares: u32)
         requires { shares ≤ shares_on (levels_on self.old side) price }
         ensures { AreChanged self.old self.new side (λ levels. lowered levels price shares) }

@@ -11,7 +11,7 @@ use Rattle.stock_machine.specs.StockTrades.{TotalsAreKept, IsOther, broken_trade
 use Rattle.stock_machine.proofs.KeptTrades.{kept_broken, others_stay}
 use Rattle.stock_machine.proofs.Ranges.{map_unchanged, mapped_whole}
 
--- of the trades as they were, those before a place are broken where they have the match number, and the others stay
+-- of the trades as they were, those before an index are broken where they have the match number, and the others stay
 pub record AreBroken (m : ℕ) (old new : List TradeRow) (totals : Totals) (rising : Bool) (place : ℕ) : Type 0 where
   pub done : take place new ≡ map (broken_trade m) (take place old)
   pub rest : drop place new ≡ drop place old
@@ -31,7 +31,7 @@ all_broken m old new totals rising end b after =
     mapped_whole (broken_trade m) old new end b.done b.rest (others_stay m (drop end old) after)
 
 module _ (m : ℕ) (old new : List TradeRow) (totals : Totals) (rising : Bool) (place : ℕ) (lt : place < length old) (b : AreBroken m old new totals rising place) (t : TradeRow) (at : t ≡ get_or new place t) where
-  -- the next place, where it holds the trade as it is after the match number is broken
+  -- the next index, where it holds the trade as it is after the match number is broken
   next : (u : TradeRow) (totals : Totals) → broken_trade m t ≡ u → TotalsAreKept (set new place u) totals rising → AreBroken m old (set new place u) totals rising (place + 1)
   next u totals e kept =
       let long = b.long in

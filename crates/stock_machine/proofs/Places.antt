@@ -4,7 +4,7 @@ use Rattle.std.specs.List.Sorted.{IsPartitionPoint}
 use Rattle.std.proofs.lemmas.Bool.Decides.{nat_tests}
 use Rattle.itch_table.specs.declared.trades.TradeRow.{TradeRow}
 
--- match numbers below one stand before a place, and those up to it before another
+-- match numbers below one stand before an index, and those up to it before another
 abbrev pub IsStart : ℕ → List TradeRow → ℕ → Type 0
 IsStart m ts start = IsPartitionPoint (λ (t : TradeRow). ltb t.match_no m ≡ true) (λ (t : TradeRow). ltb t.match_no m ≡ false) ts start
 

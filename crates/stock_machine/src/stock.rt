@@ -18,8 +18,9 @@ use std::marker::Model;
 /// What a day does to a stock depends on that stock's messages alone, so this machine holds after them what a machine
 /// for all stocks holds of that stock after the whole day. Prices are in 1/10,000 of a currency unit.
 ///
-/// The effects of messages are those of Nasdaq TotalView-ITCH 5.0, "Stock Related Messages", "Add Order Message", "Modify
-/// Order Messages" and "Trade Messages"; the faults, and that a machine is of one stock, are of this project.
+/// The effects of messages are those of Nasdaq TotalView-ITCH 5.0, "Stock Related Messages", "Add Order Message",
+/// "Modify Order Messages" and "Trade Messages"; the faults, that a reference stays spent, and that a machine is of one
+/// stock, are of this project. An error of a call says that memory was refused.
 #[derive(Drop)]
 pub struct Stock<A: Allocator> {
     steps: u32,
@@ -87,7 +88,7 @@ impl<A: Allocator + Copy> Stock<A> {
         self.rows.live_order(reference)
     }
 
-    /// Whether an order of the stock has had a reference, so that no later one may take it. This is of this project.
+    /// Whether an order of the stock has had a reference, so that no later one may take it.
     pub fn spent(&self, reference: u64) -> bool
         ensures { result ≡ is_spent self.now.world self.now.locate reference }
     {
@@ -123,7 +124,7 @@ impl<A: Allocator + Copy> Stock<A> {
         self.rows.status()
     }
 
-    /// A side's levels: bids by falling price, asks by rising price. An error says that memory was refused.
+    /// A side's levels: bids by falling price, asks by rising price.
     pub fn levels(&self, alloc: A, side: Side) -> Result<Vec<Level, A>, AllocError>
         ensures { IfOk result (λ list.
             list.items ≡ levels (orders_of self.now.world self.now.locate) side) }
@@ -131,17 +132,16 @@ impl<A: Allocator + Copy> Stock<A> {
         self.rows.levels(alloc, side)
     }
 
-    /// The live orders, by rising reference. An error says that memory was refused.
+    /// The live orders, by rising reference.
     pub fn orders(&self, alloc: A) -> Result<Vec<Order, A>, AllocError>
         ensures list { IfOk result (λ list. list.items ≡ orders_of self.now.world self.now.locate) }
-        // They are fewer than messages can be, as `levels_of` asks.
+        // They are fewer than messages can be, as `levels_of` requires.
         ensures few { length (orders_of self.now.world self.now.locate) < 2 ^ 32 }
     {
         self.rows.orders(alloc)
     }
 
-    /// A machine that stands where this one stands, whose memory is that of `alloc`. An error says that memory was
-    /// refused.
+    /// A machine that stands where this one stands, whose memory is that of `alloc`.
     pub fn copy(&self, alloc: A) -> Result<Stock<A>, AllocError>
         ensures { IfOk result (λ stock. stock ≡ self.now) }
     {
@@ -152,13 +152,12 @@ impl<A: Allocator + Copy> Stock<A> {
         })
     }
 
-    /// Takes the stock's next message, a payload whose part is the stock's locate code, and answers what became of it.
+    /// Takes the stock's next message, a payload whose part is the stock's locate code, and returns what became of it.
     ///
-    /// A message that is refused changes nothing but the number of steps. An error says that memory was refused: it
-    /// comes only where the message would be applied and is of type `A`, `F`, `U`, `E`, `C`, `P` or `Q`, and it leaves
-    /// the machine as it was.
+    /// A message that is refused changes nothing but the number of steps. An error comes only where the message would
+    /// be applied and is of type `A`, `F`, `U`, `E`, `C`, `P` or `Q`, and it leaves the machine as it was.
     ///
-    /// At most 2^32 - 1 messages are taken: the caller hands the next one while `steps()` is below that.
+    /// At most 2^32 - 1 messages are taken: the caller passes the next one while `steps()` is below that.
     ///
     /// ```text
     /// let mut stock = Stock::new(alloc, 1);

@@ -128,7 +128,7 @@ fn rises_with(rows: &[TradeRow], rising: bool, trade: &TradeRow) -> bool
     }
 }
 
-// Where trades with this match number can stand: from the first place up to the second.
+// Where trades with this match number can stand: from the first index up to the second.
 fn places(rows: &[TradeRow], rising: bool, match_no: u64) -> (usize, usize)
     requires { IsRising rows.now rising }
     ensures order { result.0 ≤ result.1 }

@@ -27,7 +27,7 @@ stand_first s writers none are =
     let l = get_or (worker_locates s) k 0 in
     ap (stock_at s l) (sym (ap (progress s.day s.workers l) none ∙ progress_first s.day s.workers l)))
 
--- the writer at a place
+-- the writer at an index
 pub stands_at : (s : WorkerState) (writers : List WriterAt) (place : ℕ) (w : WriterAt) (locate : ℕ) → WritersStand s writers → place < length (worker_locates s) → get_or (worker_locates s) place 0 ≡ locate
     → w ≡ get_or writers place w → writer_state w ≡ stands s locate
 stands_at s writers place w locate stand listed code is =

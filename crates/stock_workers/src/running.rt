@@ -31,7 +31,7 @@ pub struct Replayed<A: Allocator> {
     pub writers: Vec<TopWriter, A>,
 }
 
-/// Why a day isn't replayed. The faults are of this project.
+/// Why a day isn't replayed.
 #[derive(Debug, Clone, Copy, PartialEq, Eq)]
 pub enum RunFault {
     /// Memory was refused.
@@ -121,7 +121,7 @@ fn gather<A: Allocator + Copy>(
     })
 }
 
-/// The same as [`run`], of a day that is split already: the caller hands its parts, one for each worker. An error says
+/// The same as [`run`], of a day that is split already: the caller passes its parts, one for each worker. An error says
 /// that memory was refused.
 pub fn run_parts<R: Threads + Wait + Sync, A: Allocator + Copy + Send + Sync, G: Gate>(
     rt: &R,
@@ -153,10 +153,10 @@ pub fn run_parts<R: Threads + Wait + Sync, A: Allocator + Copy + Send + Sync, G:
 }
 
 /// Replays a day by this many workers, from 1 to 64, each in a thread of its own where one can be made, and publishes
-/// each message's best bid and ask as it is done. The caller hands the day's board and all of its writers, none of
+/// each message's best bid and ask as it is done. The caller passes the day's board and all of its writers, none of
 /// which has published anything.
 ///
-/// What it answers is the same for every number of workers: the outcome of each message, each stock's machine after the
+/// What it returns is the same for every number of workers: the outcome of each message, each stock's machine after the
 /// day, the last event, and each writer at the last message of its stock. All threads that it started have ended when
 /// it returns. Where no thread can be made, the work is done by the thread that asked for one.
 ///
@@ -164,8 +164,7 @@ pub fn run_parts<R: Threads + Wait + Sync, A: Allocator + Copy + Send + Sync, G:
 /// [`RunFault::Memory`] where memory is refused. After a fault the writers are gone. Screens go on reading, and what
 /// they read is still true of the day; a new run takes a new board.
 ///
-/// It may wait at the gate, and for its threads. The effects are those of Nasdaq TotalView-ITCH 5.0; the workers are
-/// of this project.
+/// It may wait at the gate, and for its threads.
 pub fn run<R: Threads + Wait + Sync, A: Allocator + Copy + Send + Sync, G: Gate>(
     rt: &R,
     alloc: A,

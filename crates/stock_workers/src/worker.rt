@@ -25,8 +25,7 @@ const MANY_STOCKS: usize = 512;
 
 /// One worker of a day that is split, with the writers of its stocks' cells: whatever it has done is shown there.
 ///
-/// It borrows the parts of the day. It is seen as where it stands in the day, and the cells of its stocks. All is of
-/// this project.
+/// It borrows the parts of the day. It is seen as where it stands in the day, and the cells of its stocks.
 #[derive(Drop)]
 pub struct Worker<'p, A: Allocator> {
     runner: Runner<'p, A>,
@@ -45,7 +44,7 @@ impl<'p, A: Allocator> Model for Worker<'p, A> {
 }
 
 impl<'p, A: Allocator + Copy> Worker<'p, A> {
-    /// A worker that has done nothing yet. The caller hands the writers of its stocks, by rising locate code, none of
+    /// A worker that has done nothing yet. The caller passes the writers of its stocks, by rising locate code, none of
     /// which has published anything. A number from `parts.workers()` on has no messages and no stocks.
     ///
     /// An error says that memory was refused; the writers are gone.
@@ -65,9 +64,9 @@ impl<'p, A: Allocator + Copy> Worker<'p, A> {
     }
 
     /// Waits at the gate with the worker's next message, does it on the machine of its stock, publishes the best bid
-    /// and ask that it leaves, and answers what became of it; none, with nothing changed, exactly where the worker has
-    /// done all of them. Each message is published, also where the best bid and ask stay as they were. The caller hands
-    /// the day that was split and the writers' board.
+    /// and ask that it leaves, and returns what became of it; none, with nothing changed, exactly where the worker has
+    /// done all of them. Each message is published, also where the best bid and ask stay as they were. The caller
+    /// passes the day that was split and the writers' board.
     ///
     /// An error says that memory was refused, which comes only where a message is left that would be applied and may
     /// need a new order or trade. Nothing was published and the worker is as it was, so that its next turn comes to the
@@ -101,10 +100,10 @@ impl<'p, A: Allocator + Copy> Worker<'p, A> {
 impl<'p, A: Allocator + Copy> Worker<'p, A> {
     /// Reads what the worker's next messages are likely to need, where `wait` is 0, so that the processor fetches the
     /// memory of all of them at once: a publish waits for all reads before it, so turns by themselves would wait for
-    /// the memory of one message after another. First the machines are read, then the cells, and then the rows that the
-    /// machines lead to, each in a loop of its own, so short that the processor is in all of its rounds at once. A worker
-    /// of few stocks does without. It changes nothing. It returns what `wait` is after the next turn; the number depends
-    /// on what was read, so that the reads aren't left out.
+    /// the memory of one message after another. First the machines are read, then the cells, and then the rows that
+    /// the machines lead to, each in a loop of its own, so short that the processor is in all of its rounds at once. A
+    /// worker of few stocks does without. It changes nothing. It returns what `wait` is after the next turn; the number
+    /// depends on what was read, so that the reads aren't left out.
     pub(crate) fn look_ahead(&self, day: &Day<A>, board: &Board<'_, A>, wait: usize) -> usize
         requires day { day.now.payloads ≡ self.now.state.day }
         requires board { All (IsOn board.now) self.now.places }

@@ -1,4 +1,4 @@
--- What the loads of a try tell together, and the steps of a change.
+-- What the loads of a try show together, and the steps of a change.
 use Rattle.std.proofs.Common.{◌≡◌, ◌≢◌, ℕ, ◌+◌, ◌%◌, ◌<◌, ◌≤◌, List, [], Some, None, inl, inr, refl, sym, ap, ◌∙◌, subst, arith}
 use Rattle.top_cell.specs.Rule.{ShowsOf, IsScreen, stock_of, number_in, number_of, change_of, sight_of, sight}
 use Rattle.top_cell.specs.WriterBegins.{WriterBegun}

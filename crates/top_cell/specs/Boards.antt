@@ -21,7 +21,7 @@ pub record WriterAt : Type 0 where
   pub place : Place
   pub message : ℕ
 
--- a writer in the middle of a change to a message, which has put so many of the four words
+-- a writer in the middle of a change to a message, which has put this many of the four words
 pub record ChangeAt : Type 0 where
   pub place : Place
   pub to : ℕ

@@ -19,7 +19,7 @@ day_stock day locate = record { day = day; locate = locate }
 abbrev pub number_in : List ℕ → ℕ
 number_in words = slice_index words 0
 
--- the words show this stock after so many messages
+-- the words show this stock after this many messages
 abbrev pub ShowsOf : DayStock → ℕ → List ℕ → Type 0
 ShowsOf stock n words = Shows stock.day stock.locate n words
 
@@ -98,7 +98,7 @@ Turns by m n = by m.0 n.0 × (n.1 ≡ m.1)
 
 -- ---- parts of a view
 
--- what a writer knows during a change that has put so many words
+-- what a writer knows during a change that has put this many words
 abbrev pub change : ℕ → List ℕ → List ℕ → ℕ → Change
 change number old new put = record { number = number; old = old; new = new; put = put }
 

@@ -27,7 +27,7 @@ IsWritersSeat seat locate message =
     IsIdle seat.me.0 × (number_of seat.me.0 ≡ message) × ((stock_of seat.me.0).locate ≡ locate)
     × HasFewMessages seat.me.0 × (seat.table_id.words ≡ 5)
 
--- the seat is that of a stock's writer in a change to this message, which has put so many of these words
+-- the seat is that of a stock's writer in a change to this message, which has put this many of these words
 abbrev pub IsChangesSeat : CellSeat → ℕ → ℕ → List ℕ → ℕ → Type 0
 IsChangesSeat seat locate message words put =
     IsWriting seat.me.0 × ((change_of seat.me.0).new ≡ words) × ((change_of seat.me.0).put ≡ put)

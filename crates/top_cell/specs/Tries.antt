@@ -1,4 +1,4 @@
--- What the tries of a screen tell together.
+-- What the tries of a screen show together.
 use Rattle.std.specs.Prelude.{◌≡◌, ◌⊎◌, ◌+◌, ◌%◌, ◌<◌, ◌≤◌, ℕ, List}
 use Rattle.top_cell.specs.declared.rule.View.{View}
 use Rattle.top_cell.specs.Rule.{ShowsOf, number_in, number_of, sight_of, stock_of}

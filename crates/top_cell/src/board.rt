@@ -16,7 +16,7 @@ use std::marker::{Brand, Model};
 
 /// A cell for each stock of a day, by rising locate code. Threads share it by reference.
 ///
-/// It is seen as its cells, each the locate code of its stock and an identity. All is of this project.
+/// It is seen as its cells, each the locate code of its stock and an identity.
 #[derive(Drop)]
 pub struct Board<'a, A: Allocator> {
     cells: Vec<Cell<'a, A>, A>,
@@ -56,7 +56,7 @@ fn open<J: Naming, A: Allocator>(cell: &Words, mut seat: Seat, day: &Day<A>, loc
     seat
 }
 
-// A cell of a stock of the day, and its writer, for this place on a board.
+// A cell of a stock of the day, and its writer, for this index on a board.
 fn new_cell<'a, A: Allocator>(
     alloc: &'a A,
     day: &Day<A>,
@@ -93,7 +93,7 @@ impl<'a, A: Allocator + Copy> Board<'a, A> {
         Board::of_stocks(alloc, day, &locates)
     }
 
-    /// The same, where the caller hands the locate codes of the stocks that have messages in the day, rising, as
+    /// The same, where the caller passes the locate codes of the stocks that have messages in the day, rising, as
     /// [`Parts::locates`] has them, so that the day isn't walked.
     ///
     /// [`Parts::locates`]: day_core::Parts::locates

@@ -24,6 +24,13 @@
 //!     show(&reading);
 //! }
 //! ```
+//!
+//! [`Board::of_stocks`] is [`Board::new`] where the day is split already: it takes `parts.locates()` of `day_core`.
+//! [`Screen::read`] takes `rt`, since it may wait; [`Screen::glance`] makes a bounded number of loads.
+//! [`TopWriter::screen`] makes a screen, and [`Screen::split`] a further one. `crates/test_cells/src/showing.rt` is a
+//! caller to copy from.
+//!
+//! All is of this project.
 #![tactic(auto)]
 
 mod board;

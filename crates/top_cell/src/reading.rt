@@ -4,7 +4,7 @@ ghost use Rattle.top_cell.specs.Readings.{words_read};
 
 use itch_table::Top;
 
-/// A stock's best bid and ask after one message of a day; zeros where a side is empty. All is of this project.
+/// A stock's best bid and ask after one message of a day; zeros where a side is empty.
 #[derive(Debug, Clone, Copy, PartialEq, Eq)]
 pub struct Reading {
     /// The number of that message in the day, counted from 1; 0 before the first.

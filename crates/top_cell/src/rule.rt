@@ -54,7 +54,7 @@ impl TableRule<(), View, u16> for CellRule {
     ghost first = { λ _. Unopened };
 }
 
-/// The count and the four words of a stock, as all threads see them. They are told the stock's locate code.
+/// The count and the four words of a stock, as all threads see them. They are given the stock's locate code.
 pub type Words = Shared<(), View, u16, CellRule>;
 
 /// A cell with its memory, which it frees by a reference to its board's allocator.

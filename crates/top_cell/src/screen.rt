@@ -18,8 +18,7 @@ use std::sync::Wait;
 ///
 /// It is seen as the cell that it belongs to, with the day and the stock that the cell shows, the number of the
 /// message at which it stands, how often it has loaded the count or a word of the cell, the last count that it has
-/// loaded, and the even one at which its last try to read began. Neither of these counts ever falls. All is of this
-/// project.
+/// loaded, and the even one at which its last try to read began. Neither of these counts ever falls.
 #[derive(Drop)]
 pub struct Screen {
     pub(crate) seat: Seat,
@@ -46,7 +45,7 @@ impl Model for Screen {
     ghost invariant = { λ s. IsScreensSeat s.seat s.locate s.message };
 }
 
-/// That the writer was changing the cell at each try of a glance. It is of this project.
+/// That the writer was changing the cell at each try of a glance.
 #[derive(Debug, Clone, Copy, PartialEq, Eq)]
 pub struct Busy {
     /// How often the writer had begun or ended a change, when the glance looked last: odd while it was changing the
@@ -70,8 +69,8 @@ impl Screen {
         self.message
     }
 
-    /// Tries up to so many times, at least once, to read the stock's best bid and ask after some message, which isn't
-    /// earlier than the one at which the screen stood and becomes it. Each try is six loads at most. The caller hands
+    /// Tries up to `tries` times, at least once, to read the stock's best bid and ask after some message, which isn't
+    /// earlier than the one at which the screen stood and becomes it. Each try is six loads at most. The caller passes
     /// the screen's own board, here and below.
     ///
     /// It waits for nobody. An error says that the writer was changing the cell at each try; the screen then stands

@@ -15,7 +15,7 @@ use std::marker::{Brand, Model};
 /// A writer in the middle of a change, during which each glance at its cell is busy. It has to be spent by `end`.
 ///
 /// It is seen as the writer's cell, the number of the message to which it changes the cell, and how many of the four
-/// words it has put. All is of this project.
+/// words it has put.
 pub struct Opened {
     seat: Seat,
     index: usize,
@@ -36,8 +36,8 @@ impl Model for Opened {
     ghost invariant = { λ w. IsChangesSeat w.seat w.locate w.message w.words w.put };
 }
 
-/// Begins a change to the best bid and ask after a message, which is later than the writer's. The caller hands what
-/// [`TopWriter::publish`] asks.
+/// Begins a change to the best bid and ask after a message, which is later than the writer's. The caller passes what
+/// [`TopWriter::publish`] requires.
 pub fn begin<A: Allocator>(
     writer: TopWriter,
     board: &Board<'_, A>,

@@ -27,7 +27,7 @@ fn take_words(cell: &Words, seat: &mut Seat) -> [u64; 4]
     words
 }
 
-// Tries once to read the words. The answer is the last count that was loaded where the writer was in the way.
+// Tries once to read the words. An error is the last count that was loaded, where the writer was in the way.
 fn try_once(cell: &Words, seat: &mut Seat) -> Result<[u64; 4], u64>
     requires seat { IsSeatOf cell.now.table_id seat.old }
     requires screen { IsScreen seat.old.me.0 }
@@ -51,7 +51,7 @@ fn try_once(cell: &Words, seat: &mut Seat) -> Result<[u64; 4], u64>
     }
 }
 
-/// Tries up to so many times to read the words. The answer is the last count that was loaded where the writer was in
+/// Tries up to `tries` times to read the words. An error is the last count that was loaded, where the writer was in
 /// the way of each try.
 pub(crate) fn try_times(cell: &Words, seat: &mut Seat, tries: u32) -> Result<[u64; 4], u64>
     requires seat { IsSeatOf cell.now.table_id seat.old }

@@ -15,7 +15,7 @@ use std::marker::Model;
 /// The one writer of a cell, which sets its words after each message of its stock.
 ///
 /// It is seen as the cell that it belongs to, with the day and the stock that the cell shows, and the number of the
-/// message at which it stands: the words show the stock after that message. All is of this project.
+/// message at which it stands: the words show the stock after that message.
 #[derive(Drop)]
 pub struct TopWriter {
     pub(crate) seat: Seat,
@@ -52,7 +52,7 @@ impl TopWriter {
 
     /// Shows the stock's best bid and ask after a message of the day, which isn't earlier than the last one that was
     /// published. A message is published also where the best bid and ask stay as they were; one at which the writer
-    /// stands already changes nothing. The caller hands the writer's own board, and the best bid and ask that the
+    /// stands already changes nothing. The caller passes the writer's own board, and the best bid and ask that the
     /// day's stock has after the message.
     ///
     /// It waits for nobody, whatever screens do.
@@ -73,7 +73,7 @@ impl TopWriter {
     }
 
     /// Reads the cell's count, so that the processor fetches the cell's memory before it is published to. It changes
-    /// nothing, and what it returns means nothing. The caller hands the writer's own board.
+    /// nothing, and what it returns means nothing. The caller passes the writer's own board.
     pub fn touch<A: Allocator>(&self, board: &Board<'_, A>) -> u64
         requires { IsOn board.now self.now.place }
     {
@@ -81,7 +81,7 @@ impl TopWriter {
     }
 
     /// A screen of the writer's stock, which stands where the writer stands: it never shows an earlier message. The
-    /// caller hands the writer's own board.
+    /// caller passes the writer's own board.
     pub fn screen<A: Allocator>(&mut self, board: &Board<'_, A>) -> Screen
         requires { IsOn board.now self.old.place }
         ensures same { self.new ≡ self.old }

@@ -18,7 +18,7 @@ is_start c =
     let parted = IsPartitionedBy-ltb number rows c.args.match_no (c.requires c.if-not-rising.false) in
     IsPartitionPoint-from_clause (λ (t : TradeRow). ltb t.match_no c.args.match_no) rows _ c.partition_point-start.ensures.partitioned parted (λ a r q k. search rules)
 
--- the trades from a place on
+-- the trades from an index on
 rest_is : (xs : List TradeRow) (n : ℕ) → slice_range xs n (length xs) ≡ drop n xs
 rest_is xs n = take_all (length xs - n) (drop n xs) (omega (arith, length-drop n xs))
 

@@ -49,7 +49,7 @@ step-requires-clause-few g c =
     let found = c.message_of-place.ensures in
     step_few _ _ _ _ c.own-own.ensures c.self.invariant.0 _ (omega (arith, ap length c.own-own.ensures)) refl _ same _ c.index_mut.result.now found.within found.stock c.index_mut.ensures.value (omega arith)
 
--- after an error the machine at the place is the one that was there
+-- after an error the machine at the index is the one that was there
 pub invariant_of-self : goal.invariant_of-self
 invariant_of-self g c =
     let inside = c.self.inside in

@@ -44,7 +44,7 @@ returns-clause-added g c =
     goes_last c.self.inside.breaks.keys _ _ c.args.breakpoint breaks c.requires c.in_ok-place.ensures.keys
     ∙ ap (λ ks. ks ++ c.args.breakpoint ∷ []) breaks
 
--- where a breakpoint that isn't there goes last, no earlier place has it
+-- where a breakpoint that isn't there goes last, no earlier index has it
 no_earlier : (breaks new : List Break) (k : Break) → ¬ Contains breaks k → new ≡ breaks ++ k ∷ [] → (place : ℕ) → slice_get new place ≡ Some k → (earlier : ℕ) → earlier < place → slice_get new earlier ≡ Some k → ⊥
 no_earlier breaks new k absent is place at earlier less there =
     let last : place < length (breaks ++ k ∷ []) = slice_get_within (breaks ++ k ∷ []) place k (subst (λ (ks : List Break). slice_get ks place ≡ Some k) is at) in
