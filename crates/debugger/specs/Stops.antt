@@ -1,12 +1,11 @@
 -- Where a breakpoint stops: a property of the day alone. All is of this project; the fields are those of
 -- Nasdaq TotalView-ITCH 5.0, "Message Formats".
-use Rattle.std.specs.Prelude.{ℕ, List, [], ◌∷◌, ◌==◌, ◌&&◌, ◌-◌, ◌++◌, nat_le, length, filter, take, not, Bool, false, Option, position}
+use Rattle.std.specs.Prelude.{ℕ, List, ◌==◌, ◌&&◌, ◌-◌, ◌++◌, nat_le, length, filter, take, not, Bool, false, Option, position}
 use Rattle.std.specs.List.{list_any, range_with_len}
 use Rattle.std.specs.Hash as fed
 use Rattle.itch_layouts.specs.Means.{fields_of}
+use Rattle.itch_layouts.specs.References.{references}
 use Rattle.itch_layouts.specs.Shapes.{shape_of}
-use Rattle.itch_layouts.specs.declared.message.Msg.{Msg}
-use Rattle.itch_layouts.specs.declared.message.Msg.TheVariants.{Add, AddMpid, Execute, ExecutePrice, Cancel, Delete, Replace, Trade}
 use Rattle.itch_layouts.specs.declared.shape.Shape.{Shape}
 use Rattle.itch_layouts.specs.declared.shape.Shape.TheVariants.{Known}
 use Rattle.itch_table.specs.declared.order.Side.{Side}
@@ -20,19 +19,7 @@ use Rattle.debugger.specs.declared.breakpoint.Break.TheVariants.{Price, Referenc
 
 -- ---- what a payload says
 
--- the order references in a message's fields `reference` and `new_reference`
-abbrev pub references : Msg → List ℕ
-references (Add head m) = m.reference ∷ []
-references (AddMpid head m) = m.reference ∷ []
-references (Execute head m) = m.reference ∷ []
-references (ExecutePrice head m) = m.reference ∷ []
-references (Cancel head m) = m.reference ∷ []
-references (Delete head m) = m.reference ∷ []
-references (Replace head m) = m.reference ∷ m.new_reference ∷ []
-references (Trade head m) = m.reference ∷ []
-references other = []
-
--- whether it is a message of this locate code with this order reference in one of these fields
+-- whether it is a message of this locate code that names an order by this reference
 abbrev pub names : ℕ → ℕ → Shape → Bool
 names locate reference (Known m) =
     ((fields_of m).head.locate == locate) && list_any (λ r. r == reference) (references m)

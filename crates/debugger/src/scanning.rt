@@ -1,76 +1,25 @@
 //! Where a breakpoint stops, found by one pass over the day.
-ghost use Rattle.std.specs.Prelude.{◌≡◌, ◌==◌, ◌+◌, ◌-◌, ◌<◌, ◌^◌, ℕ, List, IfOk, OnOk};
-ghost use Rattle.std.specs.List.{list_any};
-ghost use Rattle.itch_layouts.specs.Means.{fields_of};
+ghost use Rattle.std.specs.Prelude.{◌≡◌, ◌+◌, ◌-◌, ◌<◌, ◌^◌, ℕ, List, IfOk, OnOk};
 ghost use Rattle.itch_layouts.specs.Shapes.{shape_of};
 ghost use Rattle.itch_table.specs.Projection.{payload_at};
 ghost use Rattle.day_core.specs.Owners.{machine_of};
-ghost use Rattle.debugger.specs.Stops.{changes, names, reaches, references, stops_of};
+ghost use Rattle.debugger.specs.Stops.{changes, names, reaches, stops_of};
 ghost use Rattle.debugger.specs.declared.breakpoint.Break.{Break};
 
 use crate::breakpoint::Break;
 use binaryfile::Day;
 use checkpoints::is_of_stock;
-use itch_layouts::{Head, Msg, Nanos, Shape, read_msg};
+use itch_layouts::{Nanos, Shape, read_msg};
 use itch_table::Side;
 use std::alloc::{AllocError, Allocator};
 use stock_machine::Stock;
-
-// The fields that follow a message's type.
-fn head_of(msg: &Msg) -> Head
-    ensures { result ≡ (fields_of msg.now).head }
-{
-    match *msg {
-        Msg::System(head, _)
-        | Msg::Directory(head, _)
-        | Msg::Trading(head, _)
-        | Msg::Regsho(head, _)
-        | Msg::Participant(head, _)
-        | Msg::Decline(head, _)
-        | Msg::Breach(head, _)
-        | Msg::Ipo(head, _)
-        | Msg::Collar(head, _)
-        | Msg::Operational(head, _)
-        | Msg::Add(head, _)
-        | Msg::AddMpid(head, _)
-        | Msg::Execute(head, _)
-        | Msg::ExecutePrice(head, _)
-        | Msg::Cancel(head, _)
-        | Msg::Delete(head, _)
-        | Msg::Replace(head, _)
-        | Msg::Trade(head, _)
-        | Msg::Cross(head, _)
-        | Msg::Broken(head, _)
-        | Msg::Imbalance(head, _)
-        | Msg::Retail(head, _) => head,
-    }
-}
-
-// Whether a message has this order reference in a field `reference` or `new_reference`.
-fn has_reference(msg: &Msg, reference: u64) -> bool
-    ensures { result ≡ list_any (λ r. r == reference) (references msg.now) }
-{
-    match *msg {
-        Msg::Add(_, message) => message.reference == reference,
-        Msg::AddMpid(_, message) => message.reference == reference,
-        Msg::Execute(_, message) => message.reference == reference,
-        Msg::ExecutePrice(_, message) => message.reference == reference,
-        Msg::Cancel(_, message) => message.reference == reference,
-        Msg::Delete(_, message) => message.reference == reference,
-        Msg::Replace(_, message) => {
-            message.reference == reference || message.new_reference == reference
-        }
-        Msg::Trade(_, message) => message.reference == reference,
-        _ => false,
-    }
-}
 
 // Whether a payload is a message of this stock with this order reference.
 fn is_named(payload: &[u8], locate: u16, reference: u64) -> bool
     ensures { result ≡ names locate reference (shape_of payload.now) }
 {
     match read_msg(payload) {
-        Shape::Known(msg) => head_of(&msg).locate == locate && has_reference(&msg, reference),
+        Shape::Known(msg) => msg.head().locate == locate && msg.has_reference(reference),
         _ => false,
     }
 }
@@ -80,7 +29,7 @@ fn is_reached(payload: &[u8], time: Nanos) -> bool
     ensures { result ≡ reaches time (shape_of payload.now) }
 {
     match read_msg(payload) {
-        Shape::Known(msg) => time.get() <= head_of(&msg).time.get(),
+        Shape::Known(msg) => time.get() <= msg.head().time.get(),
         _ => false,
     }
 }
