@@ -1,5 +1,5 @@
 -- What a debugger is seen as, and what it keeps. All is of this project.
-use Rattle.std.specs.Prelude.{◌≡◌, ◌≤◌, ◌<◌, ◌+◌, ◌/◌, ◌++◌, ◌∷◌, [], ℕ, Bool, false, true, zero, suc, List, filter, length, max, Option, Some, None}
+use Rattle.std.specs.Prelude.{◌≡◌, ◌≤◌, ◌<◌, ◌+◌, ◌-◌, ◌/◌, ◌++◌, ◌∷◌, [], ℕ, Bool, false, true, zero, suc, List, filter, length, max, Option, Some, None}
 use Rattle.std.specs.List.{All, remove, range_with_len}
 use Rattle.itch_layouts.specs.Shapes.{shape_of}
 use Rattle.itch_layouts.specs.declared.message.Msg.TheVariants.{System}
@@ -8,7 +8,9 @@ use Rattle.itch_layouts.specs.declared.shape.Shape.TheVariants.{Known}
 use Rattle.itch_table.specs.declared.outcome.Outcome.{Outcome}
 use Rattle.itch_table.specs.After.{outcome}
 use Rattle.itch_table.specs.Projection.{payload_at}
+use Rattle.day_core.specs.Owners.{last_or}
 use Rattle.checkpoints.specs.Copies.{Tracked, numbers_of}
+use Rattle.debugger.specs.Stops.{stops_at}
 use Rattle.debugger.specs.declared.breakpoint.Break.{Break}
 
 -- the day, the fewest messages of a stock from one copy of its machine to the next, the number of messages up to
@@ -34,6 +36,21 @@ with_break s breakpoint = record s { breaks = s.breaks ++ breakpoint ∷ [] }
 -- a session without the breakpoint at an index; the later ones close up
 abbrev pub without_break : Session → ℕ → Session
 without_break s place = record s { breaks = remove s.breaks place }
+
+-- the first of some numbers, or another where there is none
+abbrev pub first_or : ℕ → List ℕ → ℕ
+first_or other [] = other
+first_or other (n ∷ ns) = n
+
+-- the first message after a session's position at which a breakpoint stops, or the last message
+abbrev pub next_stop : Session → ℕ
+next_stop s =
+    first_or (length s.day)
+    (filter (stops_at s.breaks s.day) (range_with_len (s.position + 1) (length s.day - s.position)))
+
+-- the last message before a session's position at which a breakpoint stops, or 0
+abbrev pub previous_stop : Session → ℕ
+previous_stop s = last_or 0 (filter (stops_at s.breaks s.day) (range_with_len 1 (s.position - 1)))
 
 -- the outcome of the message at a position, none before the first
 abbrev pub outcome_at : List (List ℕ) → ℕ → Option Outcome

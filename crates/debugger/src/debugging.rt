@@ -2,9 +2,8 @@
 ghost use Rattle.std.specs.Prelude.{◌≡◌, ◌≢◌, ◌↔◌, ◌+◌, ◌-◌, ◌<◌, ◌≤◌, Contains, Err, IfNone, IfOk, IfSome, IsErrOf, None, OnErr, OnOk, Some, length, slice_get, ℕ};
 ghost use Rattle.itch_table.specs.After.{after};
 ghost use Rattle.day_core.specs.Owners.{machine_of};
-ghost use Rattle.debugger.specs.Finding.{IsOnward, IsRearward};
-ghost use Rattle.debugger.specs.Sessions.{moved_to, new_session, outcome_at, with_break, without_break};
-ghost use Rattle.debugger.specs.Stops.{hit, stops_at};
+ghost use Rattle.debugger.specs.Sessions.{moved_to, new_session, next_stop, outcome_at, previous_stop, with_break, without_break};
+ghost use Rattle.debugger.specs.Stops.{hit};
 ghost use Rattle.debugger.specs.declared.debugging.DebugFault.TheVariants.{Memory};
 
 use crate::breakpoint::Break;
@@ -156,8 +155,9 @@ impl<'d, A: Allocator + Copy> Debugger<'d, A> {
     /// Moves to the least later message at which a breakpoint stops, or where there is none to the last message.
     /// [`DebugFault::PastEnd`] after the last message.
     pub fn onward(&mut self, alloc: A) -> Result<Stop, DebugFault>
-        ensures at { IfOk result (λ stop. IsOnward (stops_at self.old.breaks self.old.day)
-            self.old.position (length self.old.day) stop.at) }
+        ensures at { IfOk result (λ stop. stop.at ≡ next_stop self.old) }
+        ensures later { IfOk result (λ stop. self.old.position < stop.at) }
+        ensures within { IfOk result (λ stop. stop.at ≤ length self.old.day) }
         ensures hit { IfOk result (λ stop. stop.hit ≡ hit self.old.breaks self.old.day stop.at) }
         ensures moved { IfOk result (λ stop. self.new ≡ moved_to self.old stop.at) }
         ensures err { OnErr result (self.new ≡ self.old) }
@@ -176,8 +176,8 @@ impl<'d, A: Allocator + Copy> Debugger<'d, A> {
     /// Moves to the greatest earlier message at which a breakpoint stops, or where there is none to position 0, which
     /// no breakpoint stops at. [`DebugFault::BeforeStart`] at position 0.
     pub fn rearward(&mut self, alloc: A) -> Result<Stop, DebugFault>
-        ensures at { IfOk result (λ stop. IsRearward (stops_at self.old.breaks self.old.day)
-            self.old.position stop.at) }
+        ensures at { IfOk result (λ stop. stop.at ≡ previous_stop self.old) }
+        ensures earlier { IfOk result (λ stop. stop.at < self.old.position) }
         ensures hit { IfOk result (λ stop. 0 < stop.at →
             stop.hit ≡ hit self.old.breaks self.old.day stop.at) }
         ensures start { IfOk result (λ stop. stop.at ≡ 0 → stop.hit ≡ None) }

@@ -1,5 +1,5 @@
 -- Which replies the searches have, and a breakpoint that is added.
-use Rattle.std.proofs.Common.{◌≡◌, ◌≢◌, ◌⊎◌, inl, inr, ℕ, zero, suc, ◌+◌, ◌-◌, ◌<◌, ◌≤◌, ◌==◌, ◌++◌, ◌∷◌, [], List, Bool, true, false, length, Option, Some, None, refl, sym, ap, subst, ◌∙◌, arith, ne_eqb, filter, cond, append-nil, get_or, eqb-true, eq-eqb, length-append, lt-ltb, ltb, ◌&&◌}
+use Rattle.std.proofs.Common.{◌≡◌, ◌≢◌, ◌⊎◌, inl, inr, ℕ, zero, suc, ◌+◌, ◌<◌, ◌≤◌, ◌==◌, ◌++◌, ◌∷◌, [], List, Bool, true, false, length, Option, Some, None, refl, sym, ap, subst, ◌∙◌, arith, ne_eqb, get_or, eqb-true, eq-eqb, length-append, lt-ltb, ltb, ◌&&◌}
 use Rattle.std.specs.List.{position, position_or_len}
 use Rattle.std.proofs.lemmas.List.Sums.{fails_before_first}
 use Rattle.itch_table.specs.declared.order.Side.{Side}
@@ -8,102 +8,33 @@ use Rattle.itch_table.specs.Levels.{same_side}
 use Rattle.debugger.specs.declared.breakpoint.Break.TheVariants.{Price, Reference, Time}
 use Rattle.std.specs.Prelude.{Contains, slice_get, Result, Ok, Err, OnErr, OnOk}
 use Rattle.std.proofs.Math.ListN.{get_or-append}
-use Rattle.std.specs.List.{range_with_len}
-use Rattle.std.proofs.lemmas.Bool.{cases_Bool, cases_lt, false≢true}
+use Rattle.std.proofs.lemmas.Bool.{cases_lt, false≢true}
 use Rattle.std.proofs.lemmas.Option.{get_or_from_slice_get, slice_get_within, slice_get-get_or}
 use Rattle.std.proofs.lemmas.List.Quantifiers.{position-Some}
-use Rattle.day_core.specs.Owners.{last_or}
-use Rattle.day_core.proofs.Progress.{last_push}
-use Rattle.day_core.proofs.Kept.{kept_more}
-use Rattle.debugger.specs.Finding.{IsOnward, IsRearward}
-use Rattle.debugger.specs.Sessions.{Session, moved_to, with_break}
-use Rattle.debugger.specs.Stops.{hit, stops_at}
+use Rattle.debugger.specs.Sessions.{Session, moved_to, next_stop, previous_stop, with_break}
+use Rattle.debugger.specs.Stops.{hit}
 use Rattle.debugger.specs.declared.breakpoint.Break.{Break}
-use Rattle.itch_debug.specs.Answering.{Reply, first_or, add_reply, added_at, break_line, hit_at, next_stop, onward_reply, place_of, previous_stop, rearward_reply, same_break, stop_text}
+use Rattle.itch_debug.specs.Answering.{Reply, add_reply, added_at, break_line, hit_at, onward_reply, place_of, rearward_reply, same_break, stop_text}
 
 -- ---- searches
-
--- the first of some numbers that passes
-found_first : (p : ℕ → Bool) (n a at other : ℕ) → a ≤ at → at < a + n → ((k : ℕ) → a ≤ k → k < at → p k ≡ false) → p at ≡ true → first_or other (filter p (range_with_len a n)) ≡ at
-found_first p zero a at other low high fails passes = absurd (omega arith)
-found_first p (suc n) a at other low high fails passes = elim (cases_lt a at) [
-  | inl less ↦ rw (fails a (omega arith) less) (found_first p n (a + 1) at other (omega arith) (omega arith) (λ k l h. fails k (omega arith) h) passes)
-  | inr not_less ↦
-      let same : a ≡ at = omega arith in
-      let here : p a ≡ true = ap p same ∙ passes in
-      rw here same
-]
-
-found_none : (p : ℕ → Bool) (n a other : ℕ) → ((k : ℕ) → a ≤ k → k < a + n → p k ≡ false) → first_or other (filter p (range_with_len a n)) ≡ other
-found_none p zero a other fails = refl
-found_none p (suc n) a other fails = rw (fails a (omega arith) (omega arith)) (found_none p n (a + 1) other (λ k l h. fails k (omega arith) (omega arith)))
-
--- the next stop is the one that a search came to
-onward_at : (p : ℕ → Bool) (from last at : ℕ) → IsOnward p from last at → first_or last (filter p (range_with_len (from + 1) (last - from))) ≡ at
-onward_at p from last at h =
-    let later = h.later in
-    let within = h.within in
-    elim (cases_lt at last) [
-      | inl less ↦ found_first p (last - from) (from + 1) at last (omega arith) (omega arith) (λ k l g. h.between k (omega arith) g) (h.stops less)
-      | inr not_less ↦
-          let ends : at ≡ last = omega arith in
-          elim (cases_Bool (p at)) [
-            | inl on ↦ found_first p (last - from) (from + 1) at last (omega arith) (omega arith) (λ k l g. h.between k (omega arith) g) on
-            | inr off ↦ found_none p (last - from) (from + 1) last (λ k l g. elim (cases_lt k at) [
-              | inl before ↦ h.between k (omega arith) before
-              | inr here ↦ let same : k ≡ at = omega arith in ap p same ∙ off
-            ]) ∙ sym ends
-          ]
-    ]
-
--- the last of the numbers from 1 that passes
-found_last : (p : ℕ → Bool) (n at : ℕ) → at ≤ n → ((k : ℕ) → at < k → k ≤ n → p k ≡ false) → (0 < at → p at ≡ true) → last_or 0 (filter p (range_with_len 1 n)) ≡ at
-found_last p zero at low fails passes = omega arith
-found_last p (suc n) at low fails passes =
-    let next : suc n ≡ n + 1 = omega arith in
-    let more = kept_more p 1 n (n + 1) (omega arith) in
-    elim (cases_lt at (n + 1)) [
-      | inl less ↦
-          let off : p (n + 1) ≡ false = fails (n + 1) less (omega arith) in
-          ap (λ (m : ℕ). last_or 0 (filter p (range_with_len 1 m))) next ∙ ap (last_or 0) more
-          ∙ ap (λ (b : Bool). last_or 0 (filter p (range_with_len 1 n) ++ cond b ((n + 1) ∷ []) [])) off
-          ∙ ap (last_or 0) (append-nil (filter p (range_with_len 1 n)))
-          ∙ found_last p n at (omega arith) (λ k l h. fails k l (omega arith)) passes
-      | inr not_less ↦
-          let same : at ≡ n + 1 = omega arith in
-          let on : p (n + 1) ≡ true = ap p (sym same) ∙ passes (omega arith) in
-          ap (λ (m : ℕ). last_or 0 (filter p (range_with_len 1 m))) next ∙ ap (last_or 0) more
-          ∙ ap (λ (b : Bool). last_or 0 (filter p (range_with_len 1 n) ++ cond b ((n + 1) ∷ []) [])) on
-          ∙ last_push 0 (filter p (range_with_len 1 n)) (n + 1) ∙ sym same
-    ]
-
-rearward_at : (p : ℕ → Bool) (from at : ℕ) → IsRearward p from at → last_or 0 (filter p (range_with_len 1 (from - 1))) ≡ at
-rearward_at p from at h =
-    let earlier = h.earlier in
-    found_last p (from - 1) at (omega arith) (λ k l g. h.between k l (omega arith)) h.stops
 
 hit_some : (s : Session) (at : ℕ) → 0 < at → hit_at s at ≡ hit s.breaks s.day at
 hit_some s zero h = absurd (omega arith)
 hit_some s (suc n) h = refl
 
-pub onward_done : (s t : Session) (at : ℕ) (place : Option ℕ) → IsOnward (stops_at s.breaks s.day) s.position (length s.day) at → place ≡ hit s.breaks s.day at → t ≡ moved_to s at → (let reply : Reply = record { text = stop_text t place; next = Some t } in onward_reply s ≡ reply)
-onward_done s t at place h is moved =
-    let later = h.later in
-    let within = h.within in
+pub onward_done : (s t : Session) (at : ℕ) (place : Option ℕ) → at ≡ next_stop s → s.position < at → at ≤ length s.day → place ≡ hit s.breaks s.day at → t ≡ moved_to s at → (let reply : Reply = record { text = stop_text t place; next = Some t } in onward_reply s ≡ reply)
+onward_done s t at place found later within is moved =
     let apart : s.position ≢ length s.day = λ same. omega arith in
-    let found : next_stop s ≡ at = onward_at (stops_at s.breaks s.day) s.position (length s.day) at h in
-    rw (ne_eqb s.position (length s.day) apart, found, moved, is, hit_some s at (omega arith)) refl
+    rw (ne_eqb s.position (length s.day) apart, sym found, moved, is, hit_some s at (omega arith)) refl
 
 rearward_hit : (s : Session) (at : ℕ) (place : Option ℕ) → (0 < at → place ≡ hit s.breaks s.day at) → (at ≡ 0 → place ≡ None) → hit_at s at ≡ place
 rearward_hit s zero place is none = sym (none refl)
 rearward_hit s (suc n) place is none = sym (is (omega arith))
 
-pub rearward_done : (s t : Session) (at : ℕ) (place : Option ℕ) → IsRearward (stops_at s.breaks s.day) s.position at → (0 < at → place ≡ hit s.breaks s.day at) → (at ≡ 0 → place ≡ None) → t ≡ moved_to s at → (let reply : Reply = record { text = stop_text t place; next = Some t } in rearward_reply s ≡ reply)
-rearward_done s t at place h is none moved =
-    let earlier = h.earlier in
+pub rearward_done : (s t : Session) (at : ℕ) (place : Option ℕ) → at ≡ previous_stop s → at < s.position → (0 < at → place ≡ hit s.breaks s.day at) → (at ≡ 0 → place ≡ None) → t ≡ moved_to s at → (let reply : Reply = record { text = stop_text t place; next = Some t } in rearward_reply s ≡ reply)
+rearward_done s t at place found earlier is none moved =
     let apart : s.position ≢ 0 = λ same. omega arith in
-    let found : previous_stop s ≡ at = rearward_at (stops_at s.breaks s.day) s.position at h in
-    rw (ne_eqb s.position 0 apart, found, moved, rearward_hit s at place is none) refl
+    rw (ne_eqb s.position 0 apart, sym found, moved, rearward_hit s at place is none) refl
 
 -- ---- a breakpoint that is added
 

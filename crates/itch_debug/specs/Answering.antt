@@ -1,7 +1,7 @@
 -- The answer of each command. The lines are of this project; each ends with a line feed, and its numbers are decimal.
-use Rattle.std.specs.Prelude.{◌≡◌, ◌⊎◌, ℕ, ◌+◌, ◌-◌, ◌==◌, ◌&&◌, nat_le, Bool, false, if◌then◌else◌, zero, suc, List, [], ◌∷◌, ◌++◌, length, filter, position, codes, decimal, slice_get, Option, Some, None, Result, OnErr, OnOk}
+use Rattle.std.specs.Prelude.{◌≡◌, ◌⊎◌, ℕ, ◌+◌, ◌-◌, ◌==◌, ◌&&◌, nat_le, Bool, false, if◌then◌else◌, zero, suc, List, [], ◌∷◌, ◌++◌, length, position, codes, decimal, slice_get, Option, Some, None, Result, OnErr, OnOk}
 use Rattle.std.specs.declared.vec.Vec.{Vec}
-use Rattle.std.specs.List.{flat_map, range_with_len}
+use Rattle.std.specs.List.{flat_map}
 use Rattle.itch_layouts.specs.declared.message.Directory.{Directory}
 use Rattle.itch_table.specs.declared.outcome.Outcome.{Outcome}
 use Rattle.itch_table.specs.declared.outcome.Outcome.TheVariants.{Applied, Passed, Refused}
@@ -15,9 +15,8 @@ use Rattle.itch_table.specs.Levels.{levels, same_side}
 use Rattle.itch_table.specs.World.{World, orders_of, status, totals}
 use Rattle.itch_print.specs.Quoted.{quoted}
 use Rattle.itch_engine.specs.Report.{ask_line, bid_line, quoted_byte, stock_line, trades_line}
-use Rattle.day_core.specs.Owners.{last_or}
-use Rattle.debugger.specs.Sessions.{Session, moved_to, outcome_at, with_break, without_break}
-use Rattle.debugger.specs.Stops.{hit, stops_at}
+use Rattle.debugger.specs.Sessions.{Session, moved_to, next_stop, outcome_at, previous_stop, with_break, without_break}
+use Rattle.debugger.specs.Stops.{hit}
 use Rattle.debugger.specs.declared.breakpoint.Break.{Break}
 use Rattle.debugger.specs.declared.breakpoint.Break.TheVariants.{Price, Reference, Time}
 use Rattle.debugger.specs.declared.debugging.DebugFault.{DebugFault}
@@ -183,21 +182,6 @@ step_reply s = if s.position == length s.day then past_end s else moves s (s.pos
 
 abbrev pub back_reply : Session → Reply
 back_reply s = if s.position == 0 then before_start s else moves s (s.position - 1)
-
--- the first of some numbers, or another where there is none
-abbrev pub first_or : ℕ → List ℕ → ℕ
-first_or other [] = other
-first_or other (n ∷ ns) = n
-
--- the first message after a position at which a breakpoint stops, or the last message
-abbrev pub next_stop : Session → ℕ
-next_stop s =
-    first_or (length s.day)
-    (filter (stops_at s.breaks s.day) (range_with_len (s.position + 1) (length s.day - s.position)))
-
--- the last message before a position at which a breakpoint stops, or 0
-abbrev pub previous_stop : Session → ℕ
-previous_stop s = last_or 0 (filter (stops_at s.breaks s.day) (range_with_len 1 (s.position - 1)))
 
 -- the index of the first breakpoint that stops at a message; at 0 none does
 abbrev pub hit_at : Session → ℕ → Option ℕ

@@ -1,11 +1,10 @@
 //! The top of one stock's book after each of its messages.
 ghost use Rattle.std.specs.Prelude.{◌≡◌, IfOk};
-ghost use Rattle.itch_layouts.specs.Means.{fields_of};
 ghost use Rattle.itch_table.specs.Projection.{is_of_stock};
 ghost use Rattle.itch_readings.specs.Tops.{time_of, tops_of};
 
 use binaryfile::Day;
-use itch_layouts::{Head, Msg, Shape, read_msg};
+use itch_layouts::{Shape, read_msg};
 use itch_table::{Part, Top, own_rows_suffice, part, stocks_are_independent};
 use std::alloc::{AllocError, Allocator};
 use stock_machine::Stock;
@@ -31,42 +30,12 @@ fn is_of_stock(payload: &[u8], locate: u16) -> bool
     }
 }
 
-// The head of a message.
-fn head_of(msg: &Msg) -> Head
-    ensures { result ≡ (fields_of msg.now).head }
-{
-    match *msg {
-        Msg::System(head, _)
-        | Msg::Directory(head, _)
-        | Msg::Trading(head, _)
-        | Msg::Regsho(head, _)
-        | Msg::Participant(head, _)
-        | Msg::Decline(head, _)
-        | Msg::Breach(head, _)
-        | Msg::Ipo(head, _)
-        | Msg::Collar(head, _)
-        | Msg::Operational(head, _)
-        | Msg::Add(head, _)
-        | Msg::AddMpid(head, _)
-        | Msg::Execute(head, _)
-        | Msg::ExecutePrice(head, _)
-        | Msg::Cancel(head, _)
-        | Msg::Delete(head, _)
-        | Msg::Replace(head, _)
-        | Msg::Trade(head, _)
-        | Msg::Cross(head, _)
-        | Msg::Broken(head, _)
-        | Msg::Imbalance(head, _)
-        | Msg::Retail(head, _) => head,
-    }
-}
-
 // When a message was made, in nanoseconds since midnight; 0 where the payload is no message.
 fn time_in(payload: &[u8]) -> u64
     ensures { result ≡ time_of payload.now }
 {
     match read_msg(payload) {
-        Shape::Known(msg) => head_of(&msg).time.get(),
+        Shape::Known(msg) => msg.head().time.get(),
         Shape::Unknown | Shape::BadLength => 0,
     }
 }

@@ -72,6 +72,30 @@ fn worked_messages_are_read_and_written(rt: HostRuntime) -> Result<(), Fail> {
     )
 }
 
+// A message has this head, and of some references those that are wanted.
+fn try_message(payload: &[u8], head: Head, references: &[(u64, bool)]) -> Result<(), Fail> {
+    let Shape::Known(msg) = read_msg(payload) else {
+        return Err(Fail::new("a worked message isn't read"));
+    };
+    same("a head", &msg.head(), &head)?;
+    for (reference, wanted) in references {
+        same(
+            "a reference",
+            &(*reference, msg.has_reference(*reference)),
+            &(*reference, *wanted),
+        )?;
+    }
+    Ok(())
+}
+
+#[test]
+fn a_message_has_its_head_and_its_references(_rt: HostRuntime) -> Result<(), Fail> {
+    let replaced = [(0, false), (1, true), (2, true), (50, false)];
+    try_message(REPLACE, head(1, 2, 281_474_976_710_655)?, &replaced)?;
+    // A reference price is no order reference.
+    try_message(IMBALANCE, head(7, 8, 9)?, &[(0, false), (14, false)])
+}
+
 // A type, and after it bytes that rise by a step, as many as the longest message needs and more.
 fn filled(kind: u8, first: u8, step: u8) -> [u8; 60] {
     let mut bytes = [kind; 60];

@@ -6,10 +6,10 @@ pub returns-in-Ok-clause-reply : goal.returns-in-Ok-clause-reply
 returns-in-Ok-clause-reply g c =
     let stop = c.in-Ok.stop in
     replied c.put_stop.result c.args.text.now.items c.put_stop.new.text.items (stop_text c.onward.new.self stop.hit) _ c.onward.new.self
-    (onward_done c.args.debugger.now c.onward.new.self stop.at stop.hit c.in-Ok.ensures.at c.in-Ok.ensures.hit c.in-Ok.ensures.moved) c.put_stop.ensures
+    (onward_done c.args.debugger.now c.onward.new.self stop.at stop.hit c.in-Ok.ensures.at c.in-Ok.ensures.later c.in-Ok.ensures.within c.in-Ok.ensures.hit c.in-Ok.ensures.moved) c.put_stop.ensures
 
 pub returns-in-Ok-clause-err : goal.returns-in-Ok-clause-err
 returns-in-Ok-clause-err g c =
     let stop = c.in-Ok.stop in
     came c.put_stop.result c.args.debugger.now (stop_text c.onward.new.self stop.hit) _ c.onward.new.self
-    (onward_done c.args.debugger.now c.onward.new.self stop.at stop.hit c.in-Ok.ensures.at c.in-Ok.ensures.hit c.in-Ok.ensures.moved)
+    (onward_done c.args.debugger.now c.onward.new.self stop.at stop.hit c.in-Ok.ensures.at c.in-Ok.ensures.later c.in-Ok.ensures.within c.in-Ok.ensures.hit c.in-Ok.ensures.moved)
