@@ -19,5 +19,4 @@ mod own;
 mod track;
 
 pub use index::StockIndex;
-pub use own::is_of_stock;
 pub use track::Track;

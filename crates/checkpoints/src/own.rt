@@ -1,22 +1,11 @@
 //! A stock's own messages of a day, and its machine stepped over them.
 ghost use Rattle.std.specs.Prelude.{◌≡◌, ◌≤◌, IfOk, OnOk, length};
-ghost use Rattle.itch_table.specs.Projection.{is_of_stock};
 ghost use Rattle.checkpoints.specs.Copies.{machine_after_own, numbers_of};
 
 use binaryfile::Day;
-use itch_table::{Part, part};
+use itch_table::is_of_stock;
 use std::alloc::{AllocError, Allocator};
 use stock_machine::Stock;
-
-/// Whether a payload is a message of the stock with this locate code.
-pub fn is_of_stock(payload: &[u8], locate: u16) -> bool
-    ensures { result ≡ is_of_stock locate payload.now }
-{
-    match part(payload) {
-        Part::Locate(other) => other == locate,
-        Part::Nowhere(_) => false,
-    }
-}
 
 /// The numbers of a stock's messages in a day, rising.
 pub fn numbers_of<A: Allocator + Copy>(

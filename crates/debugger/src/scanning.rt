@@ -8,9 +8,8 @@ ghost use Rattle.debugger.specs.declared.breakpoint.Break.{Break};
 
 use crate::breakpoint::Break;
 use binaryfile::Day;
-use checkpoints::is_of_stock;
 use itch_layouts::{Nanos, Shape, read_msg};
-use itch_table::Side;
+use itch_table::{Side, is_of_stock};
 use std::alloc::{AllocError, Allocator};
 use stock_machine::Stock;
 

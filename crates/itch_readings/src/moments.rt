@@ -1,11 +1,10 @@
 //! The top of one stock's book after each of its messages.
 ghost use Rattle.std.specs.Prelude.{◌≡◌, IfOk};
-ghost use Rattle.itch_table.specs.Projection.{is_of_stock};
 ghost use Rattle.itch_readings.specs.Tops.{time_of, tops_of};
 
 use binaryfile::Day;
 use itch_layouts::{Shape, read_msg};
-use itch_table::{Part, Top, own_rows_suffice, part, stocks_are_independent};
+use itch_table::{Top, is_of_stock, own_rows_suffice, stocks_are_independent};
 use std::alloc::{AllocError, Allocator};
 use stock_machine::Stock;
 
@@ -18,16 +17,6 @@ pub struct Moment {
     pub time: u64,
     /// The top after it.
     pub top: Top,
-}
-
-// Whether a payload is of the stock of a locate code.
-fn is_of_stock(payload: &[u8], locate: u16) -> bool
-    ensures { result ≡ is_of_stock locate payload.now }
-{
-    match part(payload) {
-        Part::Locate(code) => code == locate,
-        Part::Nowhere(_) => false,
-    }
 }
 
 // When a message was made, in nanoseconds since midnight; 0 where the payload is no message.

@@ -42,7 +42,7 @@ pub use laws::{
 pub use levels::levels_of;
 pub use order::{Found, Level, Order, OrderRow, Side, Top};
 pub use outcome::{Fault, Outcome, Part};
-pub use parts::part;
+pub use parts::{is_of_stock, part};
 pub use plain::Plain;
 pub use status::{Status, StockRow, Totals, Trading};
 pub use store::Store;

@@ -265,6 +265,5 @@ fn keys_of<A: Allocator + Copy>(
     ensures list { IfOk result (λ list. list.items ≡ keys stocks.now) }
     ensures ordered { IsOrdered nat_cmp stocks.now }
 {
-    let _ = stocks.len();
     stocks.keys().copied().collect(alloc)
 }
