@@ -1,4 +1,5 @@
 //! Boards, and what their writers and screens show one after another.
+ghost use Rattle.std.specs.Prelude.{◌≡◌};
 ghost use Rattle.test_cells.specs.Showing.{AreInStep};
 
 use crate::cells::only_cell;
@@ -214,8 +215,24 @@ fn cells_that_are_made_take_no_memory(rt: HostRuntime) -> Result<(), Fail> {
 // That the writer is in the middle of its first change, and that a screen stands before the first message.
 const IN_FIRST_CHANGE: (Glance, u32) = (Err(Busy { count: 1 }), 0);
 
-// What glances return while the first message of the crossed book is shown by single steps, then, and after the other
-// two.
+// That the writer is in the middle of its second change, and that a screen stands at the first message.
+const IN_SECOND_CHANGE: (Glance, u32) = (Err(Busy { count: 3 }), 1);
+
+// Publishes the message at which the writer stands once more.
+fn publish_again<A: Allocator + Copy>(
+    _day: &Day<A>,
+    machine: &Plain<A>,
+    board: &Board<'_, A>,
+    writer: &mut TopWriter,
+)
+    requires { AreInStep _day.now.payloads board.now machine.now writer.old }
+    ensures { writer.new ≡ writer.old }
+{
+    writer.publish(board, writer.message(), machine.top(writer.locate()));
+}
+
+// What glances return while the first two messages of the crossed book are shown by single steps, of which the first
+// is published once more in between, and after each of the three.
 fn glance_at_steps<A: Allocator + Copy>(
     day: &Day<A>,
     machine: &mut Plain<A>,
@@ -235,7 +252,9 @@ fn glance_at_steps<A: Allocator + Copy>(
         ask_shares: 0,
     };
     same("after it", &screen.glance(board, 1), &Ok(first))?;
-    show_next(day, machine, board, &mut writer)?;
+    publish_again(day, machine, board, &mut writer);
+    let (mut writer, seen) = show_by_steps(day, machine, board, writer, &mut screen)?;
+    same_list("in the second change", &seen, &[IN_SECOND_CHANGE; 5])?;
     show_next(day, machine, board, &mut writer)?;
     same("at the end", &screen.glance(board, 1), &Ok(CROSSED))?;
     same("where the screen stands", &screen.message(), &3)

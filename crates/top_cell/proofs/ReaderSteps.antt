@@ -1,11 +1,11 @@
 -- The steps of a screen.
-use Rattle.std.proofs.Common.{◌≡◌, ℕ, ◌+◌, ◌%◌, ◌<◌, ◌≤◌, List, [], ◌∷◌, ◌++◌, length, take, Some, None, refl, sym, ap, ◌∙◌, subst, arith, length-append, take_all}
+use Rattle.std.proofs.Common.{◌≡◌, ℕ, ◌+◌, ◌%◌, ◌<◌, ◌≤◌, List, [], ◌∷◌, ◌++◌, length, take, Some, None, inr, refl, sym, ap, ◌∙◌, subst, ⊎_elim, arith, length-append, take_all}
 use Rattle.std.proofs.lemmas.List.{take_more}
 use Rattle.std.specs.Prelude.{slice_index}
 use mathlib.Core.Logic.{dite}
 use native.Mathlib.Decide.{ℕ_discrete}
 use Rattle.atomic_table.specs.Table.{Me, keeps, Allows}
-use Rattle.top_cell.specs.Rule.{ShowsOf, Sees, CellRule, Turns, number_in, sight}
+use Rattle.top_cell.specs.Rule.{IsAboveNoteOrNow, IsNotedOrNow, ShowsOf, Sees, CellRule, Turns, note_of, number_in, sight}
 use Rattle.top_cell.specs.ReaderBegins.{ReaderBegun}
 use Rattle.top_cell.specs.ReaderTakes.{ReaderTook}
 use Rattle.top_cell.specs.ReaderEnds.{ReaderEnded}
@@ -25,6 +25,15 @@ same_words x y e = cc
 no_words : (words : List ℕ) → None ≡ Some words → ⊥
 no_words words e = cc
 
+-- what is found once more is found now
+once_more : (noted_times noted times found now found' : ℕ) → IsNotedOrNow noted_times noted times found now → found' ≡ now → IsNotedOrNow noted_times noted (times + 1) found' now
+once_more noted_times noted times found now found' known is =
+    inr (⊎_elim (λ t. omega (arith, t.0)) (λ t. omega (arith, t.0)) known, is)
+
+read_once_more : (noted_times noted times found now found' : ℕ) → IsAboveNoteOrNow noted_times noted times found now → found' ≡ now → IsAboveNoteOrNow noted_times noted (times + 1) found' now
+read_once_more noted_times noted times found now found' known is =
+    inr (⊎_elim (λ t. omega (arith, t.0)) (λ t. omega (arith, t.0)) known, is)
+
 module _ {S : Type 0} where
   pub reader_begins : (slots id : ℕ) (s : DayStock) (v : Sight) (c : List (ℕ × S)) → v.taken ≡ None
       → Allows CellRule slots id (ScreenOf s v, c) 0 (λ n. n) (λ r n. Turns (ReaderBegun r) (ScreenOf s v, c) n)
@@ -35,14 +44,17 @@ module _ {S : Type 0} where
       let is : r ≡ o.count = count_is st.words o.count o.shown o.are in
       let risen : v.last ≤ r = omega (arith, is, mine.last) in
       let up : v.began ≤ r = omega (arith, is, mine.began) in
+      let note = note_of o.noted id in
+      let looked = once_more note.looks note.last v.looks v.last o.count r mine.looked is in
       dite (ℕ_discrete (r % 2) 0)
       (λ even.
-      let v' = sight v.number (v.loads + 1) r r (Some []) in
-      let sees : Sees o.count o.shown o.number v' = record { below = mine.below; last = omega (arith, is); began = omega (arith, is); even = even; tries = λ words e _. let none = same_words [] words e in subst (λ ws. ws ≡ take (length ws) o.shown) none refl } in
+      let v' = sight v.number (v.loads + 1) (v.looks + 1) (v.tries + 1) v.wins r r (Some []) in
+      let tried = once_more note.tries note.began v.tries v.began o.count r mine.tried is in
+      let sees : Sees o.count o.shown o.number note v' = record { below = mine.below; last = omega (arith, is); began = omega (arith, is); even = even; fit = λ words e _. let none = same_words [] words e in subst (λ ws. ws ≡ take (length ws) o.shown) none refl; looked = looked; tried = tried; won = mine.won } in
       (ScreenOf s v', keeps, tt, unmoved st id c (ScreenOf s v') 0 (screen_turns st.words st.views id s v v' o at sees), ((shut, risen, up, (λ _. refl), (λ odd. absurd (omega (arith, even, odd)))), refl)))
       (λ odd.
-      let v' = sight v.number (v.loads + 1) r v.began None in
-      let sees : Sees o.count o.shown o.number v' = record { below = mine.below; last = omega (arith, is); began = mine.began; even = mine.even; tries = λ words e _. absurd (no_words words e) } in
+      let v' = sight v.number (v.loads + 1) (v.looks + 1) v.tries v.wins r v.began None in
+      let sees : Sees o.count o.shown o.number note v' = record { below = mine.below; last = omega (arith, is); began = mine.began; even = mine.even; fit = λ words e _. absurd (no_words words e); looked = looked; tried = mine.tried; won = mine.won } in
       (ScreenOf s v', keeps, tt, unmoved st id c (ScreenOf s v') 0 (screen_turns st.words st.views id s v v' o at sees), ((shut, risen, up, (λ even. absurd (odd even)), (λ _. refl)), refl)))
 
   pub reader_takes : (slots id : ℕ) (s : DayStock) (v : Sight) (taken : List ℕ) (c : List (ℕ × S)) → v.taken ≡ Some taken → length taken < 4
@@ -53,13 +65,13 @@ module _ {S : Type 0} where
       let o = open_at st.words st.views id (ScreenOf s v) (not_screen s v) h at in
       let mine = (o.each id (ScreenOf s v) at).1 in
       let is : r ≡ slice_index o.shown i = word_is st.words o.count o.shown i o.are in
-      let v' = sight v.number (v.loads + 1) v.last v.began (Some (taken ++ r ∷ [])) in
+      let v' = sight v.number (v.loads + 1) v.looks v.tries v.wins v.last v.began (Some (taken ++ r ∷ [])) in
       let more : o.count ≡ v.began → taken ++ r ∷ [] ≡ take (length (taken ++ r ∷ [])) o.shown =
       λ still.
-      ap (λ l. l ++ r ∷ []) (mine.tries taken open_try still)
+      ap (λ l. l ++ r ∷ []) (mine.fit taken open_try still)
       ∙ (ap (λ n. take i o.shown ++ n ∷ []) is
       ∙ (sym (take_more o.shown i 0 (omega (arith, o.four, few))) ∙ ap (λ n. take n o.shown) (sym (length-append taken (r ∷ []))))) in
-      let sees : Sees o.count o.shown o.number v' = record { below = mine.below; last = mine.last; began = mine.began; even = mine.even; tries = λ words e still. let same = same_words (taken ++ r ∷ []) words e in subst (λ ws. ws ≡ take (length ws) o.shown) same (more still) } in (
+      let sees : Sees o.count o.shown o.number (note_of o.noted id) v' = record { below = mine.below; last = mine.last; began = mine.began; even = mine.even; fit = λ words e still. let same = same_words (taken ++ r ∷ []) words e in subst (λ ws. ws ≡ take (length ws) o.shown) same (more still); looked = mine.looked; tried = mine.tried; won = mine.won } in (
         ScreenOf s v',
         keeps,
         tt,
@@ -74,27 +86,30 @@ module _ {S : Type 0} where
       let o = open_at st.words st.views id (ScreenOf s v) (not_screen s v) h at in
       let mine = (o.each id (ScreenOf s v) at).1 in
       let is : r ≡ o.count = count_is st.words o.count o.shown o.are in
-      let none : (n : ℕ) → n ≤ o.number → Sees o.count o.shown o.number (sight n (v.loads + 1) r v.began None) =
-      λ n below. record { below = below; last = omega (arith, is); began = mine.began; even = mine.even; tries = λ words e _. absurd (no_words words e) } in
+      let note = note_of o.noted id in
+      let looked = once_more note.looks note.last v.looks v.last o.count r mine.looked is in
+      let none : (n wins : ℕ) → n ≤ o.number → IsAboveNoteOrNow note.wins note.number wins n o.number → Sees o.count o.shown o.number note (sight n (v.loads + 1) (v.looks + 1) v.tries wins r v.began None) =
+      λ n wins below won. record { below = below; last = omega (arith, is); began = mine.began; even = mine.even; fit = λ words e _. absurd (no_words words e); looked = looked; tried = mine.tried; won = won } in
       let up : v.began ≤ r = omega (arith, is, mine.began) in
       let risen : v.last ≤ r = omega (arith, is, mine.last) in
       dite (ℕ_discrete r v.began)
       (λ still.
-      let whole : taken ≡ o.shown = mine.tries taken open_try (sym is ∙ still) ∙ take_all (length taken) o.shown (omega (arith, all, o.four)) in
+      let whole : taken ≡ o.shown = mine.fit taken open_try (sym is ∙ still) ∙ take_all (length taken) o.shown (omega (arith, all, o.four)) in
       let rest = o.at_rest (ap (λ n. n % 2) (sym is ∙ still) ∙ mine.even) in
       let first : number_in taken ≡ o.number = ap (λ ws. number_in ws) whole ∙ first_shown o.stock o.number o.shown rest.0 in
       let shows : ShowsOf s (number_in taken) taken =
       subst (λ (z : DayStock × (ℕ × List ℕ)). ShowsOf z.0 z.1.0 z.1.1) (λ i. (sym (o.each id (ScreenOf s v) at).0 i, (sym first i, sym whole i))) rest.0 in
-      let v' = sight (number_in taken) (v.loads + 1) r v.began None in (
+      let won = read_once_more note.wins note.number v.wins v.number o.number (number_in taken) mine.won first in
+      let v' = sight (number_in taken) (v.loads + 1) (v.looks + 1) v.tries (v.wins + 1) r v.began None in (
         ScreenOf s v',
         keeps,
         tt,
-        unmoved st id c (ScreenOf s v') 0 (screen_turns st.words st.views id s v v' o at (none (number_in taken) (omega (arith, first)))),
+        unmoved st id c (ScreenOf s v') 0 (screen_turns st.words st.views id s v v' o at (none (number_in taken) (v.wins + 1) (omega (arith, first)) won)),
         ((taken, open_try, all, up, risen, (λ _. (shows, omega (arith, first, mine.below), refl)), (λ not. absurd (not still))), refl),
       ))
       (λ moved.
-      let v' = sight v.number (v.loads + 1) r v.began None in
-      (ScreenOf s v', keeps, tt, unmoved st id c (ScreenOf s v') 0 (screen_turns st.words st.views id s v v' o at (none v.number mine.below)), ((taken, open_try, all, up, risen, (λ still. absurd (moved still)), (λ _. refl)), refl)))
+      let v' = sight v.number (v.loads + 1) (v.looks + 1) v.tries v.wins r v.began None in
+      (ScreenOf s v', keeps, tt, unmoved st id c (ScreenOf s v') 0 (screen_turns st.words st.views id s v v' o at (none v.number v.wins mine.below mine.won)), ((taken, open_try, all, up, risen, (λ still. absurd (moved still)), (λ _. refl)), refl)))
 
   -- the steps, at a view that is known
   pub reader_begins_as : (slots id : ℕ) (me : Me S View) (s : DayStock) (v : Sight) → me.0 ≡ ScreenOf s v → v.taken ≡ None

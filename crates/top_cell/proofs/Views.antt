@@ -1,12 +1,12 @@
 -- The rule of a cell where one view changes.
-use Rattle.std.proofs.Common.{◌≡◌, ◌≢◌, ℕ, zero, suc, ◌%◌, ◌≤◌, true, false, true≢false, List, [], ◌∷◌, set, refl, sym, ap, ◌∙◌, subst, ⊎_elim, le_trans}
+use Rattle.std.proofs.Common.{◌≡◌, ◌≢◌, ℕ, zero, suc, ◌%◌, ◌≤◌, true, false, true≢false, List, [], ◌∷◌, map, get_or, length, set, inl, refl, sym, ap, ◌∙◌, subst, ⊎_elim, arith, le_refl, le_trans, length-set}
 use Rattle.std.specs.Prelude.{slice_index}
 use mathlib.Core.Option.{some, some-ne-none, some-injective}
 use lib.ListN.{get_elem?}
 use lib.Seq.{set-get_or}
 use Rattle.atomic_table.specs.Table.{State, keeps, stepped}
 use Rattle.atomic_table.proofs.Lists.{at_set, set_else}
-use Rattle.top_cell.specs.Rule.{Sees, Fits, is_writers, IsOpen, CellHolds, new_cell, open_cell, CellRule}
+use Rattle.top_cell.specs.Rule.{IsAboveNoteOrNow, IsNotedOrNow, Sees, Fits, is_writers, IsOpen, CellHolds, new_cell, open_cell, CellRule, new_sight, note_of, sight_of}
 use Rattle.top_cell.specs.declared.rule.DayStock.{DayStock}
 use Rattle.top_cell.specs.declared.rule.Sight.{Sight}
 use Rattle.top_cell.specs.declared.rule.View.{View}
@@ -49,42 +49,68 @@ unmoved st id c w i h = subst (λ (ws : List ℕ). CellHolds ws (set st.views id
 -- other views of an open cell, of which one is the writer's, and which fit
 pub with_views : (words : List ℕ) (views views' : List View) (o : IsOpen words views)
     → ((u : View) × (get_elem? views' o.writer ≡ some u) × (is_writers u ≡ true))
-    → ((j : ℕ) (u : View) → get_elem? views' j ≡ some u → Fits o.stock o.count o.shown o.number o.writer j u) → CellHolds words views'
-with_views words views views' o one_writer each = open_cell record {
+    → length views ≤ length views'
+    → ((j : ℕ) (u : View) → get_elem? views' j ≡ some u → Fits o.stock o.count o.shown o.number o.writer o.noted j u) → CellHolds words views'
+with_views words views views' o one_writer longer each = open_cell record {
   stock = o.stock;
   count = o.count;
   shown = o.shown;
   number = o.number;
   writer = o.writer;
+  noted = o.noted;
   are = o.are;
   four = o.four;
   at_rest = o.at_rest;
   one_writer = one_writer;
+  few_noted = le_trans o.few_noted longer;
   each = each;
 }
 
 -- a screen's view changes, and no word
 pub screen_turns : (words : List ℕ) (views : List View) (id : ℕ) (s : DayStock) (v v' : Sight) → (o : IsOpen words views) → get_elem? views id ≡ some (ScreenOf s v)
-    → Sees o.count o.shown o.number v' → CellHolds words (set views id (ScreenOf s v'))
+    → Sees o.count o.shown o.number (note_of o.noted id) v' → CellHolds words (set views id (ScreenOf s v'))
 screen_turns words views id s v v' o at sees =
     with_views words views (set views id (ScreenOf s v')) o (writer_stays views o.writer id (ScreenOf s v) (ScreenOf s v') refl o.one_writer at)
-    (all_fit (Fits o.stock o.count o.shown o.number o.writer) views id (ScreenOf s v') ((o.each id (ScreenOf s v) at).0, sees) (λ j u _ e. o.each j u e))
+    (omega (arith, length-set views id (ScreenOf s v')))
+    (all_fit (Fits o.stock o.count o.shown o.number o.writer o.noted) views id (ScreenOf s v') ((o.each id (ScreenOf s v) at).0, sees) (λ j u _ e. o.each j u e))
+
+-- what a screen has found, by a note of it
+abbrev pub Finds : ℕ → ℕ → Sight → Sight → Type 0
+Finds count number note v =
+    IsNotedOrNow note.looks note.last v.looks v.last count × IsNotedOrNow note.tries note.began v.tries v.began count
+    × IsAboveNoteOrNow note.wins note.number v.wins v.number number
+
+-- what is known at a screen's seat, where it is noted now
+noted_sight : (views : List View) (j : ℕ) (s : DayStock) (v : Sight) → get_elem? views j ≡ some (ScreenOf s v) → note_of (map sight_of views) j ≡ v
+noted_sight [] j s v e = absurd (some-ne-none (ScreenOf s v) (sym e))
+noted_sight (x ∷ xs) zero s v e = ap sight_of (some-injective _ _ e)
+noted_sight (x ∷ xs) (suc j) s v e = noted_sight xs j s v e
+
+-- a note of now says all
+pub finds_noted : (views : List View) (j count number : ℕ) (s : DayStock) (v : Sight) → get_elem? views j ≡ some (ScreenOf s v) → Finds count number (note_of (map sight_of views) j) v
+finds_noted views j count number s v e =
+    subst (λ n. Finds count number n v) (sym (noted_sight views j s v e)) (inl (refl, refl), inl (refl, refl), inl (refl, le_refl v.number))
 
 -- what the views of others say stays so where the count has gone up, or is odd
-pub others_fit : (stock stock' : DayStock) (count count' : ℕ) (shown shown' : List ℕ) (number number' writer writer' j : ℕ)
+pub others_fit : (stock stock' : DayStock) (count count' : ℕ) (shown shown' : List ℕ) (number number' writer writer' : ℕ) (noted noted' : List Sight) (j : ℕ)
     → stock ≡ stock' → count ≤ count' → number ≤ number' → ((began : ℕ) → began ≤ count → began % 2 ≡ 0 → count' ≡ began → ⊥) → j ≢ writer
-    → (u : View) → Fits stock count shown number writer j u → Fits stock' count' shown' number' writer' j u
-others_fit stock stock' count count' shown shown' number number' writer writer' j same up more moved apart Unopened f = f
-others_fit stock stock' count count' shown shown' number number' writer writer' j same up more moved apart (WriterOf s n) f = absurd (apart f.0)
-others_fit stock stock' count count' shown shown' number number' writer writer' j same up more moved apart (Writing s x) f = absurd (apart f.0)
-others_fit stock stock' count count' shown shown' number number' writer writer' j same up more moved apart (ScreenOf s v) f = (
-  f.0 ∙ same,
-  record {
-    below = le_trans f.1.below more;
-    last = le_trans f.1.last up;
-    began = le_trans f.1.began up;
-    even = f.1.even;
-    tries = λ words _ is. absurd (moved v.began f.1.began f.1.even is);
-  },
-)
-others_fit stock stock' count count' shown shown' number number' writer writer' j same up more moved apart Spent f = tt
+    → (u : View) → ((s : DayStock) (v : Sight) → u ≡ ScreenOf s v → Finds count number (note_of noted j) v → Finds count' number' (note_of noted' j) v)
+    → Fits stock count shown number writer noted j u → Fits stock' count' shown' number' writer' noted' j u
+others_fit stock stock' count count' shown shown' number number' writer writer' noted noted' j same up more moved apart Unopened finds f = f
+others_fit stock stock' count count' shown shown' number number' writer writer' noted noted' j same up more moved apart (WriterOf s n) finds f = absurd (apart f.0)
+others_fit stock stock' count count' shown shown' number number' writer writer' noted noted' j same up more moved apart (Writing s x) finds f = absurd (apart f.0)
+others_fit stock stock' count count' shown shown' number number' writer writer' noted noted' j same up more moved apart (ScreenOf s v) finds f =
+    let found = finds s v refl (f.1.looked, f.1.tried, f.1.won) in (
+      f.0 ∙ same,
+      record {
+        below = le_trans f.1.below more;
+        last = le_trans f.1.last up;
+        began = le_trans f.1.began up;
+        even = f.1.even;
+        fit = λ words _ is. absurd (moved v.began f.1.began f.1.even is);
+        looked = found.0;
+        tried = found.1;
+        won = found.2;
+      },
+    )
+others_fit stock stock' count count' shown shown' number number' writer writer' noted noted' j same up more moved apart Spent finds f = tt

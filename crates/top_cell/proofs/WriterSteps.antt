@@ -1,22 +1,25 @@
 -- The steps of the writer.
-use Rattle.std.proofs.Common.{◌≡◌, ℕ, ◌+◌, ◌*◌, ◌%◌, ◌^◌, ◌<◌, ◌≤◌, true, List, ◌∷◌, ◌++◌, length, take, drop, set, refl, sym, ap, ◌∙◌, subst, arith, length-set, add-one, mod-eq_of_lt}
+use Rattle.std.proofs.Common.{◌≡◌, ◌≢◌, ℕ, ◌+◌, ◌*◌, ◌%◌, ◌^◌, ◌<◌, ◌≤◌, true, List, ◌∷◌, ◌++◌, map, length, take, drop, set, refl, sym, ap, ◌∙◌, subst, arith, length-set, add-one, mod-eq_of_lt}
+use Rattle.std.proofs.lemmas.List.{length-map}
 use Rattle.std.specs.Prelude.{slice_index}
 use mathlib.Core.Option.{some}
 use lib.ListN.{get_elem?}
 use Rattle.atomic_table.specs.Table.{Me, keeps, Allows}
-use Rattle.top_cell.specs.Rule.{ShowsOf, Fits, is_writers, IsOpen, CellHolds, open_cell, CellRule, Turns, change, number_in}
+use Rattle.top_cell.specs.Rule.{ShowsOf, Fits, is_writers, IsOpen, CellHolds, open_cell, CellRule, Turns, change, note_of, number_in, rest, sight_of}
 use Rattle.top_cell.specs.WriterBegins.{WriterBegun}
 use Rattle.top_cell.specs.WriterPuts.{WriterHasPut}
 use Rattle.top_cell.specs.WriterEnds.{WriterEnded}
-use Rattle.top_cell.proofs.Views.{open_at, set_there, all_fit, others_fit}
+use Rattle.top_cell.proofs.Views.{Finds, open_at, set_there, all_fit, others_fit, finds_noted}
 use Rattle.top_cell.proofs.Shown.{count_is, set_count, set_word, mixed_more, mixed_all, four_shown}
 use Rattle.top_cell.specs.declared.rule.DayStock.{DayStock}
 use Rattle.top_cell.specs.declared.rule.Change.{Change}
+use Rattle.top_cell.specs.declared.rule.Rest.{Rest}
+use Rattle.top_cell.specs.declared.rule.Sight.{Sight}
 use Rattle.top_cell.specs.declared.rule.View.{View}
-use Rattle.top_cell.specs.declared.rule.View.TheVariants.{Unopened, WriterOf, Writing}
+use Rattle.top_cell.specs.declared.rule.View.TheVariants.{Unopened, WriterOf, Writing, ScreenOf}
 
-not_writer : (s : DayStock) (n : ℕ) → Unopened ≡ WriterOf s n → ⊥
-not_writer s n e = cc
+not_writer : (s : DayStock) (r : Rest) → Unopened ≡ WriterOf s r → ⊥
+not_writer s r e = cc
 
 not_writing : (s : DayStock) (x : Change) → Unopened ≡ Writing s x → ⊥
 not_writing s x e = cc
@@ -24,47 +27,55 @@ not_writing s x e = cc
 up_by_one : (n k : ℕ) → n ≡ k → k < 2 ^ 40 → (n + 1) % 2 ^ 64 ≡ k + 1
 up_by_one n k is small = ap (λ m. (m + 1) % 2 ^ 64) is ∙ mod-eq_of_lt (omega arith)
 
--- the writer's step, which makes the count, the words and the number what they are now
-writer_turns : (words words' : List ℕ) (views : List View) (id : ℕ) (s : DayStock) (v w : View) (count' : ℕ) (shown' : List ℕ) (number' : ℕ)
+-- the writer's step, which makes the count, the words, the number and the notes what they are now
+writer_turns : (words words' : List ℕ) (views : List View) (id : ℕ) (s : DayStock) (v w : View) (count' : ℕ) (shown' : List ℕ) (number' : ℕ) (noted' : List Sight)
     → (o : IsOpen words views) → get_elem? views id ≡ some v → id ≡ o.writer → s ≡ o.stock → is_writers w ≡ true
     → words' ≡ count' ∷ shown' → length shown' ≡ 4 → (count' % 2 ≡ 0 → ShowsOf s number' shown' × (count' ≤ 2 * number'))
     → o.count ≤ count' → o.number ≤ number' → ((began : ℕ) → began ≤ o.count → began % 2 ≡ 0 → count' ≡ began → ⊥)
-    → Fits s count' shown' number' id id w
+    → length noted' ≤ length views
+    → ((j : ℕ) (t : DayStock) (y : Sight) → get_elem? views j ≡ some (ScreenOf t y) → Finds o.count o.number (note_of o.noted j) y → Finds count' number' (note_of noted' j) y)
+    → Fits s count' shown' number' id noted' id w
     → CellHolds words' (set views id w)
-writer_turns words words' views id s v w count' shown' number' o at here same is_writers are four at_rest up more moved mine = open_cell record {
+writer_turns words words' views id s v w count' shown' number' noted' o at here same is_writers are four at_rest up more moved few finds mine = open_cell record {
   stock = s;
   count = count';
   shown = shown';
   number = number';
   writer = id;
+  noted = noted';
   are = are;
   four = four;
   at_rest = at_rest;
   one_writer = (w, set_there views id v w at, is_writers);
-  each = all_fit (Fits s count' shown' number' id) views id w mine
-      (λ j u apart e. others_fit o.stock s o.count count' o.shown shown' o.number number' o.writer id j (sym same) up more moved (λ is. apart (is ∙ sym here)) u (o.each j u e));
+  few_noted = omega (arith, few, length-set views id w);
+  each = all_fit (Fits s count' shown' number' id noted') views id w mine
+      (λ j u apart e. others_fit o.stock s o.count count' o.shown shown' o.number number' o.writer id o.noted noted' j (sym same) up more moved (λ is. apart (is ∙ sym here)) u
+      (λ t y is. finds j t y (e ∙ ap some is)) (o.each j u e));
 }
 
 module _ {S : Type 0} where
-  pub writer_begins : (slots id : ℕ) (s : DayStock) (n : ℕ) (new : List ℕ) (c : List (ℕ × S)) → length s.day < 2 ^ 32 → ShowsOf s (number_in new) new → n < number_in new
-      → Allows CellRule slots id (WriterOf s n, c) 0 (λ n. (n + 1) % 2 ^ 64) (λ r m. Turns (WriterBegun new) (WriterOf s n, c) m)
-  writer_begins slots id s n new c few shows later st h _ at _ =
-      let o = open_at st.words st.views id (WriterOf s n) (not_writer s n) h at in
-      let mine = o.each id (WriterOf s n) at in
-      let rest = o.at_rest mine.3 in
-      let stood : ShowsOf s n o.shown = subst (λ (z : DayStock × ℕ). ShowsOf z.0 z.1 o.shown) (λ i. (sym mine.1 i, sym mine.2 i)) rest.0 in
-      let up : (slice_index st.words 0 + 1) % 2 ^ 64 ≡ o.count + 1 = up_by_one (slice_index st.words 0) o.count (count_is st.words o.count o.shown o.are) (omega (arith, rest.1, stood.0, few, mine.2)) in
-      let w = Writing s (change n o.shown new 0) in (
+  pub writer_begins : (slots id : ℕ) (s : DayStock) (own : Rest) (new : List ℕ) (c : List (ℕ × S)) → length s.day < 2 ^ 32 → ShowsOf s (number_in new) new → own.number < number_in new
+      → Allows CellRule slots id (WriterOf s own, c) 0 (λ n. (n + 1) % 2 ^ 64) (λ r m. Turns (WriterBegun new) (WriterOf s own, c) m)
+  writer_begins slots id s own new c few shows later st h _ at _ =
+      let n : ℕ = own.number in
+      let o = open_at st.words st.views id (WriterOf s own) (not_writer s own) h at in
+      let mine = o.each id (WriterOf s own) at in
+      let still = o.at_rest mine.3 in
+      let stood : ShowsOf s n o.shown = subst (λ (z : DayStock × ℕ). ShowsOf z.0 z.1 o.shown) (λ i. (sym mine.1 i, sym mine.2 i)) still.0 in
+      let up : (slice_index st.words 0 + 1) % 2 ^ 64 ≡ o.count + 1 = up_by_one (slice_index st.words 0) o.count (count_is st.words o.count o.shown o.are) (omega (arith, still.1, stood.0, few, mine.2)) in
+      let notes = map sight_of st.views in
+      let w = Writing s (change n o.shown new 0 notes) in (
         w,
         keeps,
         tt,
-        writer_turns st.words (set st.words 0 ((slice_index st.words 0 + 1) % 2 ^ 64)) st.views id s (WriterOf s n) w (o.count + 1) o.shown n o at mine.0 mine.1 refl
-            (set_count st.words o.count o.shown _ o.are ∙ ap (λ k. k ∷ o.shown) up) o.four (λ even. absurd (omega (arith, even, mine.3))) (omega arith) (omega (arith, mine.2)) (λ began a _ is. omega (arith, a, is)) (
+        writer_turns st.words (set st.words 0 ((slice_index st.words 0 + 1) % 2 ^ 64)) st.views id s (WriterOf s own) w (o.count + 1) o.shown n notes o at mine.0 mine.1 refl
+            (set_count st.words o.count o.shown _ o.are ∙ ap (λ k. k ∷ o.shown) up) o.four (λ even. absurd (omega (arith, even, mine.3))) (omega arith) (omega (arith, mine.2)) (λ began a _ is. omega (arith, a, is))
+            (omega (arith, length-map st.views sight_of)) (λ j t y e _. finds_noted st.views j (o.count + 1) n t y e) (
               refl,
               refl,
               record {
                 odd = omega (arith, mine.3);
-                bound = omega (arith, rest.1, mine.2);
+                bound = omega (arith, still.1, mine.2);
                 stands = refl;
                 old = stood;
                 new = shows;
@@ -72,8 +83,9 @@ module _ {S : Type 0} where
                 some_put = omega arith;
                 mixed = refl;
               },
+              refl,
             ),
-        ((o.shown, refl), refl),
+        ((o.shown, notes, refl), refl),
       )
 
   pub writer_puts : (slots id : ℕ) (s : DayStock) (x : Change) (b : ℕ) (c : List (ℕ × S)) → x.put < 4 → b ≡ slice_index x.new x.put
@@ -83,7 +95,7 @@ module _ {S : Type 0} where
       let mine = o.each id (Writing s x) at in
       let ch = mine.2 in
       let j : ℕ = x.put in
-      let w = Writing s (change x.number x.old x.new (j + 1)) in
+      let w = Writing s (change x.number x.old x.new (j + 1) x.noted) in
       let lengths = four_shown o.stock (number_in x.new) x.new ch.new in
       let lengths_old = four_shown o.stock o.number x.old ch.old in
       let mixed : set o.shown j b ≡ take (j + 1) x.new ++ drop (j + 1) x.old =
@@ -91,8 +103,9 @@ module _ {S : Type 0} where
         w,
         keeps,
         tt,
-        writer_turns st.words (set st.words (j + 1) b) st.views id s (Writing s x) w o.count (set o.shown j b) o.number o at mine.0 mine.1 refl
-            (set_word st.words o.count o.shown j b o.are) (length-set o.shown j b ∙ o.four) (λ even. absurd (omega (arith, even, ch.odd))) (omega arith) (omega arith) (λ began _ even is. omega (arith, even, is, ch.odd)) (
+        writer_turns st.words (set st.words (j + 1) b) st.views id s (Writing s x) w o.count (set o.shown j b) o.number o.noted o at mine.0 mine.1 refl
+            (set_word st.words o.count o.shown j b o.are) (length-set o.shown j b ∙ o.four) (λ even. absurd (omega (arith, even, ch.odd))) (omega arith) (omega arith) (λ began _ even is. omega (arith, even, is, ch.odd))
+            o.few_noted (λ j t y _ finds. finds) (
               refl,
               refl,
               record {
@@ -105,6 +118,7 @@ module _ {S : Type 0} where
                 some_put = omega (arith, few);
                 mixed = mixed;
               },
+              mine.3,
             ),
         (refl, refl),
       )
@@ -119,21 +133,23 @@ module _ {S : Type 0} where
       let new : ShowsOf s n x.new = subst (λ (z : DayStock). ShowsOf z n x.new) (sym mine.1) ch.new in
       let whole : o.shown ≡ x.new = ch.mixed ∙ mixed_all x.new x.old x.put all (four_shown o.stock n x.new ch.new) (four_shown o.stock o.number x.old ch.old) in
       let up : (slice_index st.words 0 + 1) % 2 ^ 64 ≡ o.count + 1 = up_by_one (slice_index st.words 0) o.count (count_is st.words o.count o.shown o.are) (omega (arith, ch.bound, ch.later, new.0, few)) in
-      let w = WriterOf s n in (
+      let notes = map sight_of st.views in
+      let w = WriterOf s (rest n notes) in (
         w,
         keeps,
         tt,
-        writer_turns st.words (set st.words 0 ((slice_index st.words 0 + 1) % 2 ^ 64)) st.views id s (Writing s x) w (o.count + 1) o.shown n o at mine.0 mine.1 refl
+        writer_turns st.words (set st.words 0 ((slice_index st.words 0 + 1) % 2 ^ 64)) st.views id s (Writing s x) w (o.count + 1) o.shown n notes o at mine.0 mine.1 refl
             (set_count st.words o.count o.shown _ o.are ∙ ap (λ k. k ∷ o.shown) up) o.four
             (λ _. (subst (λ ws. ShowsOf s n ws) (sym whole) new, omega (arith, ch.bound, ch.later))) (omega arith) (omega (arith, ch.later)) (λ began a _ is. omega (arith, a, is))
-            (refl, refl, refl, omega (arith, ch.odd)),
-        (refl, refl),
+            (omega (arith, length-map st.views sight_of)) (λ j t y e _. finds_noted st.views j (o.count + 1) n t y e)
+            (refl, refl, refl, omega (arith, ch.odd), refl),
+        ((notes, refl), refl),
       )
 
   -- the steps, at a view that is known
-  pub writer_begins_as : (slots id : ℕ) (me : Me S View) (s : DayStock) (n : ℕ) (new : List ℕ) → me.0 ≡ WriterOf s n → length s.day < 2 ^ 32 → ShowsOf s (number_in new) new → n < number_in new
+  pub writer_begins_as : (slots id : ℕ) (me : Me S View) (s : DayStock) (own : Rest) (new : List ℕ) → me.0 ≡ WriterOf s own → length s.day < 2 ^ 32 → ShowsOf s (number_in new) new → own.number < number_in new
       → Allows CellRule slots id me 0 (λ n. (n + 1) % 2 ^ 64) (λ r m. Turns (WriterBegun new) me m)
-  writer_begins_as slots id me s n new is few shows later = subst (λ (z : Me S View). Allows CellRule slots id z 0 (λ n. (n + 1) % 2 ^ 64) (λ r m. Turns (WriterBegun new) z m)) (λ i. (sym is i, me.1)) (writer_begins slots id s n new me.1 few shows later)
+  writer_begins_as slots id me s own new is few shows later = subst (λ (z : Me S View). Allows CellRule slots id z 0 (λ n. (n + 1) % 2 ^ 64) (λ r m. Turns (WriterBegun new) z m)) (λ i. (sym is i, me.1)) (writer_begins slots id s own new me.1 few shows later)
 
   pub writer_puts_as : (slots id : ℕ) (me : Me S View) (s : DayStock) (x : Change) (i b : ℕ) → me.0 ≡ Writing s x → x.put < 4 → b ≡ slice_index x.new x.put → i ≡ x.put + 1
       → Allows CellRule slots id me i (λ _. b) (λ _ m. Turns WriterHasPut me m)

@@ -21,18 +21,24 @@ pub record WriterAt : Type 0 where
   pub place : Place
   pub message : ℕ
 
--- a writer in the middle of a change to a message, which has put this many of the four words
+-- a writer in the middle of a change from the message at which it stands to another one, which has put this many of
+-- the four words
 pub record ChangeAt : Type 0 where
   pub place : Place
+  pub from : ℕ
   pub to : ℕ
   pub put : ℕ
 
--- a screen, which stands at a message: how often it has loaded the count or a word of its cell, the last count that
--- it has loaded, and the even one at which its last try began
+-- a screen, which stands at a message: how often it has loaded the count or a word of its cell, how often it has loaded
+-- the count, has begun a try and has won one, the last count that it has loaded, and the even one at which its last try
+-- began
 pub record ScreenAt : Type 0 where
   pub place : Place
   pub message : ℕ
   pub loads : ℕ
+  pub looks : ℕ
+  pub tries : ℕ
+  pub wins : ℕ
   pub last : ℕ
   pub began : ℕ
 
@@ -60,7 +66,16 @@ AreApart board =
 
 -- a screen that stands at a message and has made no loads
 abbrev pub new_screen : Place → ℕ → ScreenAt
-new_screen own message = record { place = own; message = message; loads = 0; last = 0; began = 0 }
+new_screen own message = record {
+  place = own;
+  message = message;
+  loads = 0;
+  looks = 0;
+  tries = 0;
+  wins = 0;
+  last = 0;
+  began = 0;
+}
 
 -- the writer of a cell that has published nothing
 abbrev pub new_writer : List (List ℕ) → ℕ → ℕ → CellId → WriterAt

@@ -8,5 +8,5 @@ use Rattle.top_cell.specs.Rule.{sight}
 -- the screen that two become, of which the first stays
 abbrev pub joined : View → View → View
 joined (ScreenOf stock v) (ScreenOf other w) =
-    ScreenOf stock (sight (max v.number w.number) v.loads v.last v.began v.taken)
+    ScreenOf stock (sight (max v.number w.number) v.loads v.looks v.tries v.wins v.last v.began v.taken)
 joined v w = v

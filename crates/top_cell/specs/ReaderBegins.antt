@@ -11,6 +11,8 @@ use Rattle.top_cell.specs.Rule.{sight}
 abbrev pub ReaderBegun : ℕ → View → View → Type 0
 ReaderBegun count (ScreenOf stock v) after =
     (v.taken ≡ None) × (v.last ≤ count) × (v.began ≤ count)
-    × (count % 2 ≡ 0 → after ≡ ScreenOf stock (sight v.number (v.loads + 1) count count (Some [])))
-    × (count % 2 ≡ 1 → after ≡ ScreenOf stock (sight v.number (v.loads + 1) count v.began None))
+    × (count % 2 ≡ 0 → after
+    ≡ ScreenOf stock (sight v.number (v.loads + 1) (v.looks + 1) (v.tries + 1) v.wins count count (Some [])))
+    × (count % 2 ≡ 1 → after
+    ≡ ScreenOf stock (sight v.number (v.loads + 1) (v.looks + 1) v.tries v.wins count v.began None))
 ReaderBegun count _ after = ⊥

@@ -13,6 +13,8 @@ ReaderEnded count (ScreenOf stock v) after =
     (words : List ℕ) × (v.taken ≡ Some words) × (length words ≡ 4) × (v.began ≤ count) × (v.last ≤ count)
     × (count ≡ v.began
     → ShowsOf stock (number_in words) words × (v.number ≤ number_in words)
-    × (after ≡ ScreenOf stock (sight (number_in words) (v.loads + 1) count v.began None)))
-    × (count ≢ v.began → after ≡ ScreenOf stock (sight v.number (v.loads + 1) count v.began None))
+    × (after ≡ ScreenOf stock
+    (sight (number_in words) (v.loads + 1) (v.looks + 1) v.tries (v.wins + 1) count v.began None)))
+    × (count ≢ v.began
+    → after ≡ ScreenOf stock (sight v.number (v.loads + 1) (v.looks + 1) v.tries v.wins count v.began None))
 ReaderEnded count _ after = ⊥

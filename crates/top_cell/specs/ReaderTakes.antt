@@ -8,5 +8,6 @@ use Rattle.top_cell.specs.Rule.{sight}
 abbrev pub ReaderTook : ℕ → View → View → Type 0
 ReaderTook word (ScreenOf stock v) after =
     (words : List ℕ) × (v.taken ≡ Some words) × (length words < 4)
-    × (after ≡ ScreenOf stock (sight v.number (v.loads + 1) v.last v.began (Some (words ++ word ∷ []))))
+    × (after ≡ ScreenOf stock
+    (sight v.number (v.loads + 1) v.looks v.tries v.wins v.last v.began (Some (words ++ word ∷ []))))
 ReaderTook word _ after = ⊥

@@ -9,38 +9,52 @@ Stands before words after =
     ShowsOf (stock_of before) (number_in words) words × (number_of before ≤ number_in words)
     × (number_of after ≡ number_in words)
 
--- the screen's number stays, and the count, which is the last that it has loaded, is odd or above the one at which
--- its last try began
+-- the screen's number stays, and the count, which is the last that it has loaded, is odd, or a try began meanwhile and
+-- it is above the one at which that try began
 abbrev pub WasBusy : View → ℕ → View → Type 0
 WasBusy before count after =
     (number_of after ≡ number_of before) × (count ≡ (sight_of after).last)
-    × ((count % 2 ≡ 1) ⊎ ((sight_of after).began < count))
+    × ((count % 2 ≡ 1)
+    ⊎ (((sight_of before).tries < (sight_of after).tries) × ((sight_of after).began < count)))
 
 -- the last count that the screen has loaded is even, and its last try began at it
 abbrev pub EndsAtRest : View → Type 0
 EndsAtRest after = ((sight_of after).last ≡ (sight_of after).began) × ((sight_of after).last % 2 ≡ 0)
 
--- neither the last count that the screen has loaded nor the one at which its last try began is lower than before
+-- neither the last count that the screen has loaded nor the one at which its last try began is lower than before, and
+-- it has loaded the count, begun a try and won one as often as before or more often
 abbrev pub CountsRise : View → View → Type 0
 CountsRise before after =
     ((sight_of before).last ≤ (sight_of after).last) × ((sight_of before).began ≤ (sight_of after).began)
+    × ((sight_of before).looks ≤ (sight_of after).looks) × ((sight_of before).tries ≤ (sight_of after).tries)
+    × ((sight_of before).wins ≤ (sight_of after).wins)
+
+-- the count was loaded, and a try was won
+abbrev pub IsWon : View → View → Type 0
+IsWon before after =
+    ((sight_of before).looks < (sight_of after).looks) × ((sight_of before).wins < (sight_of after).wins)
 
 -- one try gave these words, by six loads
 abbrev pub Got : View → List ℕ → View → Type 0
 Got before words after =
     Stands before words after × ((sight_of after).loads ≡ (sight_of before).loads + 6) × EndsAtRest after
+    × IsWon before after
 
 -- one try was lost, by one to six loads
 abbrev pub Lost : View → ℕ → View → Type 0
 Lost before count after =
     WasBusy before count after × ((sight_of before).loads < (sight_of after).loads)
     × ((sight_of after).loads ≤ (sight_of before).loads + 6)
+    × ((sight_of before).looks < (sight_of after).looks)
 
 -- one of several tries gave these words, by six loads or more
 abbrev pub Won : View → List ℕ → View → Type 0
 Won before words after =
     Stands before words after × ((sight_of before).loads + 6 ≤ (sight_of after).loads) × EndsAtRest after
+    × IsWon before after
 
 -- all tries were lost, by one load or more
 abbrev pub Busied : View → ℕ → View → Type 0
-Busied before count after = WasBusy before count after × ((sight_of before).loads < (sight_of after).loads)
+Busied before count after =
+    WasBusy before count after × ((sight_of before).loads < (sight_of after).loads)
+    × ((sight_of before).looks < (sight_of after).looks)

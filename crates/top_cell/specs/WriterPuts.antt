@@ -6,5 +6,5 @@ use Rattle.top_cell.specs.Rule.{change}
 
 -- the writer has put one word more
 abbrev pub WriterHasPut : View → View → Type 0
-WriterHasPut (Writing stock x) after = after ≡ Writing stock (change x.number x.old x.new (x.put + 1))
+WriterHasPut (Writing stock x) after = after ≡ Writing stock (change x.number x.old x.new (x.put + 1) x.noted)
 WriterHasPut _ after = ⊥

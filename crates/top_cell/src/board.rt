@@ -1,8 +1,8 @@
 //! The cells of a day's stocks.
-ghost use Rattle.std.specs.Prelude.{◌≡◌, ◌<◌, IfOk, Some, length, map, slice_get};
+ghost use Rattle.std.specs.Prelude.{◌≡◌, ◌<◌, [], IfOk, Some, length, map, slice_get};
 ghost use Rattle.itch_table.specs.Shows.{locates_of_day};
 ghost use Rattle.top_cell.specs.Boards.{AreApart, AreNew, cell_id, new_writer};
-ghost use Rattle.top_cell.specs.Rule.{day_stock};
+ghost use Rattle.top_cell.specs.Rule.{day_stock, rest};
 ghost use Rattle.top_cell.specs.Seats.{IsSeatOf};
 ghost use Rattle.top_cell.specs.declared.rule.View.TheVariants.{Unopened, WriterOf};
 
@@ -50,7 +50,7 @@ fn open<J: Naming, A: Allocator>(cell: &Words, mut seat: Seat, day: &Day<A>, loc
     requires own { IsSeatOf cell.now.table_id seat }
     requires first { seat.me.0 ≡ Unopened }
     ensures own { result.table_id ≡ seat.table_id }
-    ensures writer { result.me.0 ≡ WriterOf (day_stock day.now.payloads locate) 0 }
+    ensures writer { result.me.0 ≡ WriterOf (day_stock day.now.payloads locate) (rest 0 []) }
 {
     cell.load::<Opens<J>>(&mut seat, 0);
     seat

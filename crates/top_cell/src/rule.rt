@@ -8,32 +8,44 @@ pub struct DayStock {
     pub locate: u16,
 }
 
+/// What a screen knows: the number of the message that it has read last, how often it has loaded the count or a word,
+/// how often it has loaded the count, has begun a try and has won one, the last count that it has loaded, the even one
+/// at which its last try began, and, while a try is open, the words that it has taken. No value of it is made.
+pub struct Sight {
+    pub number: u32,
+    pub loads: u64,
+    pub looks: u64,
+    pub tries: u64,
+    pub wins: u64,
+    pub last: u64,
+    pub began: u64,
+    pub taken: Option<LinkedList<u64>>,
+}
+
+/// What a writer knows outside any change: the number at which it stands, and what was known at each seat when it
+/// changed the count last. No value of it is made.
+pub struct Rest {
+    pub number: u32,
+    pub noted: LinkedList<Sight>,
+}
+
 /// What a writer knows in the middle of a change: the number at which it stands, the words that stood, those that it
-/// puts, and how many it has put. No value of it is made.
+/// puts, how many it has put, and what was known at each seat when it changed the count last. No value of it is made.
 pub struct Change {
     pub number: u32,
     pub old: LinkedList<u64>,
     pub new: LinkedList<u64>,
     pub put: u64,
-}
-
-/// What a screen knows: the number of the message that it has read last, how often it has loaded the count or a word,
-/// the last count that it has loaded, the even one at which its last try began, and, while a try is open, the words
-/// that it has taken. No value of it is made.
-pub struct Sight {
-    pub number: u32,
-    pub loads: u64,
-    pub last: u64,
-    pub began: u64,
-    pub taken: Option<LinkedList<u64>>,
+    pub noted: LinkedList<Sight>,
 }
 
 /// What is known at one seat of a cell. No value of it is made.
 pub enum View {
     /// That the cell isn't opened yet.
     Unopened,
-    /// The writer's: its stock, and the number of the message that the words show.
-    WriterOf(DayStock, u32),
+    /// The writer's outside any change: its stock, and what it knows, with the number of the message that the words
+    /// show.
+    WriterOf(DayStock, Rest),
     /// The writer's in the middle of a change.
     Writing(DayStock, Change),
     /// A screen's: its stock, and what it knows of the cell.

@@ -38,6 +38,9 @@ impl Model for Screen {
       place = place s.seat.me.0 s.index s.seat.table_id;
       message = s.message;
       loads = (sight_of s.seat.me.0).loads;
+      looks = (sight_of s.seat.me.0).looks;
+      tries = (sight_of s.seat.me.0).tries;
+      wins = (sight_of s.seat.me.0).wins;
       last = (sight_of s.seat.me.0).last;
       began = (sight_of s.seat.me.0).began;
     } };
@@ -49,8 +52,8 @@ impl Model for Screen {
 #[derive(Debug, Clone, Copy, PartialEq, Eq)]
 pub struct Busy {
     /// How often the writer had begun or ended a change, when the glance looked last: odd while it was changing the
-    /// cell, and else even and more than when the last try began. It is no lower than any count that the screen has
-    /// loaded before.
+    /// cell, and else even and more than when the glance's last try began. It is no lower than any count that the
+    /// screen has loaded before.
     pub count: u64,
 }
 
@@ -76,8 +79,9 @@ impl Screen {
     /// It waits for nobody. An error says that the writer was changing the cell at each try; the screen then stands
     /// where it stood. Where no change is under way from the beginning to the end of a try, it succeeds.
     ///
-    /// After a reading the last count that was loaded is the even one at which the try began. So a screen that has read
-    /// the cell isn't busy at a later glance while the count is still the same.
+    /// By the rule of a cell, a screen that has loaded the count, begun a try or won one in a call has found there what
+    /// stood at some moment of the call. So a reading is of no earlier message than the cell showed when the call
+    /// began, and a glance during which the count is even and doesn't change isn't busy.
     pub fn glance<A: Allocator>(
         &mut self,
         board: &Board<'_, A>,
@@ -91,9 +95,13 @@ impl Screen {
         ensures later { IfOk result (λ reading. self.old.message ≤ reading.message) }
         ensures stands { IfOk result (λ reading. self.new.message ≡ reading.message) }
         ensures whole { IfOk result (λ _. self.old.loads + 6 ≤ self.new.loads) }
+        ensures won { IfOk result (λ _. self.old.wins < self.new.wins) }
         ensures busy { IfErr result (λ busy. (self.new.message ≡ self.old.message)
-            × (busy.count ≡ self.new.last) × ((busy.count % 2 ≡ 1) ⊎ (self.new.began < busy.count))) }
-        ensures counts { (self.old.last ≤ self.new.last) × (self.old.began ≤ self.new.began) }
+            × (busy.count ≡ self.new.last) × ((busy.count % 2 ≡ 1)
+            ⊎ ((self.old.tries < self.new.tries) × (self.new.began < busy.count)))) }
+        ensures looked { self.old.looks < self.new.looks }
+        ensures counts { (self.old.last ≤ self.new.last) × (self.old.began ≤ self.new.began)
+            × (self.old.tries ≤ self.new.tries) × (self.old.wins ≤ self.new.wins) }
         ensures even { IfOk result (λ _. (self.new.last ≡ self.new.began) × (self.new.last % 2 ≡ 0)) }
         ensures loads { (self.old.loads < self.new.loads) × (self.new.loads ≤ self.old.loads + 6 * tries) }
     {
@@ -109,7 +117,7 @@ impl Screen {
     }
 
     /// The stock's best bid and ask after some message, which isn't earlier than the one at which the screen stood
-    /// and becomes it. The words are loaded anew at each call.
+    /// and becomes it, nor than the one that the cell showed when the call began.
     ///
     /// It glances until it sees the cell outside a change, and may wait for changes that are under way.
     pub fn read<R: Wait, A: Allocator>(&mut self, rt: &R, board: &Board<'_, A>) -> Reading
@@ -118,7 +126,10 @@ impl Screen {
         ensures shows { Shows self.old.place.day self.old.place.locate result.message (words_read result) }
         ensures later { self.old.message ≤ result.message }
         ensures stands { self.new.message ≡ result.message }
-        ensures counts { (self.old.last ≤ self.new.last) × (self.old.began ≤ self.new.began) }
+        ensures won { self.old.wins < self.new.wins }
+        ensures looked { self.old.looks < self.new.looks }
+        ensures counts { (self.old.last ≤ self.new.last) × (self.old.began ≤ self.new.began)
+            × (self.old.tries ≤ self.new.tries) }
         ensures even { (self.new.last ≡ self.new.began) × (self.new.last % 2 ≡ 0) }
         ensures loads { self.old.loads < self.new.loads }
     {

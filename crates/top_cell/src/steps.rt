@@ -14,8 +14,8 @@ use std::marker::{Brand, Model};
 
 /// A writer in the middle of a change, during which each glance at its cell is busy. It has to be spent by `end`.
 ///
-/// It is seen as the writer's cell, the number of the message to which it changes the cell, and how many of the four
-/// words it has put.
+/// It is seen as the writer's cell, the number of the message at which the writer stands, that of the message to which
+/// it changes the cell, and how many of the four words it has put.
 pub struct Opened {
     seat: Seat,
     index: usize,
@@ -27,11 +27,17 @@ pub struct Opened {
 
 impl Model for Opened {
     ghost use Rattle.top_cell.specs.Boards.{ChangeAt, place};
+    ghost use Rattle.top_cell.specs.Rule.{number_of};
     ghost use Rattle.top_cell.specs.Seats.{IsChangesSeat};
 
     ghost Value = { ChangeAt };
 
-    ghost view = { λ w. record { place = place w.seat.me.0 w.index w.seat.table_id; to = w.message; put = w.put } };
+    ghost view = { λ w. record {
+      place = place w.seat.me.0 w.index w.seat.table_id;
+      from = number_of w.seat.me.0;
+      to = w.message;
+      put = w.put;
+    } };
 
     ghost invariant = { λ w. IsChangesSeat w.seat w.locate w.message w.words w.put };
 }
@@ -48,7 +54,7 @@ pub fn begin<A: Allocator>(
     requires later { writer.message < message }
     requires within { message ≤ length writer.place.day }
     requires top { top ≡ top_after writer.place.day writer.place.locate message }
-    ensures { result ≡ record { place = writer.place; to = message; put = 0 } }
+    ensures { result ≡ record { place = writer.place; from = writer.message; to = message; put = 0 } }
 {
     let TopWriter {
         mut seat,

@@ -17,7 +17,8 @@ fn take_words(cell: &Words, seat: &mut Seat) -> [u64; 4]
         × ((sight_of seat.old.me.0).taken ≡ Some []) }
     ensures same { IsSameSeat seat.old seat.new }
     ensures took { let v = sight_of seat.old.me.0 in seat.new.me.0
-        ≡ ScreenOf (stock_of seat.old.me.0) (sight v.number (v.loads + 4) v.last v.began (Some result)) }
+        ≡ ScreenOf (stock_of seat.old.me.0)
+        (sight v.number (v.loads + 4) v.looks v.tries v.wins v.last v.began (Some result)) }
     ensures slots { seat.new.me.1 ≡ seat.old.me.1 }
 {
     let mut words = [0; 4];

@@ -5,7 +5,6 @@ ghost use Rattle.top_cell.specs.Seats.{HasFewMessages, IsSameSeat, IsSeatOf};
 ghost use Rattle.top_cell.specs.WriterBegins.{WriterBegun};
 ghost use Rattle.top_cell.specs.WriterEnds.{WriterEnded};
 ghost use Rattle.top_cell.specs.WriterPuts.{WriterHasPut};
-ghost use Rattle.top_cell.specs.declared.rule.View.TheVariants.{WriterOf};
 
 use crate::kinds::writer_begins::{Coming, WriterBegins};
 use crate::kinds::writer_ends::WriterEnds;
@@ -55,7 +54,8 @@ pub(crate) fn write(cell: &Words, seat: &mut Seat, words: &[u64; 4])
     requires words { ShowsOf (stock_of seat.old.me.0) (number_in words.now) words.now
         × (number_of seat.old.me.0 < number_in words.now) }
     ensures same { IsSameSeat seat.old seat.new }
-    ensures stands { seat.new.me.0 ≡ WriterOf (stock_of seat.old.me.0) (number_in words.now) }
+    ensures stands { IsIdle seat.new.me.0 × (stock_of seat.new.me.0 ≡ stock_of seat.old.me.0)
+        × (number_of seat.new.me.0 ≡ number_in words.now) }
     ensures slots { seat.new.me.1 ≡ seat.old.me.1 }
 {
     begin_write::<Brand>(cell, seat, words);

@@ -26,7 +26,7 @@ loop-index-preserved c =
     let more = take_more_set c.loop-index.words k c.load.result (omega (arith, i.1)) in (
       (e.0 ∙ i.0.0, e.1 ∙ i.0.1),
       length-set c.loop-index.words k c.load.result ∙ i.1,
-      t.3 ∙ ap (λ (ws : List ℕ). ScreenOf s (sight v.number ((v.loads + k) + 1) v.last v.began (Some (ws ++ c.load.result ∷ [])))) same
-          ∙ (λ j. ScreenOf s (sight v.number (add_assoc v.loads k 1 j) v.last v.began (Some (sym more j)))),
+      t.3 ∙ ap (λ (ws : List ℕ). ScreenOf s (sight v.number ((v.loads + k) + 1) v.looks v.tries v.wins v.last v.began (Some (ws ++ c.load.result ∷ [])))) same
+          ∙ (λ j. ScreenOf s (sight v.number (add_assoc v.loads k 1 j) v.looks v.tries v.wins v.last v.began (Some (sym more j)))),
       e.2.1 ∙ i.3,
     )

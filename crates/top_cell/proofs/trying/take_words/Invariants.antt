@@ -8,5 +8,5 @@ abbrev pub invariant-loop-index : goal.invariant-loop-index
 invariant-loop-index l =
     let v = sight_of l.initial.seat.me.0 in
     IsSameSeat l.initial.seat l.seat × (length l.words ≡ 4)
-    × (l.seat.me.0 ≡ ScreenOf (stock_of l.initial.seat.me.0) (sight v.number (v.loads + l.index) v.last v.began (Some (take l.index l.words))))
+    × (l.seat.me.0 ≡ ScreenOf (stock_of l.initial.seat.me.0) (sight v.number (v.loads + l.index) v.looks v.tries v.wins v.last v.began (Some (take l.index l.words))))
     × (l.seat.me.1 ≡ l.initial.seat.me.1)
