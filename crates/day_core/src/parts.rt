@@ -5,6 +5,7 @@ ghost use Rattle.itch_table.specs.Shows.{locates_of_day};
 ghost use Rattle.day_core.specs.Owners.{fixed_pieces, own_of};
 
 use crate::merging::Piece;
+use crate::worker_count::WorkerCount;
 use binaryfile::Day;
 use std::alloc::{AllocError, Allocator};
 use std::marker::Model;
@@ -12,11 +13,10 @@ use std::snapshot::Snapshot;
 
 /// The parts of a day, one for each worker, and what belongs to none.
 ///
-/// A stock belongs to the worker whose number is the remainder of its locate code by the number of workers, which is
-/// from 1 to 64.
+/// A stock belongs to the worker whose number is the remainder of its locate code by the number of workers.
 #[derive(Drop)]
 pub struct Parts<A: Allocator> {
-    pub(crate) workers: u32,
+    pub(crate) workers: WorkerCount,
     pub(crate) locates: Vec<u16, A>,
     pub(crate) own: Vec<Vec<u32, A>, A>,
     pub(crate) fixed: Vec<Piece, A>,
@@ -45,7 +45,7 @@ impl<A: Allocator> Parts<A> {
         // The numbers of the day's messages fit 32 bits.
         ensures few { length self.now.day < 2 ^ 32 }
     {
-        self.workers
+        self.workers.get()
     }
 
     /// The locate codes of the stocks that have messages in the day, rising.

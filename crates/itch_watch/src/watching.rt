@@ -1,5 +1,5 @@
 //! A screen of one stock, beside the workers that replay its day.
-ghost use Rattle.std.specs.Prelude.{◌≡◌, ◌<◌, ◌≤◌, ℕ, List, All, IfOk, length, map, slice_index};
+ghost use Rattle.std.specs.Prelude.{◌≡◌, ◌<◌, ℕ, List, All, IfOk, length, map, slice_index};
 ghost use Rattle.std.specs.List.{Contains};
 ghost use Rattle.day_core.specs.Owners.{last_message};
 ghost use Rattle.itch_table.specs.Projection.{IsQuiet};
@@ -10,7 +10,7 @@ ghost use Rattle.top_cell.specs.Boards.{AreNew, IsOn};
 ghost use Rattle.itch_watch.specs.Watching.{AreSeen, AreSeenToTheEnd, IsReading, IsScreenOf};
 
 use binaryfile::Day;
-use day_core::{Parts, parts_of};
+use day_core::{Parts, WorkerCount, parts_of};
 use itch_table::one_row_of_words;
 use std::alloc::{AllocError, Allocator};
 use std::sync::Wait;
@@ -205,11 +205,10 @@ pub fn watch_stock<R: Threads + Wait + Sync, A: Allocator + Copy + Send + Sync, 
     alloc: A,
     day: &Day<A>,
     locate: u16,
-    workers: u32,
+    workers: WorkerCount,
     gate: &G,
     seen: &AtomicU64,
 ) -> Result<Vec<Reading, A>, AllocError>
-    requires workers { (1 ≤ workers) × (workers ≤ 64) }
     requires bytes { All AreBytes day.now.payloads }
     requires stock { HasMessage day.now.payloads locate }
     ensures { IfOk result (λ readings. AreSeenToTheEnd day.now.payloads locate readings.items) }
