@@ -9,7 +9,6 @@ use crate::parts::Parts;
 use binaryfile::Day;
 use itch_table::Outcome;
 use std::alloc::{AllocError, Allocator};
-use std::collections::VecDeque;
 use stock_machine::Stock;
 
 /// What a whole day makes.
@@ -89,7 +88,7 @@ pub fn assemble<A: Allocator + Copy>(
     parts: &Parts<A>,
     day: &Day<A>,
     outcomes: Vec<Vec<Outcome, A>, A>,
-    stocks: Vec<VecDeque<Stock<A>, A>, A>,
+    stocks: Vec<Vec<Stock<A>, A>, A>,
 ) -> Result<ReplayedDay<A>, AllocError>
     requires day { day.now.payloads ≡ parts.now.day }
     requires outcomes { map (λ own. own.items) outcomes.items ≡ each_worker (outcomes_by parts.now) parts.now }

@@ -8,7 +8,6 @@ use crate::runner::Runner;
 use binaryfile::Day;
 use itch_table::Outcome;
 use std::alloc::{AllocError, Allocator};
-use std::collections::VecDeque;
 use stock_machine::Stock;
 
 // Does all messages of a worker: what became of each, and the machines of the worker's stocks after them.
@@ -17,7 +16,7 @@ fn replay_part<A: Allocator + Copy>(
     parts: &Parts<A>,
     day: &Day<A>,
     worker: u32,
-) -> Result<(Vec<Outcome, A>, VecDeque<Stock<A>, A>), AllocError>
+) -> Result<(Vec<Outcome, A>, Vec<Stock<A>, A>), AllocError>
     requires day { day.now.payloads ≡ parts.now.day }
     ensures outcomes { IfOk result (λ made. made.0.items ≡ outcomes_by parts.now worker) }
     ensures stocks { IfOk result (λ made.
@@ -28,7 +27,7 @@ fn replay_part<A: Allocator + Copy>(
     while let Some(turned) = runner.turn(day)? {
         outcomes.push(turned.piece.outcome)?;
     }
-    Ok((outcomes, VecDeque::from_vec(runner.into_stocks())))
+    Ok((outcomes, runner.into_stocks()))
 }
 
 /// Replays a day by its parts, one worker after another, and puts together what they made. The caller passes the day

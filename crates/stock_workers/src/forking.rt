@@ -12,7 +12,6 @@ use binaryfile::Day;
 use day_core::Parts;
 use itch_table::Outcome;
 use std::alloc::{AllocError, Allocator};
-use std::collections::VecDeque;
 use std::sync::Wait;
 use std::thread::{Threads, map_vec};
 use stock_machine::Stock;
@@ -30,8 +29,8 @@ pub(crate) struct Waiting<'p, A: Allocator> {
 #[derive(Drop)]
 pub(crate) struct Finished<A: Allocator> {
     pub outcomes: Vec<Outcome, A>,
-    pub stocks: VecDeque<Stock<A>, A>,
-    pub writers: VecDeque<TopWriter, A>,
+    pub stocks: Vec<Stock<A>, A>,
+    pub writers: Vec<TopWriter, A>,
 }
 
 // All turns of one worker.

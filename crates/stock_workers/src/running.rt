@@ -12,7 +12,6 @@ use binaryfile::Day;
 use day_core::{Parts, SplitFault, assemble, by_worker, in_order, split};
 use itch_table::Outcome;
 use std::alloc::{AllocError, Allocator};
-use std::collections::VecDeque;
 use std::sync::Wait;
 use std::thread::Threads;
 use stock_machine::Stock;
@@ -52,8 +51,8 @@ impl From<AllocError> for RunFault {
 #[derive(Drop)]
 struct Gathered<A: Allocator> {
     outcomes: Vec<Vec<Outcome, A>, A>,
-    stocks: Vec<VecDeque<Stock<A>, A>, A>,
-    writers: Vec<VecDeque<TopWriter, A>, A>,
+    stocks: Vec<Vec<Stock<A>, A>, A>,
+    writers: Vec<Vec<TopWriter, A>, A>,
 }
 
 // The workers of a day before they start, in the order of their numbers.
@@ -69,12 +68,8 @@ fn waiting_workers<'p, A: Allocator + Copy>(
 {
     let count = parts.workers();
     let lists = by_worker(alloc, parts, writers)?;
-    let mut lists = VecDeque::from_vec(lists);
     let mut all = Vec::with_capacity(alloc, count as usize)?;
-    for worker in 0..count {
-        let Some(writers) = lists.pop_front() else {
-            unreachable!()
-        };
+    for (worker, writers) in (0..count).zip(lists) {
         all.push(Waiting {
             parts,
             worker,
@@ -100,15 +95,11 @@ fn gather<A: Allocator + Copy>(
         ≡ each_worker (for_own_stocks (λ locate. at_last parts.now.day (writer locate)) parts.now)
         parts.now) }
 {
-    let count = parts.workers();
-    let mut made = VecDeque::from_vec(made);
-    let mut outcomes = Vec::with_capacity(alloc, count as usize)?;
-    let mut stocks = Vec::with_capacity(alloc, count as usize)?;
-    let mut writers = Vec::with_capacity(alloc, count as usize)?;
-    for worker in 0..count {
-        let Some(one) = made.pop_front() else {
-            unreachable!()
-        };
+    let count = made.len();
+    let mut outcomes = Vec::with_capacity(alloc, count)?;
+    let mut stocks = Vec::with_capacity(alloc, count)?;
+    let mut writers = Vec::with_capacity(alloc, count)?;
+    for one in made {
         let finished = one?;
         outcomes.push(finished.outcomes)?;
         stocks.push(finished.stocks)?;

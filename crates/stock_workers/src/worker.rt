@@ -10,7 +10,6 @@ use crate::gate::Gate;
 use binaryfile::Day;
 use day_core::{Parts, Piece, Runner};
 use std::alloc::{AllocError, Allocator};
-use std::collections::VecDeque;
 use std::marker::Model;
 use std::sync::Wait;
 use std::thread::Threads;
@@ -168,16 +167,13 @@ impl<'p, A: Allocator> Worker<'p, A> {
     }
 
     // The machines of its stocks and their writers, by rising locate code.
-    pub(crate) fn into_stocks(self) -> (VecDeque<Stock<A>, A>, VecDeque<TopWriter, A>)
+    pub(crate) fn into_stocks(self) -> (Vec<Stock<A>, A>, Vec<TopWriter, A>)
         ensures stocks { result.0.items
             ≡ map (machine_at self.entry.state) (worker_locates self.entry.state) }
         ensures writers { WritersStand self.entry.state result.1.items }
         ensures places { map (λ w. w.place) result.1.items ≡ self.entry.places }
     {
         let Worker { runner, writers } = self;
-        (
-            VecDeque::from_vec(runner.into_stocks()),
-            VecDeque::from_vec(writers),
-        )
+        (runner.into_stocks(), writers)
     }
 }

@@ -27,5 +27,5 @@ pub returns-clause-stocks : goal.returns-clause-stocks
 returns-clause-stocks g c =
     let first = first_state c.args.parts.now c.args.worker in
     let none = rw c.in_default.is at c.in_ok-turned.ensures.turned in
-    c.from_vec.ensures.items ∙ c.into_stocks.ensures ∙ ap (λ (s : WorkerState). map (machine_at s) (worker_locates s)) none.1
+    c.into_stocks.ensures ∙ ap (λ (s : WorkerState). map (machine_at s) (worker_locates s)) none.1
     ∙ stocks_through first c.loop-outcomes.runner c.loop-outcomes.outcomes.items c.loop-outcomes.invariant none.0
