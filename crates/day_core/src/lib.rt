@@ -6,7 +6,7 @@
 //!
 //! ```rust
 //! let parts = split(rt, alloc, &day, workers)?;
-//! let replayed = replay_parts(alloc, &parts, &day)?;
+//! let replayed = replay_parts(alloc, &parts)?;
 //! ```
 //!
 //! `stock_workers` replays the parts in threads. [`Turns`] and [`play`] replay them without threads, in any order of

@@ -43,7 +43,7 @@ pub(crate) fn empty_lists<T: Drop, A: Allocator + Copy>(
 /// After an error the values are gone.
 pub fn by_worker<T: Drop, A: Allocator + Copy>(
     alloc: A,
-    parts: &Parts<A>,
+    parts: &Parts<'_, A>,
     values: Vec<T, A>,
 ) -> Result<Vec<Vec<T, A>, A>, AllocError>
     requires { length values.items ≡ length (locates_of_day parts.now.day) }
@@ -78,7 +78,7 @@ fn queues_of<T: Drop, A: Allocator + Copy>(
 /// worker, in the order of their numbers, one value for each of its stocks, by rising locate code.
 pub fn in_order<T: Drop, A: Allocator + Copy>(
     alloc: A,
-    parts: &Parts<A>,
+    parts: &Parts<'_, A>,
     by_worker: Vec<Vec<T, A>, A>,
 ) -> Result<Vec<T, A>, AllocError>
     requires { (f : ℕ → T)

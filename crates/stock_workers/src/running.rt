@@ -58,7 +58,7 @@ struct Gathered<A: Allocator> {
 // The workers of a day before they start, in the order of their numbers.
 fn waiting_workers<'p, A: Allocator + Copy>(
     alloc: A,
-    parts: &'p Parts<A>,
+    parts: &'p Parts<'p, A>,
     writers: Vec<TopWriter, A>,
 ) -> Result<Vec<Waiting<'p, A>, A>, AllocError>
     requires { length writers.items ≡ length (locates_of_day parts.now.day) }
@@ -82,7 +82,7 @@ fn waiting_workers<'p, A: Allocator + Copy>(
 // What all workers made, where none was refused memory.
 fn gather<A: Allocator + Copy>(
     alloc: A,
-    parts: &Parts<A>,
+    parts: &Parts<'_, A>,
     made: Vec<Result<Finished<A>, AllocError>, A>,
 ) -> Result<Gathered<A>, AllocError>
     requires { (writer : ℕ → WriterAt) × AreFinished parts.now writer made.items }
@@ -117,23 +117,21 @@ fn gather<A: Allocator + Copy>(
 pub fn run_parts<R: Threads + Wait + Sync, A: Allocator + Copy + Send + Sync, G: Gate>(
     rt: &R,
     alloc: A,
-    parts: &Parts<A>,
-    day: &Day<A>,
+    parts: &Parts<'_, A>,
     board: &Board<'_, A>,
     writers: Vec<TopWriter, A>,
     gate: &G,
 ) -> Result<Replayed<A>, AllocError>
-    requires day { day.now.payloads ≡ parts.now.day }
-    requires new { AreNew day.now.payloads (locates_of_day day.now.payloads) board.now writers.items }
-    ensures replayed { IfOk result (λ made. IsReplayed day.now.payloads
+    requires { AreNew parts.now.day (locates_of_day parts.now.day) board.now writers.items }
+    ensures replayed { IfOk result (λ made. IsReplayed parts.now.day
         made.outcomes.items made.stocks.items made.event) }
     ensures writers { IfOk result (λ made.
-        made.writers.items ≡ map (at_last day.now.payloads) writers.items) }
+        made.writers.items ≡ map (at_last parts.now.day) writers.items) }
 {
     let waiting = waiting_workers(alloc, parts, writers)?;
-    let made = finish_all(rt, alloc, day, board, gate, waiting)?;
+    let made = finish_all(rt, alloc, board, gate, waiting)?;
     let gathered = gather(alloc, parts, made)?;
-    let replayed = assemble(alloc, parts, day, gathered.outcomes, gathered.stocks)?;
+    let replayed = assemble(alloc, parts, gathered.outcomes, gathered.stocks)?;
     let writers = in_order(alloc, parts, gathered.writers)?;
     Ok(Replayed {
         outcomes: replayed.outcomes,
@@ -177,5 +175,5 @@ pub fn run<R: Threads + Wait + Sync, A: Allocator + Copy + Send + Sync, G: Gate>
         Err(SplitFault::Memory) => return Err(RunFault::Memory),
         Err(SplitFault::Workers) => return Err(RunFault::Workers),
     };
-    Ok(run_parts(rt, alloc, &parts, day, board, writers, gate)?)
+    Ok(run_parts(rt, alloc, &parts, board, writers, gate)?)
 }

@@ -65,7 +65,7 @@ fn compare_parts<R: Threads + Sync, A: Allocator + Copy + Send + Sync>(
     wanted: &Wanted<A>,
 ) -> Result<(), Fail> {
     let parts = split(rt, alloc, day, workers)?;
-    let found = replay_parts(alloc, &parts, day)?;
+    let found = replay_parts(alloc, &parts)?;
     same_day(alloc, &found.outcomes, &found.stocks, found.event, wanted)
 }
 

@@ -29,16 +29,14 @@ pub(crate) struct Report<A: Allocator> {
 fn replay<R: Threads + Wait + Sync, A: Allocator + Copy + Send + Sync, G: Gate>(
     rt: &R,
     alloc: A,
-    day: &Day<A>,
-    parts: &Parts<A>,
+    parts: &Parts<'_, A>,
     gate: &G,
 ) -> Result<Replayed<A>, AllocError>
-    requires { day.now.payloads ≡ parts.now.day }
-    ensures { IfOk result (λ replayed. IsReplayed day.now.payloads
+    ensures { IfOk result (λ replayed. IsReplayed parts.now.day
         replayed.outcomes.items replayed.stocks.items replayed.event) }
 {
-    let (board, writers) = Board::of_stocks(&alloc, day, parts.locates())?;
-    run_parts(rt, alloc, parts, day, &board, writers, gate)
+    let (board, writers) = Board::of_stocks(&alloc, parts.day(), parts.locates())?;
+    run_parts(rt, alloc, parts, &board, writers, gate)
 }
 
 // Adds the lines of a stock.
@@ -116,7 +114,7 @@ pub(crate) fn report_of_day<R: Threads + Wait + Sync, A: Allocator + Copy + Send
     ensures refused { IfOk result (λ found. found.refused ≡ refused_count day.now.payloads) }
 {
     let parts = parts_of(rt, alloc, day, workers)?;
-    let replayed = replay(rt, alloc, day, &parts, gate)?;
+    let replayed = replay(rt, alloc, &parts, gate)?;
     let text = report_text(alloc, day, &replayed)?;
     let refused = count_refused(&replayed.outcomes) as u32;
     Ok(Report { text, refused })

@@ -1,4 +1,4 @@
-use Rattle.std.proofs.Common.{◌≡◌, ◌<◌, ◌%◌, [], ℕ, List, length, map, take, get_or, ap, sym, ◌∙◌, arith}
+use Rattle.std.proofs.Common.{◌≡◌, ◌<◌, ◌%◌, [], ℕ, List, length, map, get_or, ap, sym, ◌∙◌, arith}
 use Rattle.std.specs.Iterator.Adapters.{enumerate_count, enumerate_source}
 use Rattle.std.specs.List.{enumerate_from}
 use Rattle.std.specs.Vec.Iter.{into_iter_items, into_iter_len}
@@ -7,7 +7,7 @@ use Rattle.std.proofs.lemmas.Iterator.Consumers.{YieldsList-end, YieldsList-from
 use Rattle.std.proofs.lemmas.List.{get_or-map, length-map, length-replicate, length-set, length_push, take_all}
 use Rattle.std.proofs.lemmas.List.FromFn.{get_or-enumerate_from, length-enumerate_from}
 use Rattle.std.proofs.lemmas.Nat.{mod_below}
-use Rattle.day_core.proofs.StocksByWorker.{ByOwner, all_given, given, none_given}
+use Rattle.day_core.proofs.StocksByWorker.{all_given, given, none_given}
 use Rattle.day_core.proofs.ordering.by_worker.Goals as goal
 
 -- the value that stands at an index

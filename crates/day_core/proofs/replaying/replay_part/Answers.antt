@@ -9,9 +9,6 @@ loop-outcomes-init g c =
     subst (λ (s : WorkerState). HasDone first s c.in_ok-outcomes.outcomes.items) (sym (c.in_ok-runner.ensures {u = tt}))
     (does_none first c.in_ok-outcomes.outcomes.items refl c.in_ok-outcomes.ensures.items)
 
-pub turn-requires : goal.turn-requires
-turn-requires g c = c.requires.day ∙ ap (λ (s : WorkerState). s.day) (sym c.loop-outcomes.invariant.same)
-
 pub loop-outcomes-preserved : goal.loop-outcomes-preserved
 loop-outcomes-preserved g c =
     does_more (first_state c.args.parts.now c.args.worker) c.loop-outcomes.runner c.turn.new.self c.in-Some.turned c.loop-outcomes.outcomes.items c.push.new.self.items c.loop-outcomes.invariant
