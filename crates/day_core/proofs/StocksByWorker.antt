@@ -1,6 +1,7 @@
 -- A worker's way through its messages, and what all workers have for their stocks.
-use Rattle.std.proofs.Common.{◌≡◌, ℕ, ◌+◌, ◌<◌, ◌≤◌, List, [], ◌∷◌, ◌++◌, length, Bool, append-nil, cond, eqb, get_or, set, map, take, drop, replicate, Some, true, false, refl, sym, ap, ap₂, ◌∙◌, arith, inl, inr}
+use Rattle.std.proofs.Common.{◌≡◌, ℕ, ◌+◌, ◌<◌, ◌≤◌, List, [], ◌∷◌, ◌++◌, length, Bool, append-nil, cond, eqb, get_or, set, map, take, drop, replicate, Option, Some, None, IsSome, true, false, refl, sym, ap, ap₂, ◌∙◌, arith, rules, inl, inr}
 use Rattle.std.specs.List.{range_with_len}
+use Rattle.std.specs.Option.{option_to_list}
 use Rattle.std.proofs.lemmas.Bool.{cases_eq, eq-eqb, ne_eqb}
 use Rattle.std.proofs.lemmas.List.{drop_more, get_or-set_same, get_or-replicate, get_or-set_other, get_or-map, length-drop, length-map, length-replicate, length-set, map-append, map-set, take_all, take_more}
 use Rattle.std.proofs.lemmas.List.Elements.{filter_more}
@@ -181,5 +182,6 @@ all_given f split lists are =
     are.each k d below ∙ ap (map f) (codes_are split.workers k split.day) ∙ ap (for_own_stocks f split) same)
 
 -- a queue that has values gives one
-pub not_empty : {T : Type 0} (old new : List T) → 0 < length old → old ≡ new → new ≡ drop 1 old → ⊥
-not_empty old new some same left = omega (arith, some, ap length same, ap length left, length-drop 1 old)
+pub gives_one : {T : Type 0} (old new : List T) (r : Option T) → 0 < length old → old ≡ option_to_list r ++ new → new ≡ drop 1 old → IsSome r
+gives_one old new (Some x) some same left = search rules
+gives_one old new None some same left = absurd (omega (arith, some, ap length same, ap length left, length-drop 1 old))

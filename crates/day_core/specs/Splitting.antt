@@ -1,5 +1,5 @@
 -- A day that is split for some workers. Of this project.
-use Rattle.std.specs.Prelude.{◌≡◌, ◌<◌, ◌≤◌, ◌^◌, ℕ, List, Option, length, slice_index_or}
+use Rattle.std.specs.Prelude.{◌≡◌, ◌<◌, ◌^◌, ℕ, List, Option, length, slice_index_or}
 use Rattle.itch_table.specs.After.{after}
 use Rattle.itch_table.specs.Shows.{locates_of_day}
 use Rattle.day_core.specs.Owners.{fixed_until, own_until}
@@ -24,7 +24,6 @@ pub record AreDealt (day : List (List ℕ)) (workers : ℕ) (count : ℕ) (own :
 pub record AreParts (day : List (List ℕ)) (workers : ℕ) (locates : List ℕ) (own : List (List ℕ))
     (fixed : List Piece) (event : Option ℕ) : Type 0 where
   pub some : 0 < workers
-  pub most : workers ≤ 64
   pub few : length day < 2 ^ 32
   pub locates_are : locates ≡ locates_of_day day
   pub dealt : AreDealt day workers (length day) own fixed event

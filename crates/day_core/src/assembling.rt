@@ -6,10 +6,8 @@ ghost use Rattle.day_core.specs.Replaying.{HasOutcome, IsReplayed, each_worker, 
 
 use crate::ordering::in_order;
 use crate::parts::Parts;
-use binaryfile::Day;
 use itch_table::Outcome;
 use std::alloc::{AllocError, Allocator};
-use std::collections::VecDeque;
 use stock_machine::Stock;
 
 /// What a whole day makes.
@@ -27,7 +25,7 @@ pub struct ReplayedDay<A: Allocator> {
 // theirs stay there.
 fn place_own<A: Allocator>(
     all: &mut Vec<Outcome, A>,
-    parts: &Parts<A>,
+    parts: &Parts<'_, A>,
     worker: u32,
     outcomes: &[Outcome],
 )
@@ -46,7 +44,7 @@ fn place_own<A: Allocator>(
 }
 
 // The same of the messages of no stock.
-fn place_fixed<A: Allocator>(all: &mut Vec<Outcome, A>, parts: &Parts<A>)
+fn place_fixed<A: Allocator>(all: &mut Vec<Outcome, A>, parts: &Parts<'_, A>)
     requires { length all.old.items ≡ length parts.now.day }
     ensures long { length all.new.items ≡ length all.old.items }
     ensures fixed { (message : ℕ) → 1 ≤ message → message ≤ length parts.now.day
@@ -63,15 +61,13 @@ fn place_fixed<A: Allocator>(all: &mut Vec<Outcome, A>, parts: &Parts<A>)
 // The outcomes of all messages, of those that each worker's messages had.
 fn all_outcomes<A: Allocator + Copy>(
     alloc: A,
-    parts: &Parts<A>,
-    day: &Day<A>,
+    parts: &Parts<'_, A>,
     by_worker: &[Vec<Outcome, A>],
 ) -> Result<Vec<Outcome, A>, AllocError>
-    requires day { day.now.payloads ≡ parts.now.day }
-    requires outcomes { map (λ own. own.items) by_worker.now ≡ each_worker (outcomes_by parts.now) parts.now }
+    requires { map (λ own. own.items) by_worker.now ≡ each_worker (outcomes_by parts.now) parts.now }
     ensures { IfOk result (λ all. all.items ≡ outcomes parts.now.day) }
 {
-    let mut all = vec![in alloc; Outcome::Passed; day.len() as usize]?;
+    let mut all = vec![in alloc; Outcome::Passed; parts.day().len() as usize]?;
     for worker in 0..parts.workers() {
         place_own(&mut all, parts, worker, &by_worker[worker as usize]);
     }
@@ -79,27 +75,25 @@ fn all_outcomes<A: Allocator + Copy>(
     Ok(all)
 }
 
-/// Puts together what the workers of a day made of it. The caller passes the day that was split, and for each worker,
-/// in the order of their numbers, the outcomes of its messages, by their rising numbers, and the machines of its stocks
-/// after all of them, by rising locate code.
+/// Puts together what the workers of a day made of it. The caller passes for each worker, in the order of their numbers,
+/// the outcomes of its messages, by their rising numbers, and the machines of its stocks after all of them, by rising
+/// locate code.
 ///
 /// What it returns is the same for every number of workers.
 pub fn assemble<A: Allocator + Copy>(
     alloc: A,
-    parts: &Parts<A>,
-    day: &Day<A>,
+    parts: &Parts<'_, A>,
     outcomes: Vec<Vec<Outcome, A>, A>,
-    stocks: Vec<VecDeque<Stock<A>, A>, A>,
+    stocks: Vec<Vec<Stock<A>, A>, A>,
 ) -> Result<ReplayedDay<A>, AllocError>
-    requires day { day.now.payloads ≡ parts.now.day }
     requires outcomes { map (λ own. own.items) outcomes.items ≡ each_worker (outcomes_by parts.now) parts.now }
     requires stocks { map (λ own. own.items) stocks.items
         ≡ each_worker (for_own_stocks (last_machine parts.now.day) parts.now) parts.now }
-    ensures { IfOk result (λ replayed. IsReplayed day.now.payloads
+    ensures { IfOk result (λ replayed. IsReplayed parts.now.day
         replayed.outcomes.items replayed.stocks.items replayed.event) }
 {
     let stocks = in_order(alloc, parts, stocks)?;
-    let outcomes = all_outcomes(alloc, parts, day, &outcomes)?;
+    let outcomes = all_outcomes(alloc, parts, &outcomes)?;
     Ok(ReplayedDay {
         outcomes,
         stocks,

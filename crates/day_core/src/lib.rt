@@ -2,11 +2,11 @@
 //!
 //! [`split`] says which messages each of 1 to 64 workers does, and [`replay_parts`] does them, one worker after
 //! another: the outcome of each message, and each stock's machine after the day. [`parts_of`] is [`split`] for a number
-//! of workers that is proved to be from 1 to 64.
+//! that is known to be one of workers ([`WorkerCount`]).
 //!
 //! ```rust
 //! let parts = split(rt, alloc, &day, workers)?;
-//! let replayed = replay_parts(alloc, &parts, &day)?;
+//! let replayed = replay_parts(alloc, &parts)?;
 //! ```
 //!
 //! `stock_workers` replays the parts in threads. [`Turns`] and [`play`] replay them without threads, in any order of
@@ -30,6 +30,7 @@ mod seeing;
 mod splitting;
 mod turns;
 mod worker_cells;
+mod worker_count;
 
 pub use assembling::{ReplayedDay, assemble};
 pub use laws::{days_come_to_their_end, looks_never_go_back, looks_show_their_stock};
@@ -42,3 +43,4 @@ pub use runner::{Runner, Turned};
 pub use seeing::locates;
 pub use splitting::{SplitFault, parts_of, split};
 pub use turns::Turns;
+pub use worker_count::WorkerCount;

@@ -43,7 +43,7 @@ pub(crate) fn empty_lists<T: Drop, A: Allocator + Copy>(
 /// After an error the values are gone.
 pub fn by_worker<T: Drop, A: Allocator + Copy>(
     alloc: A,
-    parts: &Parts<A>,
+    parts: &Parts<'_, A>,
     values: Vec<T, A>,
 ) -> Result<Vec<Vec<T, A>, A>, AllocError>
     requires { length values.items ≡ length (locates_of_day parts.now.day) }
@@ -53,23 +53,33 @@ pub fn by_worker<T: Drop, A: Allocator + Copy>(
 {
     let workers = parts.workers();
     let locates = parts.locates();
-    let mut values = VecDeque::from_vec(values);
     let mut lists = empty_lists(alloc, workers)?;
-    for locate in locates {
-        let Some(value) = values.pop_front() else {
-            unreachable!()
-        };
-        give(&mut lists, u32::from(*locate) % workers, value)?;
+    for (place, value) in values.into_iter().enumerate() {
+        give(&mut lists, u32::from(locates[place]) % workers, value)?;
     }
     Ok(lists)
+}
+
+// The values of each list, to be taken from the front.
+fn queues_of<T: Drop, A: Allocator + Copy>(
+    alloc: A,
+    lists: Vec<Vec<T, A>, A>,
+) -> Result<Vec<VecDeque<T, A>, A>, AllocError>
+    ensures { IfOk result (λ queues. map (λ own. own.items) queues.items ≡ map (λ own. own.items) lists.items) }
+{
+    let mut queues = Vec::with_capacity(alloc, lists.len())?;
+    for list in lists {
+        queues.push(VecDeque::from_vec(list))?;
+    }
+    Ok(queues)
 }
 
 /// What each worker has for its stocks, for all stocks of a day by rising locate code. The caller passes for each
 /// worker, in the order of their numbers, one value for each of its stocks, by rising locate code.
 pub fn in_order<T: Drop, A: Allocator + Copy>(
     alloc: A,
-    parts: &Parts<A>,
-    by_worker: Vec<VecDeque<T, A>, A>,
+    parts: &Parts<'_, A>,
+    by_worker: Vec<Vec<T, A>, A>,
 ) -> Result<Vec<T, A>, AllocError>
     requires { (f : ℕ → T)
         × (map (λ own. own.items) by_worker.items ≡ each_worker (for_own_stocks f parts.now) parts.now) }
@@ -79,16 +89,13 @@ pub fn in_order<T: Drop, A: Allocator + Copy>(
     // A day is split for at least one worker.
     ensures some { 0 < parts.now.workers }
 {
-    let mut by_worker = by_worker;
     let workers = parts.workers();
     let locates = parts.locates();
+    let mut queues = queues_of(alloc, by_worker)?;
     let mut all = Vec::with_capacity(alloc, locates.len())?;
     for locate in locates {
         let owner = (u32::from(*locate) % workers) as usize;
-        let Some(value) = by_worker[owner].pop_front() else {
-            unreachable!()
-        };
-        all.push(value)?;
+        all.push(queues[owner].pop_front().unwrap())?;
     }
     Ok(all)
 }

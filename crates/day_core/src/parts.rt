@@ -5,38 +5,44 @@ ghost use Rattle.itch_table.specs.Shows.{locates_of_day};
 ghost use Rattle.day_core.specs.Owners.{fixed_pieces, own_of};
 
 use crate::merging::Piece;
+use crate::worker_count::WorkerCount;
 use binaryfile::Day;
 use std::alloc::{AllocError, Allocator};
 use std::marker::Model;
-use std::snapshot::Snapshot;
 
-/// The parts of a day, one for each worker, and what belongs to none.
+/// The parts of a day, one for each worker, and what belongs to none. They borrow the day.
 ///
-/// A stock belongs to the worker whose number is the remainder of its locate code by the number of workers, which is
-/// from 1 to 64.
+/// A stock belongs to the worker whose number is the remainder of its locate code by the number of workers.
 #[derive(Drop)]
-pub struct Parts<A: Allocator> {
-    pub(crate) workers: u32,
+pub struct Parts<'d, A: Allocator> {
+    pub(crate) workers: WorkerCount,
     pub(crate) locates: Vec<u16, A>,
     pub(crate) own: Vec<Vec<u32, A>, A>,
     pub(crate) fixed: Vec<Piece, A>,
     pub(crate) event: Option<u8>,
-    pub(crate) day: Snapshot<Day<A>>,
+    pub(crate) day: &'d Day<A>,
 }
 
-impl<A: Allocator> Model for Parts<A> {
+impl<'d, A: Allocator> Model for Parts<'d, A> {
     ghost use Rattle.std.specs.Prelude.{map};
     ghost use Rattle.day_core.specs.Splitting.{AreParts, Split};
 
     ghost Value = { Split };
 
-    ghost view = { λ p. record { day = p.day.value.payloads; workers = p.workers } };
+    ghost view = { λ p. record { day = p.day.now.payloads; workers = p.workers } };
 
-    ghost invariant = { λ p. AreParts p.day.value.payloads p.workers p.locates.items
+    ghost invariant = { λ p. AreParts p.day.now.payloads p.workers p.locates.items
         (map (λ list. list.items) p.own.items) p.fixed.items p.event };
 }
 
-impl<A: Allocator> Parts<A> {
+impl<'d, A: Allocator> Parts<'d, A> {
+    /// The day.
+    pub fn day(&self) -> &'d Day<A>
+        ensures { result.now.payloads ≡ self.now.day }
+    {
+        self.day
+    }
+
     /// For how many workers the day was split, from 1 to 64.
     pub fn workers(&self) -> u32
         ensures workers { result ≡ self.now.workers }
@@ -45,7 +51,7 @@ impl<A: Allocator> Parts<A> {
         // The numbers of the day's messages fit 32 bits.
         ensures few { length self.now.day < 2 ^ 32 }
     {
-        self.workers
+        self.workers.get()
     }
 
     /// The locate codes of the stocks that have messages in the day, rising.

@@ -99,7 +99,7 @@ pub fn play<R: Threads + Sync, A: Allocator + Copy + Send + Sync>(
 {
     match split(rt, alloc, day, workers) {
         Ok(parts) => {
-            let turns = Turns::new(alloc, &parts, day)?;
+            let turns = Turns::new(alloc, &parts)?;
             Ok(watch(alloc, turns, events)?)
         }
         Err(fault) => Err(fault),

@@ -31,7 +31,7 @@ pub struct Turned {
 /// It does its messages in their order, one a turn, whatever other workers do.
 #[derive(Drop)]
 pub struct Runner<'p, A: Allocator> {
-    parts: &'p Parts<A>,
+    parts: &'p Parts<'p, A>,
     worker: u32,
     done: usize,
     // A place of the day, after the last message that was looked for.
@@ -57,7 +57,7 @@ impl<'p, A: Allocator> Model for Runner<'p, A> {
 #[tactic(auto, unfolding(crate::specs::Owners::own_locates))]
 fn own_codes<A: Allocator + Copy>(
     alloc: A,
-    parts: &Parts<A>,
+    parts: &Parts<'_, A>,
     worker: u32,
 ) -> Result<Vec<u16, A>, AllocError>
     ensures { IfOk result (λ codes.
@@ -117,7 +117,7 @@ fn message_of<'d, A: Allocator>(
 impl<'p, A: Allocator + Copy> Runner<'p, A> {
     /// A worker that has done nothing yet. Workers are numbered from 0; a number from `parts.workers()` on has no
     /// messages and no stocks.
-    pub fn new(alloc: A, parts: &'p Parts<A>, worker: u32) -> Result<Runner<'p, A>, AllocError>
+    pub fn new(alloc: A, parts: &'p Parts<'p, A>, worker: u32) -> Result<Runner<'p, A>, AllocError>
         ensures { IfOk result (λ runner. runner ≡ first_state parts.now worker) }
     {
         let locates = own_codes(alloc, parts, worker)?;
@@ -134,16 +134,13 @@ impl<'p, A: Allocator + Copy> Runner<'p, A> {
     }
 
     /// Does the worker's next message on the machine of its stock, and returns what became of it; none, with nothing
-    /// changed, exactly where the worker has done all of them. The caller passes the day that was split.
+    /// changed, exactly where the worker has done all of them.
     ///
     /// An error comes only where a message is left that would be applied and may need a new order or trade. It leaves
     /// the worker as it was, so that its next turn tries the same message. The stock's best bid and ask after the
     /// message are those of its machine: `stock_at(turned.place)`.
-    pub fn turn(&mut self, day: &Day<A>) -> Result<Option<Turned>, AllocError>
-        requires { day.now.payloads ≡ self.old.day }
+    pub fn turn(&mut self) -> Result<Option<Turned>, AllocError>
         ensures turned { IfOk result (TakesTurn self.old self.new) }
-        // The next turn is passed the same day.
-        ensures day { self.new.day ≡ self.old.day }
         ensures err { OnErr result (self.new ≡ self.old) }
         ensures grows { OnErr result (MayGrowNext self.old) }
     {
@@ -152,6 +149,7 @@ impl<'p, A: Allocator + Copy> Runner<'p, A> {
             return Ok(None);
         }
         let message = own[self.done];
+        let day = self.parts.day();
         let (payload, place) = message_of(day, &mut self.near, &self.places, message);
         let outcome = self.stocks[place].step(payload)?;
         self.done += 1;
@@ -171,11 +169,10 @@ impl<'p, A: Allocator + Copy> Runner<'p, A> {
     }
 
     /// The index of the stock of a message to come, `ahead` messages after the worker's next one; none after its last
-    /// message. The caller passes the day that was split, and a place of it.
-    pub fn place_ahead(&self, day: &Day<A>, near: &mut Place, ahead: usize) -> Option<usize>
-        requires day { day.now.payloads ≡ self.now.day }
-        requires near { IsPlace day.now.payloads near.old }
-        ensures near { IsPlace day.now.payloads near.new }
+    /// message. The caller passes a place of the day.
+    pub fn place_ahead(&self, near: &mut Place, ahead: usize) -> Option<usize>
+        requires { IsPlace self.now.day near.old }
+        ensures near { IsPlace self.now.day near.new }
         ensures place { IfSome result (λ place. place < length (worker_locates self.now)) }
     {
         let index = self.done.saturating_add(ahead);
@@ -184,7 +181,7 @@ impl<'p, A: Allocator + Copy> Runner<'p, A> {
             return None;
         }
         let message = own[index];
-        let (_, place) = message_of(day, near, &self.places, message);
+        let (_, place) = message_of(self.parts.day(), near, &self.places, message);
         Some(place)
     }
 }

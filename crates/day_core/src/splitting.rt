@@ -1,17 +1,14 @@
 //! A day, split into the parts of its workers.
-ghost use Rattle.std.specs.Prelude.{◌≡◌, ◌<◌, ◌≤◌, ◌⊎◌, ◌↔◌, IfOk, IsErrOf};
+ghost use Rattle.std.specs.Prelude.{◌≡◌, ◌<◌, ◌⊎◌, ◌↔◌, IfOk, IsErrOf};
 ghost use Rattle.day_core.specs.declared.splitting.SplitFault.TheVariants.{Memory};
 
 use crate::dealing::deal;
 use crate::parts::Parts;
 use crate::seeing::locates_seen;
+use crate::worker_count::WorkerCount;
 use binaryfile::Day;
 use std::alloc::{AllocError, Allocator};
-use std::snapshot::Snapshot;
 use std::thread::Threads;
-
-// The most workers that a day is split for.
-const MOST_WORKERS: u32 = 64;
 
 /// Why a day isn't split.
 #[derive(Debug, Clone, Copy, PartialEq, Eq)]
@@ -30,18 +27,16 @@ impl From<AllocError> for SplitFault {
     }
 }
 
-/// Splits a day as [`split`] does, for a number of workers that is from 1 to 64.
-pub fn parts_of<R: Threads + Sync, A: Allocator + Copy + Send + Sync>(
+/// Splits a day as [`split`] does, for a number that is known to be one of workers.
+pub fn parts_of<'d, R: Threads + Sync, A: Allocator + Copy + Send + Sync>(
     rt: &R,
     alloc: A,
-    day: &Day<A>,
-    workers: u32,
-) -> Result<Parts<A>, AllocError>
-    requires some { 0 < workers }
-    requires most { workers ≤ 64 }
+    day: &'d Day<A>,
+    workers: WorkerCount,
+) -> Result<Parts<'d, A>, AllocError>
     ensures { IfOk result (λ parts. parts ≡ record { day = day.now.payloads; workers = workers }) }
 {
-    let dealt = deal(rt, alloc, day, workers)?;
+    let dealt = deal(rt, alloc, day, workers.get())?;
     let locates = locates_seen(alloc, &dealt.seen)?;
     Ok(Parts {
         workers,
@@ -49,26 +44,26 @@ pub fn parts_of<R: Threads + Sync, A: Allocator + Copy + Send + Sync>(
         own: dealt.own,
         fixed: dealt.fixed,
         event: dealt.event,
-        day: Snapshot::of(day),
+        day,
     })
 }
 
-/// Splits a day into parts for this many workers, from 1 to 64.
+/// Splits a day into parts for this many workers, from 1 to 64. The parts borrow the day.
 ///
 /// [`SplitFault::Workers`] where the number is another, which is looked at first, and else
 /// [`SplitFault::Memory`] where memory is refused; there are no parts after a fault. While a long day is split its
 /// messages stand in the parts' own lists and in those of its chunks; each list grows by doubling.
-pub fn split<R: Threads + Sync, A: Allocator + Copy + Send + Sync>(
+pub fn split<'d, R: Threads + Sync, A: Allocator + Copy + Send + Sync>(
     rt: &R,
     alloc: A,
-    day: &Day<A>,
+    day: &'d Day<A>,
     workers: u32,
-) -> Result<Parts<A>, SplitFault>
+) -> Result<Parts<'d, A>, SplitFault>
     ensures split { IfOk result (λ parts. parts ≡ record { day = day.now.payloads; workers = workers }) }
     ensures workers { IsErrOf result SplitFault.Workers ↔ ((workers ≡ 0) ⊎ (64 < workers)) }
 {
-    if workers == 0 || workers > MOST_WORKERS {
+    let Some(workers) = WorkerCount::new(workers) else {
         return Err(SplitFault::Workers);
-    }
+    };
     Ok(parts_of(rt, alloc, day, workers)?)
 }

@@ -9,18 +9,17 @@ ghost use Rattle.day_core.specs.Turns.{MayGrowAt, TurnsWorker, progress_in};
 use crate::merging::Piece;
 use crate::parts::Parts;
 use crate::worker_cells::WorkerCells;
-use binaryfile::Day;
 use std::alloc::{AllocError, Allocator};
 use std::marker::Model;
 use stock_machine::Stock;
 
 /// All workers of a day without threads, whose turns come in any order, and the words that screens read of each stock.
-/// They borrow the day and its parts.
+/// They borrow the parts of the day.
 ///
 /// It is seen as the day, and how many of its own messages each worker has done.
 #[derive(Drop)]
 pub struct Turns<'d, A: Allocator> {
-    day: &'d Day<A>,
+    parts: &'d Parts<'d, A>,
     workers: Vec<WorkerCells<'d, A>, A>,
 }
 
@@ -30,15 +29,15 @@ impl<'d, A: Allocator> Model for Turns<'d, A> {
 
     ghost Value = { TurnsState };
 
-    ghost view = { λ t. record { day = t.day.now.payloads; done = map (λ d. d.done) t.workers.items } };
+    ghost view = { λ t. record { day = t.parts.now.day; done = map (λ d. d.done) t.workers.items } };
 
-    ghost invariant = { λ t. AreWorkers t.day.now.payloads t.workers.items };
+    ghost invariant = { λ t. AreWorkers t.parts.now.day t.workers.items };
 }
 
 // The workers of a day before their first turn, in the order of their numbers.
 fn new_worker_cells<'p, A: Allocator + Copy>(
     alloc: A,
-    parts: &'p Parts<A>,
+    parts: &'p Parts<'p, A>,
 ) -> Result<Vec<WorkerCells<'p, A>, A>, AllocError>
     ensures first { IfOk result (λ workers.
         workers.items ≡ map (first_state parts.now) (range_with_len 0 parts.now.workers)) }
@@ -53,14 +52,13 @@ fn new_worker_cells<'p, A: Allocator + Copy>(
 }
 
 impl<'d, A: Allocator + Copy> Turns<'d, A> {
-    /// The workers of the parts of a day, before their first turn. The caller passes the day that was split.
-    pub fn new(alloc: A, parts: &'d Parts<A>, day: &'d Day<A>) -> Result<Turns<'d, A>, AllocError>
-        requires { day.now.payloads ≡ parts.now.day }
+    /// The workers of the parts of a day, before their first turn.
+    pub fn new(alloc: A, parts: &'d Parts<'d, A>) -> Result<Turns<'d, A>, AllocError>
         ensures { IfOk result (λ turns.
-            turns ≡ record { day = day.now.payloads; done = replicate parts.now.workers 0 }) }
+            turns ≡ record { day = parts.now.day; done = replicate parts.now.workers 0 }) }
     {
         let workers = new_worker_cells(alloc, parts)?;
-        Ok(Turns { day, workers })
+        Ok(Turns { parts, workers })
     }
 
     /// Does the next message of a worker, sets the words of its stock, and returns what became of it; none, with
@@ -75,7 +73,7 @@ impl<'d, A: Allocator + Copy> Turns<'d, A> {
         if place >= self.workers.len() {
             return Ok(None);
         }
-        let Some(turned) = self.workers[place].turn(self.day)? else {
+        let Some(turned) = self.workers[place].turn()? else {
             return Ok(None);
         };
         Ok(Some(turned.piece))

@@ -6,7 +6,6 @@ ghost use Rattle.day_core.specs.Workers.{MayGrowNext, TakesTurn, first_state, ma
 
 use crate::parts::Parts;
 use crate::runner::{Runner, Turned};
-use binaryfile::Day;
 use std::alloc::{AllocError, Allocator};
 use std::marker::Model;
 use stock_machine::Stock;
@@ -32,7 +31,11 @@ impl<'p, A: Allocator> Model for WorkerCells<'p, A> {
 
 impl<'p, A: Allocator + Copy> WorkerCells<'p, A> {
     /// A worker that has done nothing yet. An error says that memory was refused.
-    pub fn new(alloc: A, parts: &'p Parts<A>, worker: u32) -> Result<WorkerCells<'p, A>, AllocError>
+    pub fn new(
+        alloc: A,
+        parts: &'p Parts<'p, A>,
+        worker: u32,
+    ) -> Result<WorkerCells<'p, A>, AllocError>
         ensures { IfOk result (λ cells. cells ≡ first_state parts.now worker) }
     {
         let runner = Runner::new(alloc, parts, worker)?;
@@ -43,13 +46,12 @@ impl<'p, A: Allocator + Copy> WorkerCells<'p, A> {
     /// Does the worker's next message, sets the cell of its stock, and returns what became of it; none, with nothing
     /// changed, exactly where the worker has done all of them. An error says that memory was refused, and leaves all
     /// as it was.
-    pub fn turn(&mut self, day: &Day<A>) -> Result<Option<Turned>, AllocError>
-        requires { day.now.payloads ≡ self.old.day }
+    pub fn turn(&mut self) -> Result<Option<Turned>, AllocError>
         ensures turned { IfOk result (TakesTurn self.old self.new) }
         ensures err { OnErr result (self.new ≡ self.old) }
         ensures grows { OnErr result (MayGrowNext self.old) }
     {
-        let Some(turned) = self.runner.turn(day)? else {
+        let Some(turned) = self.runner.turn()? else {
             return Ok(None);
         };
         let best = self.runner.stock_at(turned.place).top();

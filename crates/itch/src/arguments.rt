@@ -4,6 +4,7 @@ ghost use Rattle.clap.specs.Values.{kind_of};
 ghost use Rattle.clap.specs.declared.error.kind.ErrorKind.TheVariants.{DisplayHelp, DisplayVersion};
 
 use clap::{Arg, ArgAction, ArgMatches, Command, Error, value_parser};
+use day_core::WorkerCount;
 use itch_readings::{Selection, StockName};
 use std::alloc::{AllocError, Global};
 
@@ -34,7 +35,7 @@ pub enum Task<'a> {
     /// To replay a file, by as many workers as the arguments say.
     Replay {
         file: &'a str,
-        workers: u32,
+        workers: WorkerCount,
         /// Whether to say how far the replay is.
         progress: bool,
     },
@@ -62,7 +63,7 @@ pub enum Task<'a> {
     Watch {
         file: &'a str,
         stock: &'a str,
-        workers: u32,
+        workers: WorkerCount,
     },
     /// To make a file of a text.
     Assemble {
@@ -82,13 +83,13 @@ fn path<'a>(alloc: Global, name: &'a str, help: &'a str) -> Arg<'a> {
     Arg::new(alloc, name).help(help).required(true)
 }
 
-// The number of workers, from 1 to 64.
+// The number of workers.
 fn workers<'a>(alloc: Global) -> Arg<'a> {
     Arg::new(alloc, "workers")
         .long("workers")
         .value_name("N")
         .help("How many workers replay the day, from 1 to 64")
-        .value_parser(value_parser!(u32).range(1..=64))
+        .value_parser(value_parser!(u32).range(1..=i64::from(WorkerCount::MOST)))
         .default_value("1")
 }
 
@@ -261,12 +262,21 @@ pub fn stock_name(word: &str) -> Option<StockName> {
     Some(StockName::Symbol(symbol_of(symbol)?))
 }
 
+// The number of workers that the arguments of a replay give, which is in the range of the argument; 1 where they give
+// none.
+fn worker_count(replay: &ArgMatches<'_>) -> WorkerCount {
+    replay
+        .get_one("workers")
+        .and_then(WorkerCount::new)
+        .unwrap_or(WorkerCount::ONE)
+}
+
 // To replay a file, where the arguments ask for it.
 fn replaying<'a>(matches: &ArgMatches<'a>) -> Option<Task<'a>> {
     let replay = matches.subcommand_matches("replay")?;
     Some(Task::Replay {
         file: replay.get_str("FILE")?,
-        workers: replay.get_one("workers").unwrap_or(1),
+        workers: worker_count(replay),
         progress: replay.get_flag("progress"),
     })
 }
@@ -292,7 +302,7 @@ fn watching<'a>(matches: &ArgMatches<'a>) -> Option<Task<'a>> {
     Some(Task::Watch {
         file: watch.get_str("FILE")?,
         stock: watch.get_str("STOCK")?,
-        workers: watch.get_one("workers").unwrap_or(1),
+        workers: worker_count(watch),
     })
 }
 

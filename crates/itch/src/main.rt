@@ -9,6 +9,7 @@ mod prompt;
 use arguments::Task;
 use binaryfile::{Day, Feed, Limits, Sink};
 use clap::error::ErrorKind;
+use day_core::WorkerCount;
 use itch_debug::debug_run;
 use itch_engine::limits::{MOST_FILE_BYTES, MOST_MESSAGES};
 use itch_engine::{ProgFault, asm_run, dis_between_run, dis_run, hex_run, replay_run, status};
@@ -28,9 +29,6 @@ use stock_workers::FreeGate;
 
 /// The status for invalid arguments.
 const MISUSE: u8 = 2;
-
-/// The most workers that a day is replayed by.
-const MOST_WORKERS: u32 = 64;
 
 /// The status where something can't be read or written.
 const DEVICE: u8 = 3;
@@ -52,17 +50,15 @@ fn open<R: Runtime>(rt: &R, path: &str) -> Result<Feed<R::File>, ProgFault> {
     }
 }
 
-// Replays a file by this many workers, and writes its report on standard output. The arguments give no number but from
-// 1 to 64.
+// Replays a file by this many workers, and writes its report on standard output.
 fn replay<R: Runtime + AllocGlobal + Threads + Wait + Sync>(
     rt: &R,
     path: &str,
-    workers: u32,
+    workers: WorkerCount,
     progress: bool,
 ) -> Result<u32, ProgFault> {
     let mut feed = open(rt, path)?;
     let mut sink = Sink::new(io::writer(rt));
-    let workers = workers.clamp(1, MOST_WORKERS);
     if progress {
         let gate = Progress::new(rt);
         replay_run(rt, rt.alloc(), &mut feed, &mut sink, workers, &gate)
@@ -116,13 +112,12 @@ fn print_tops<R: Runtime + AllocGlobal>(
     Ok(0)
 }
 
-// Replays a file, and writes what a screen of one of its stocks sees meanwhile on standard output. The arguments give
-// no number of workers but from 1 to 64.
+// Replays a file, and writes what a screen of one of its stocks sees meanwhile on standard output.
 fn watch<R: Runtime + AllocGlobal + Threads + Wait + Sync>(
     rt: &R,
     path: &str,
     stock: &str,
-    workers: u32,
+    workers: WorkerCount,
 ) -> Result<u32, ProgFault> {
     let Some(name) = arguments::stock_name(stock) else {
         return Err(ProgFault::NoStock);
@@ -135,7 +130,7 @@ fn watch<R: Runtime + AllocGlobal + Threads + Wait + Sync>(
         &mut feed,
         &mut sink,
         name,
-        workers.clamp(1, MOST_WORKERS),
+        workers,
         &FreeGate,
         &AtomicU64::new(0),
     )?;

@@ -1,11 +1,12 @@
 //! The engine that reads a day file, replays it, and writes what a screen of one of its stocks sees meanwhile.
-ghost use Rattle.std.specs.Prelude.{◌≡◌, ◌≤◌, IfOk, IfErr};
+ghost use Rattle.std.specs.Prelude.{◌≡◌, IfOk, IfErr};
 ghost use Rattle.itch_engine.specs.Runs.{Fails, Runs};
 ghost use Rattle.itch_watch.specs.Engines.{PrintsSeen, watcher};
 
 use crate::lines::put_readings;
 use crate::watching::watch_stock;
 use binaryfile::{Day, Feed, Sink, read_to_end, send};
+use day_core::WorkerCount;
 use itch_engine::ProgFault;
 use itch_engine::limits::{MOST_FILE_BYTES, MOST_MESSAGES};
 use itch_readings::{StockName, list_stocks, locate_of, named_stocks_have_messages};
@@ -22,11 +23,10 @@ fn seen_of_file<R: Threads + Wait + Sync, A: Allocator + Copy + Send + Sync, G: 
     alloc: A,
     input: Vec<u8, A>,
     name: StockName,
-    workers: u32,
+    workers: WorkerCount,
     gate: &G,
     seen: &AtomicU64,
 ) -> Result<Vec<u8, A>, ProgFault>
-    requires { (1 ≤ workers) × (workers ≤ 64) }
     ensures text { IfOk result (λ text. PrintsSeen name input.items text.items) }
     ensures fault { IfErr result (Fails (watcher name) input.items) }
 {
@@ -66,11 +66,10 @@ pub fn watch_run<
     feed: &mut Feed<R>,
     sink: &mut Sink<W>,
     name: StockName,
-    workers: u32,
+    workers: WorkerCount,
     gate: &G,
     seen: &AtomicU64,
 ) -> Result<(), ProgFault>
-    requires { (1 ≤ workers) × (workers ≤ 64) }
     ensures { Runs (watcher name) R.remaining W.contents feed.old feed.new sink.old sink.new result }
 {
     let input = read_to_end(alloc, feed, MOST_FILE_BYTES)?;

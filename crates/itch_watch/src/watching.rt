@@ -1,5 +1,5 @@
 //! A screen of one stock, beside the workers that replay its day.
-ghost use Rattle.std.specs.Prelude.{◌≡◌, ◌<◌, ◌≤◌, ℕ, List, All, IfOk, length, map, slice_index};
+ghost use Rattle.std.specs.Prelude.{◌≡◌, ◌<◌, ℕ, List, All, IfOk, length, map, slice_index};
 ghost use Rattle.std.specs.List.{Contains};
 ghost use Rattle.day_core.specs.Owners.{last_message};
 ghost use Rattle.itch_table.specs.Projection.{IsQuiet};
@@ -10,7 +10,7 @@ ghost use Rattle.top_cell.specs.Boards.{AreNew, IsOn};
 ghost use Rattle.itch_watch.specs.Watching.{AreSeen, AreSeenToTheEnd, IsReading, IsScreenOf};
 
 use binaryfile::Day;
-use day_core::{Parts, parts_of};
+use day_core::{Parts, WorkerCount, parts_of};
 use itch_table::one_row_of_words;
 use std::alloc::{AllocError, Allocator};
 use std::sync::Wait;
@@ -127,8 +127,7 @@ fn to_the_end<A: Allocator>(
 fn look_and_replay<R: Threads + Wait + Sync, A: Allocator + Copy + Send + Sync, G: Gate>(
     rt: &R,
     alloc: A,
-    day: &Day<A>,
-    parts: &Parts<A>,
+    parts: &Parts<'_, A>,
     board: &Board<'_, A>,
     screen: Screen,
     writers: Vec<TopWriter, A>,
@@ -139,12 +138,11 @@ fn look_and_replay<R: Threads + Wait + Sync, A: Allocator + Copy + Send + Sync, 
     Result<Vec<Reading, A>, AllocError>,
     Result<Replayed<A>, AllocError>,
 )
-    requires day { day.now.payloads ≡ parts.now.day }
     requires screen { IsOn board.now screen.place }
-    requires new { AreNew day.now.payloads (locates_of_day day.now.payloads) board.now writers.items }
+    requires new { AreNew parts.now.day (locates_of_day parts.now.day) board.now writers.items }
     ensures seen { IfOk result.0 (λ readings.
         AreSeen screen.place.day screen.place.locate readings.items) }
-    ensures ends { IfOk result.1 (λ made. made.writers.items ≡ map (at_last day.now.payloads) writers.items) }
+    ensures ends { IfOk result.1 (λ made. made.writers.items ≡ map (at_last parts.now.day) writers.items) }
 {
     let look = move || -> Result<Vec<Reading, A>, AllocError>
         requires { IsOn board.now screen.place }
@@ -152,12 +150,11 @@ fn look_and_replay<R: Threads + Wait + Sync, A: Allocator + Copy + Send + Sync, 
             AreSeen screen.place.day screen.place.locate readings.items) }
     { watch(rt, alloc, board, screen, seen, ended) };
     let replay = || -> Result<Replayed<A>, AllocError>
-        requires { (day.now.payloads ≡ parts.now.day)
-            × AreNew day.now.payloads (locates_of_day day.now.payloads) board.now writers.items }
+        requires { AreNew parts.now.day (locates_of_day parts.now.day) board.now writers.items }
         ensures { IfOk result (λ made.
-            made.writers.items ≡ map (at_last day.entry.now.payloads) writers.items) }
+            made.writers.items ≡ map (at_last parts.entry.now.day) writers.items) }
     {
-        let replayed = run_parts(rt, alloc, parts, day, board, writers, gate);
+        let replayed = run_parts(rt, alloc, parts, board, writers, gate);
         ended.store(1, Ordering::SeqCst);
         replayed
     };
@@ -168,22 +165,20 @@ fn look_and_replay<R: Threads + Wait + Sync, A: Allocator + Copy + Send + Sync, 
 fn watch_parts<R: Threads + Wait + Sync, A: Allocator + Copy + Send + Sync, G: Gate>(
     rt: &R,
     alloc: A,
-    day: &Day<A>,
-    parts: &Parts<A>,
+    parts: &Parts<'_, A>,
     locate: u16,
     gate: &G,
     seen: &AtomicU64,
 ) -> Result<Vec<Reading, A>, AllocError>
-    requires day { day.now.payloads ≡ parts.now.day }
-    requires bytes { All AreBytes day.now.payloads }
-    requires stock { HasMessage day.now.payloads locate }
-    ensures { IfOk result (λ readings. AreSeenToTheEnd day.now.payloads locate readings.items) }
+    requires bytes { All AreBytes parts.now.day }
+    requires stock { HasMessage parts.now.day locate }
+    ensures { IfOk result (λ readings. AreSeenToTheEnd parts.now.day locate readings.items) }
 {
-    let (board, mut writers) = Board::of_stocks(&alloc, day, parts.locates())?;
+    let (board, mut writers) = Board::of_stocks(&alloc, parts.day(), parts.locates())?;
     let (index, screen) = screen_of(&board, &mut writers, locate);
     let ended = AtomicU64::new(0);
     let (readings, replayed) = look_and_replay(
-        rt, alloc, day, parts, &board, screen, writers, gate, seen, &ended,
+        rt, alloc, parts, &board, screen, writers, gate, seen, &ended,
     );
     let mut replayed = replayed?;
     let last = last_reading(rt, &board, &mut replayed.writers[index]);
@@ -205,15 +200,14 @@ pub fn watch_stock<R: Threads + Wait + Sync, A: Allocator + Copy + Send + Sync, 
     alloc: A,
     day: &Day<A>,
     locate: u16,
-    workers: u32,
+    workers: WorkerCount,
     gate: &G,
     seen: &AtomicU64,
 ) -> Result<Vec<Reading, A>, AllocError>
-    requires workers { (1 ≤ workers) × (workers ≤ 64) }
     requires bytes { All AreBytes day.now.payloads }
     requires stock { HasMessage day.now.payloads locate }
     ensures { IfOk result (λ readings. AreSeenToTheEnd day.now.payloads locate readings.items) }
 {
     let parts = parts_of(rt, alloc, day, workers)?;
-    watch_parts(rt, alloc, day, &parts, locate, gate, seen)
+    watch_parts(rt, alloc, &parts, locate, gate, seen)
 }

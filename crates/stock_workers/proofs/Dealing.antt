@@ -9,8 +9,6 @@ use Rattle.std.proofs.lemmas.List.Kept.{AllPairs-from_increasing}
 use Rattle.itch_table.specs.Shows.{locates_of_day}
 use Rattle.itch_table.proofs.DayLocates.{rising}
 use Rattle.day_core.specs.Owners.{own_locates}
-use Rattle.day_core.specs.Replaying.{for_own_stocks}
-use Rattle.day_core.specs.Splitting.{Split}
 use Rattle.top_cell.specs.Boards.{AreNew, CellId, IsOn, WriterAt, cell_id, new_writer}
 use Rattle.stock_workers.specs.Running.{IsWaiting, at_last}
 use Rattle.stock_workers.specs.Working.{WriterState, writer_state}
@@ -85,7 +83,7 @@ module _ (day : List (List ℕ)) (board : List CellId) (ws : List WriterAt) (new
       subst (λ (v : WriterAt). IsOn board v.place) is (new.each k (get_or ws k w) (slice_get-get_or ws k w (omega (arith, lt, long)))).1
 
   -- so are each worker's
-  waits : (workers k : ℕ) → k < workers → IsWaiting (record { day = day; workers = workers }) board k (map (find ws) (own_locates workers k day))
+  pub waits : (workers k : ℕ) → k < workers → IsWaiting (record { day = day; workers = workers }) board k (map (find ws) (own_locates workers k day))
   unfolding own_locates
   waits workers k lt =
       let p = λ (l : ℕ). eqb (l % workers) k in
@@ -94,10 +92,6 @@ module _ (day : List (List ℕ)) (board : List CellId) (ws : List WriterAt) (new
         none_done = map_twice writer_state (find ws) (filter p (locates_of_day day)) ∙ kept_same (λ l. writer_state (find ws l)) fresh p (locates_of_day day) all_fresh;
         on_board = All-map (λ w. IsOn board w.place) (find ws) (filter p (locates_of_day day)) (All-filter p (λ l. IsOn board (find ws l).place) (locates_of_day day) on_there);
       }
-
-  pub own_wait : (split : Split) → day ≡ split.day → (k : ℕ) → k < split.workers → IsWaiting split board k (for_own_stocks (find ws) split k)
-  own_wait split same k lt =
-      subst (λ (d : List (List ℕ)). IsWaiting (record { day = d; workers = split.workers }) board k (map (find ws) (own_locates split.workers k d))) same (waits split.workers k lt)
 
 -- after the last message
 pub all_at_last : (day : List (List ℕ)) (ws : List WriterAt) (ls : List ℕ) → ws ≡ map (find ws) ls → map (λ l. at_last day (find ws l)) ls ≡ map (at_last day) ws

@@ -33,7 +33,7 @@ module _ {A : Type 0} (split : Split) (writer : ℕ → WriterAt) (all : List (W
       ∙ ap (λ (xs : List ℕ). get_or xs k w.worker) are.numbers_are
       ∙ get_or-map-range_with_len (λ (n : ℕ). n) 0 split.workers k k w.worker lt (omega arith)
 
-  pub same_split : w.parts.now ≡ split
+  same_split : w.parts.now ≡ split
   same_split =
       ap (λ (v : Waiting A). v.parts.now) is ∙ sym (get_or-map (λ (v : Waiting A). v.parts.now) all k w w.parts.now room)
       ∙ ap (λ (xs : List Split). get_or xs k w.parts.now) are.splits_are
@@ -69,11 +69,11 @@ all_finished split writer all made are long each =
     }
 
 -- workers that wait may start
-pub all_may_start : {A : Type 0} (split : Split) (writer : ℕ → WriterAt) (all : List (Waiting A)) (day : List (List ℕ)) (board : List CellId) → AreWaiting split writer all → day ≡ split.day
+pub all_may_start : {A : Type 0} (split : Split) (writer : ℕ → WriterAt) (all : List (Waiting A)) (board : List CellId) → AreWaiting split writer all
     → ((k : ℕ) → k < split.workers → IsWaiting split board k (for_own_stocks writer split k))
-    → (k : ℕ) (d : Waiting A) → k < length all → IsWaiting (get_or all k d).parts.now board (get_or all k d).worker (get_or all k d).writers.items × (day ≡ (get_or all k d).parts.now.day)
-all_may_start {A} split writer all day board are same each k d lt =
+    → (k : ℕ) (d : Waiting A) → k < length all → IsWaiting (get_or all k d).parts.now board (get_or all k d).worker (get_or all k d).writers.items
+all_may_start {A} split writer all board are each k d lt =
     let w : Waiting A = get_or all k d in
     let is : w ≡ get_or all k w = get_or_default all k d w lt in
     let below : k < split.workers = omega (arith, lt, many_wait split writer all are) in
-    (known split writer all are k w is below (λ s n ws. IsWaiting s board n ws) (each k below), same ∙ ap (λ (s : Split). s.day) (sym (same_split split writer all are k w is below)))
+    known split writer all are k w is below (λ s n ws. IsWaiting s board n ws) (each k below)

@@ -1,4 +1,3 @@
-mod Crossing
 mod Dealing
 mod Finishing
 mod Joined

@@ -8,11 +8,9 @@ ghost use Rattle.stock_workers.specs.Running.{AreFinished, AreWaiting, IsFinishe
 
 use crate::gate::Gate;
 use crate::worker::Worker;
-use binaryfile::Day;
 use day_core::Parts;
 use itch_table::Outcome;
 use std::alloc::{AllocError, Allocator};
-use std::collections::VecDeque;
 use std::sync::Wait;
 use std::thread::{Threads, map_vec};
 use stock_machine::Stock;
@@ -21,7 +19,7 @@ use top_cell::{Board, TopWriter};
 /// A worker that hasn't started: the parts of its day, its number, and the writers of its stocks.
 #[derive(Drop)]
 pub(crate) struct Waiting<'p, A: Allocator> {
-    pub parts: &'p Parts<A>,
+    pub parts: &'p Parts<'p, A>,
     pub worker: u32,
     pub writers: Vec<TopWriter, A>,
 }
@@ -30,21 +28,19 @@ pub(crate) struct Waiting<'p, A: Allocator> {
 #[derive(Drop)]
 pub(crate) struct Finished<A: Allocator> {
     pub outcomes: Vec<Outcome, A>,
-    pub stocks: VecDeque<Stock<A>, A>,
-    pub writers: VecDeque<TopWriter, A>,
+    pub stocks: Vec<Stock<A>, A>,
+    pub writers: Vec<TopWriter, A>,
 }
 
 // All turns of one worker.
 fn finish<R: Threads + Wait + Sync, A: Allocator + Copy, G: Gate>(
     rt: &R,
     alloc: A,
-    day: &Day<A>,
     board: &Board<'_, A>,
     gate: &G,
     waiting: Waiting<'_, A>,
 ) -> Result<Finished<A>, AllocError>
-    requires day { day.now.payloads ≡ waiting.parts.now.day }
-    requires waiting { IsWaiting waiting.parts.now board.now waiting.worker waiting.writers.items }
+    requires { IsWaiting waiting.parts.now board.now waiting.worker waiting.writers.items }
     ensures { IfOk result (λ made. IsFinished waiting.entry.parts.now waiting.entry.worker
         waiting.entry.writers.items made.outcomes.items made.stocks.items made.writers.items) }
 {
@@ -56,9 +52,9 @@ fn finish<R: Threads + Wait + Sync, A: Allocator + Copy, G: Gate>(
     let mut outcomes = Vec::with_capacity(alloc, parts.own(number).len())?;
     let mut worker = Worker::new(alloc, parts, number, writers)?;
     let mut wait = 0;
-    while let Some(piece) = worker.turn(rt, day, board, gate)? {
+    while let Some(piece) = worker.turn(rt, board, gate)? {
         outcomes.push(piece.outcome)?;
-        wait = worker.look_ahead(day, board, wait);
+        wait = worker.look_ahead(board, wait);
     }
     let (stocks, writers) = worker.into_stocks();
     Ok(Finished {
@@ -73,13 +69,11 @@ fn finish<R: Threads + Wait + Sync, A: Allocator + Copy, G: Gate>(
 pub(crate) fn finish_all<R: Threads + Wait + Sync, A: Allocator + Copy + Send + Sync, G: Gate>(
     rt: &R,
     alloc: A,
-    day: &Day<A>,
     board: &Board<'_, A>,
     gate: &G,
     all: Vec<Waiting<'_, A>, A>,
 ) -> Result<Vec<Result<Finished<A>, AllocError>, A>, AllocError>
-    requires { All (λ w. IsWaiting w.parts.now board.now w.worker w.writers.items
-        × (day.now.payloads ≡ w.parts.now.day)) all.items }
+    requires { All (λ w. IsWaiting w.parts.now board.now w.worker w.writers.items) all.items }
     ensures { IfOk result (λ made. (split : Split) (writer : ℕ → WriterAt)
         → AreWaiting split writer all.entry.items → AreFinished split writer made.items) }
 {
@@ -88,10 +82,10 @@ pub(crate) fn finish_all<R: Threads + Wait + Sync, A: Allocator + Copy + Send + 
         all,
         &|waiting: Waiting<'_, A>| -> Result<Finished<A>, AllocError>
             requires { IsSync R.row × IsSync G.row × IsSend A.row × IsSync A.row
-                × Frees A.Allocator A.dealloc_token × (day.now.payloads ≡ waiting.parts.now.day)
+                × Frees A.Allocator A.dealloc_token
                 × IsWaiting waiting.parts.now board.now waiting.worker waiting.writers.items }
             ensures { IfOk result (λ made. IsFinished waiting.entry.parts.now waiting.entry.worker
                 waiting.entry.writers.items made.outcomes.items made.stocks.items made.writers.items) }
-        { finish(rt, alloc, day, board, gate, waiting) },
+        { finish(rt, alloc, board, gate, waiting) },
     )
 }

@@ -12,7 +12,6 @@ use binaryfile::Day;
 use day_core::{Parts, SplitFault, assemble, by_worker, in_order, split};
 use itch_table::Outcome;
 use std::alloc::{AllocError, Allocator};
-use std::collections::VecDeque;
 use std::sync::Wait;
 use std::thread::Threads;
 use stock_machine::Stock;
@@ -52,14 +51,14 @@ impl From<AllocError> for RunFault {
 #[derive(Drop)]
 struct Gathered<A: Allocator> {
     outcomes: Vec<Vec<Outcome, A>, A>,
-    stocks: Vec<VecDeque<Stock<A>, A>, A>,
-    writers: Vec<VecDeque<TopWriter, A>, A>,
+    stocks: Vec<Vec<Stock<A>, A>, A>,
+    writers: Vec<Vec<TopWriter, A>, A>,
 }
 
 // The workers of a day before they start, in the order of their numbers.
 fn waiting_workers<'p, A: Allocator + Copy>(
     alloc: A,
-    parts: &'p Parts<A>,
+    parts: &'p Parts<'p, A>,
     writers: Vec<TopWriter, A>,
 ) -> Result<Vec<Waiting<'p, A>, A>, AllocError>
     requires { length writers.items ≡ length (locates_of_day parts.now.day) }
@@ -69,12 +68,8 @@ fn waiting_workers<'p, A: Allocator + Copy>(
 {
     let count = parts.workers();
     let lists = by_worker(alloc, parts, writers)?;
-    let mut lists = VecDeque::from_vec(lists);
     let mut all = Vec::with_capacity(alloc, count as usize)?;
-    for worker in 0..count {
-        let Some(writers) = lists.pop_front() else {
-            unreachable!()
-        };
+    for (worker, writers) in (0..count).zip(lists) {
         all.push(Waiting {
             parts,
             worker,
@@ -87,7 +82,7 @@ fn waiting_workers<'p, A: Allocator + Copy>(
 // What all workers made, where none was refused memory.
 fn gather<A: Allocator + Copy>(
     alloc: A,
-    parts: &Parts<A>,
+    parts: &Parts<'_, A>,
     made: Vec<Result<Finished<A>, AllocError>, A>,
 ) -> Result<Gathered<A>, AllocError>
     requires { (writer : ℕ → WriterAt) × AreFinished parts.now writer made.items }
@@ -100,15 +95,11 @@ fn gather<A: Allocator + Copy>(
         ≡ each_worker (for_own_stocks (λ locate. at_last parts.now.day (writer locate)) parts.now)
         parts.now) }
 {
-    let count = parts.workers();
-    let mut made = VecDeque::from_vec(made);
-    let mut outcomes = Vec::with_capacity(alloc, count as usize)?;
-    let mut stocks = Vec::with_capacity(alloc, count as usize)?;
-    let mut writers = Vec::with_capacity(alloc, count as usize)?;
-    for worker in 0..count {
-        let Some(one) = made.pop_front() else {
-            unreachable!()
-        };
+    let count = made.len();
+    let mut outcomes = Vec::with_capacity(alloc, count)?;
+    let mut stocks = Vec::with_capacity(alloc, count)?;
+    let mut writers = Vec::with_capacity(alloc, count)?;
+    for one in made {
         let finished = one?;
         outcomes.push(finished.outcomes)?;
         stocks.push(finished.stocks)?;
@@ -126,23 +117,21 @@ fn gather<A: Allocator + Copy>(
 pub fn run_parts<R: Threads + Wait + Sync, A: Allocator + Copy + Send + Sync, G: Gate>(
     rt: &R,
     alloc: A,
-    parts: &Parts<A>,
-    day: &Day<A>,
+    parts: &Parts<'_, A>,
     board: &Board<'_, A>,
     writers: Vec<TopWriter, A>,
     gate: &G,
 ) -> Result<Replayed<A>, AllocError>
-    requires day { day.now.payloads ≡ parts.now.day }
-    requires new { AreNew day.now.payloads (locates_of_day day.now.payloads) board.now writers.items }
-    ensures replayed { IfOk result (λ made. IsReplayed day.now.payloads
+    requires { AreNew parts.now.day (locates_of_day parts.now.day) board.now writers.items }
+    ensures replayed { IfOk result (λ made. IsReplayed parts.now.day
         made.outcomes.items made.stocks.items made.event) }
     ensures writers { IfOk result (λ made.
-        made.writers.items ≡ map (at_last day.now.payloads) writers.items) }
+        made.writers.items ≡ map (at_last parts.now.day) writers.items) }
 {
     let waiting = waiting_workers(alloc, parts, writers)?;
-    let made = finish_all(rt, alloc, day, board, gate, waiting)?;
+    let made = finish_all(rt, alloc, board, gate, waiting)?;
     let gathered = gather(alloc, parts, made)?;
-    let replayed = assemble(alloc, parts, day, gathered.outcomes, gathered.stocks)?;
+    let replayed = assemble(alloc, parts, gathered.outcomes, gathered.stocks)?;
     let writers = in_order(alloc, parts, gathered.writers)?;
     Ok(Replayed {
         outcomes: replayed.outcomes,
@@ -186,5 +175,5 @@ pub fn run<R: Threads + Wait + Sync, A: Allocator + Copy + Send + Sync, G: Gate>
         Err(SplitFault::Memory) => return Err(RunFault::Memory),
         Err(SplitFault::Workers) => return Err(RunFault::Workers),
     };
-    Ok(run_parts(rt, alloc, &parts, day, board, writers, gate)?)
+    Ok(run_parts(rt, alloc, &parts, board, writers, gate)?)
 }

@@ -7,10 +7,8 @@ ghost use Rattle.top_cell.specs.Boards.{IsOn};
 ghost use Rattle.stock_workers.specs.Working.{PublishesTurn, ShowsTurn, WritersAt, WritersStand, stands, writer_state};
 
 use crate::gate::Gate;
-use binaryfile::Day;
 use day_core::{Parts, Piece, Runner};
 use std::alloc::{AllocError, Allocator};
-use std::collections::VecDeque;
 use std::marker::Model;
 use std::sync::Wait;
 use std::thread::Threads;
@@ -50,7 +48,7 @@ impl<'p, A: Allocator + Copy> Worker<'p, A> {
     /// An error says that memory was refused; the writers are gone.
     pub fn new(
         alloc: A,
-        parts: &'p Parts<A>,
+        parts: &'p Parts<'p, A>,
         worker: u32,
         writers: Vec<TopWriter, A>,
     ) -> Result<Worker<'p, A>, AllocError>
@@ -66,7 +64,7 @@ impl<'p, A: Allocator + Copy> Worker<'p, A> {
     /// Waits at the gate with the worker's next message, does it on the machine of its stock, publishes the best bid
     /// and ask that it leaves, and returns what became of it; none, with nothing changed, exactly where the worker has
     /// done all of them. Each message is published, also where the best bid and ask stay as they were. The caller
-    /// passes the day that was split and the writers' board.
+    /// passes the writers' board.
     ///
     /// An error says that memory was refused, which comes only where a message is left that would be applied and may
     /// need a new order or trade. Nothing was published and the worker is as it was, so that its next turn comes to the
@@ -74,12 +72,10 @@ impl<'p, A: Allocator + Copy> Worker<'p, A> {
     pub fn turn<R: Threads + Wait + Sync, G: Gate>(
         &mut self,
         rt: &R,
-        day: &Day<A>,
         board: &Board<'_, A>,
         gate: &G,
     ) -> Result<Option<Piece>, AllocError>
-        requires day { day.now.payloads ≡ self.old.state.day }
-        requires board { All (IsOn board.now) self.old.places }
+        requires { All (IsOn board.now) self.old.places }
         ensures turned { IfOk result (PublishesTurn self.old self.new) }
         ensures shown { IfOk result (λ made. IfSome made (ShowsTurn self.old.state self.new.state)) }
         ensures err { OnErr result (self.new ≡ self.old) }
@@ -88,7 +84,7 @@ impl<'p, A: Allocator + Copy> Worker<'p, A> {
         if let Some(message) = self.runner.next_message() {
             gate.at(rt, self.runner.worker(), message);
         }
-        let Some(turned) = self.runner.turn(day)? else {
+        let Some(turned) = self.runner.turn()? else {
             return Ok(None);
         };
         let best = self.runner.stock_at(turned.place).top();
@@ -104,9 +100,8 @@ impl<'p, A: Allocator + Copy> Worker<'p, A> {
     /// the machines lead to, each in a loop of its own, so short that the processor is in all of its rounds at once. A
     /// worker of few stocks does without. It changes nothing. It returns what `wait` is after the next turn; the number
     /// depends on what was read, so that the reads aren't left out.
-    pub(crate) fn look_ahead(&self, day: &Day<A>, board: &Board<'_, A>, wait: usize) -> usize
-        requires day { day.now.payloads ≡ self.now.state.day }
-        requires board { All (IsOn board.now) self.now.places }
+    pub(crate) fn look_ahead(&self, board: &Board<'_, A>, wait: usize) -> usize
+        requires { All (IsOn board.now) self.now.places }
     {
         if wait > 0 {
             return wait - 1;
@@ -117,7 +112,7 @@ impl<'p, A: Allocator + Copy> Worker<'p, A> {
         let mut places = [0; AHEAD];
         let mut near = self.runner.near();
         for message in 0..AHEAD {
-            if let Some(place) = self.runner.place_ahead(day, &mut near, message) {
+            if let Some(place) = self.runner.place_ahead(&mut near, message) {
                 places[message] = place;
             }
         }
@@ -168,16 +163,13 @@ impl<'p, A: Allocator> Worker<'p, A> {
     }
 
     // The machines of its stocks and their writers, by rising locate code.
-    pub(crate) fn into_stocks(self) -> (VecDeque<Stock<A>, A>, VecDeque<TopWriter, A>)
+    pub(crate) fn into_stocks(self) -> (Vec<Stock<A>, A>, Vec<TopWriter, A>)
         ensures stocks { result.0.items
             ≡ map (machine_at self.entry.state) (worker_locates self.entry.state) }
         ensures writers { WritersStand self.entry.state result.1.items }
         ensures places { map (λ w. w.place) result.1.items ≡ self.entry.places }
     {
         let Worker { runner, writers } = self;
-        (
-            VecDeque::from_vec(runner.into_stocks()),
-            VecDeque::from_vec(writers),
-        )
+        (runner.into_stocks(), writers)
     }
 }

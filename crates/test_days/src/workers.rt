@@ -1,7 +1,7 @@
 //! A day replayed for several numbers of workers, beside the plain machine.
 use crate::comparing::{same_stocks, step};
 use binaryfile::{Day, Feed, Sink};
-use day_core::{replay_parts, split};
+use day_core::{WorkerCount, replay_parts, split};
 use itch_engine::replay_run;
 use itch_table::{Outcome, Part, Plain, part};
 use std::alloc::Allocator;
@@ -65,7 +65,7 @@ fn compare_parts<R: Threads + Sync, A: Allocator + Copy + Send + Sync>(
     wanted: &Wanted<A>,
 ) -> Result<(), Fail> {
     let parts = split(rt, alloc, day, workers)?;
-    let found = replay_parts(alloc, &parts, day)?;
+    let found = replay_parts(alloc, &parts)?;
     same_day(alloc, &found.outcomes, &found.stocks, found.event, wanted)
 }
 
@@ -89,9 +89,9 @@ fn report_of<R: Threads + Wait + Sync, A: Allocator + Copy + Send + Sync>(
     day: &Day<A>,
     workers: u32,
 ) -> Result<Vec<u8, A>, Fail> {
-    if workers == 0 || workers > 64 {
+    let Some(workers) = WorkerCount::new(workers) else {
         return Err(Fail::new("a replay has 1 to 64 workers"));
-    }
+    };
     let mut report = Vec::new(alloc);
     replay_run(
         rt,

@@ -1,5 +1,6 @@
 //! The engines, called by one form, and the replay also by two workers.
 use binaryfile::{Feed, Sink};
+use day_core::WorkerCount;
 use itch_engine::{ProgFault, asm_run, dis_between_run, dis_run, hex_run, replay_run};
 use itch_readings::{Selection, StockName, stocks_run, tops_run};
 use itch_watch::watch_run;
@@ -128,9 +129,10 @@ impl Engine {
     >(self, rt: &T, alloc: A, reader: R, writer: &mut W) -> Result<u32, ProgFault> {
         let mut feed = Feed::new(reader);
         let mut sink = Sink::new(writer);
+        let (one, two) = (WorkerCount::ONE, WorkerCount::new(2).unwrap());
         match self {
-            Engine::Replay => replay_run(rt, alloc, &mut feed, &mut sink, 1, &FreeGate),
-            Engine::TwoWorkers => replay_run(rt, alloc, &mut feed, &mut sink, 2, &FreeGate),
+            Engine::Replay => replay_run(rt, alloc, &mut feed, &mut sink, one, &FreeGate),
+            Engine::TwoWorkers => replay_run(rt, alloc, &mut feed, &mut sink, two, &FreeGate),
             Engine::Digits => hex_run(rt, alloc, &mut feed, &mut sink),
             Engine::Disassembler => dis_run(alloc, &mut feed, &mut sink).map(|()| 0),
             Engine::Between => dis_between_run(alloc, &mut feed, &mut sink, 2, 3).map(|()| 0),
@@ -150,7 +152,7 @@ impl Engine {
                 &mut feed,
                 &mut sink,
                 StockName::Locate(3),
-                1,
+                one,
                 &FreeGate,
                 &AtomicU64::new(0),
             )

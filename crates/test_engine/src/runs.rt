@@ -1,6 +1,7 @@
 //! Runs of each engine on its file, with devices and memory that fail.
 use crate::engines::{ENGINES, Engine};
 use binaryfile::{Feed, Sink};
+use day_core::WorkerCount;
 use itch_engine::{ProgFault, replay_run};
 use std::io::ErrorKind;
 use std::sync::Wait;
@@ -62,11 +63,11 @@ impl Gate for Counting {
 // messages 1 and 2, the only ones of a stock.
 fn try_workers<T: AllocGlobal + Threads + Wait + Sync>(rt: &T, workers: u32) -> Result<(), Fail> {
     let mut output = Vec::new(rt.alloc());
-    if workers == 0 || workers > 64 {
+    let Some(count) = WorkerCount::new(workers) else {
         return Err(Fail::new("a replay has 1 to 64 workers"));
-    }
+    };
     let gate = Counting {
-        owner: 1 % workers,
+        owner: 1 % count.get(),
         calls: AtomicU64::new(0),
         own: AtomicU64::new(0),
         sum: AtomicU64::new(0),
@@ -76,7 +77,7 @@ fn try_workers<T: AllocGlobal + Threads + Wait + Sync>(rt: &T, workers: u32) -> 
         rt.alloc(),
         &mut Feed::new(FILE),
         &mut Sink::new(&mut output),
-        workers,
+        count,
         &gate,
     );
     same("an answer", &(workers, answer), &(workers, Ok(1)))?;

@@ -1,5 +1,6 @@
 //! A screen that a gate waits for.
 use binaryfile::{Feed, Sink};
+use day_core::WorkerCount;
 use itch_readings::StockName;
 use itch_watch::watch_run;
 use std::sync::Wait;
@@ -50,7 +51,7 @@ fn a_screen_that_workers_wait_for_sees_every_message(rt: HostRuntime) -> Result<
         &mut Feed::new(FILE),
         &mut Sink::new(&mut output),
         StockName::Symbol(*b"AAPL    "),
-        1,
+        WorkerCount::ONE,
         &Following { seen: &seen },
         &seen,
     );

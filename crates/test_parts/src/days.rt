@@ -1,6 +1,4 @@
 //! The days of the tests, and their parts.
-ghost use Rattle.std.specs.Prelude.{◌≡◌, IfOk};
-
 use binaryfile::Day;
 use day_core::{Parts, split};
 use std::alloc::Allocator;
@@ -9,13 +7,11 @@ use std::thread::Threads;
 pub use test_support::{add_entry, crossed_book, day_of, two_stocks};
 
 /// The parts of a day.
-pub fn parts_of<R: Threads + Sync, A: Allocator + Copy + Send + Sync>(
+pub fn parts_of<'d, R: Threads + Sync, A: Allocator + Copy + Send + Sync>(
     rt: &R,
     alloc: A,
-    day: &Day<A>,
+    day: &'d Day<A>,
     workers: u32,
-) -> Result<Parts<A>, Fail>
-    ensures { IfOk result (λ parts. parts.day ≡ day.now.payloads) }
-{
+) -> Result<Parts<'d, A>, Fail> {
     split(rt, alloc, day, workers).map_err(|_| Fail::new("no parts"))
 }

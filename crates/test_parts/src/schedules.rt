@@ -194,11 +194,11 @@ fn try_new<R: Threads + Sync>(
     let day = crossed_book(heap)?;
     let parts = parts_of(rt, heap, &day, 2)?;
     heap.restart(refusal);
-    let made = Turns::new(heap, &parts, &day);
+    let made = Turns::new(heap, &parts);
     let tried = heap.tried(made.is_err());
     let before = match made {
         Ok(turns) => looked_at(heap, &turns)?,
-        Err(AllocError) => looked_at(heap, &Turns::new(heap, &parts, &day)?)?,
+        Err(AllocError) => looked_at(heap, &Turns::new(heap, &parts)?)?,
     };
     let stock = stock_with(1, 0, None, None, None);
     same("before the first turn", &before, &([0; 4], Some(stock)))?;
@@ -235,7 +235,7 @@ fn try_turn<R: Threads + Sync>(
 ) -> Result<Tried, Fail> {
     let day = crossed_book(heap)?;
     let parts = parts_of(rt, heap, &day, 1)?;
-    let mut turns = Turns::new(heap, &parts, &day)?;
+    let mut turns = Turns::new(heap, &parts)?;
     for _ in 0..earlier {
         turns.turn(0)?;
     }

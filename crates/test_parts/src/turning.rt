@@ -1,9 +1,6 @@
 //! Turns of workers, one by one and all of a day.
-ghost use Rattle.std.specs.Prelude.{◌≡◌, IfOk};
-
 use crate::days::{parts_of, two_stocks};
 use crate::showing::{Shown, bid, shown_by, stock_with};
-use binaryfile::Day;
 use day_core::{Parts, Piece, ReplayedDay, Runner, Turned, Turns, replay_parts};
 use itch_table::{Fault, Outcome, Top};
 use std::alloc::{AllocError, Allocator, Global};
@@ -42,11 +39,9 @@ const BID: Top = Top {
 // A worker that has done nothing yet.
 fn runner_of<'p, A: Allocator + Copy>(
     alloc: A,
-    parts: &'p Parts<A>,
+    parts: &'p Parts<'p, A>,
     worker: u32,
-) -> Result<Runner<'p, A>, Fail>
-    ensures { IfOk result (λ runner. runner.day ≡ parts.now.day) }
-{
+) -> Result<Runner<'p, A>, Fail> {
     if worker >= parts.workers() {
         return Err(Fail::new("no such worker"));
     }
@@ -65,34 +60,27 @@ fn turned(message: u32, outcome: Outcome, place: usize) -> Option<Turned> {
 fn take<A: Allocator + Copy>(
     case: &str,
     runner: &mut Runner<'_, A>,
-    day: &Day<A>,
     wanted: Option<Turned>,
-) -> Result<(), Fail>
-    requires { day.now.payloads ≡ runner.old.day }
-    ensures { runner.new.day ≡ runner.old.day }
-{
-    let answer = runner.turn(day)?;
+) -> Result<(), Fail> {
+    let answer = runner.turn()?;
     same(case, &answer, &wanted)
 }
 
 // Worker 1 of two does all of its messages of the two stocks.
-fn do_messages<A: Allocator + Copy>(runner: &mut Runner<'_, A>, day: &Day<A>) -> Result<(), Fail>
-    requires { day.now.payloads ≡ runner.old.day }
-{
+fn do_messages<A: Allocator + Copy>(runner: &mut Runner<'_, A>) -> Result<(), Fail> {
     let unlisted = Outcome::Refused(Fault::NoDirectory);
     let unknown = Outcome::Refused(Fault::ReferenceUnknown);
-    take("turn 1", runner, day, turned(1, Outcome::Applied, 0))?;
-    take("turn 2", runner, day, turned(3, Outcome::Applied, 0))?;
-    take("turn 3", runner, day, turned(5, Outcome::Applied, 0))?;
-    take("turn 4", runner, day, turned(6, unlisted, 1))?;
-    take("turn 5", runner, day, turned(7, unknown, 0))?;
+    take("turn 1", runner, turned(1, Outcome::Applied, 0))?;
+    take("turn 2", runner, turned(3, Outcome::Applied, 0))?;
+    take("turn 3", runner, turned(5, Outcome::Applied, 0))?;
+    take("turn 4", runner, turned(6, unlisted, 1))?;
+    take("turn 5", runner, turned(7, unknown, 0))?;
     take(
         "a turn of a worker that has done all of its messages",
         runner,
-        day,
         None,
     )?;
-    take("its next one", runner, day, None)
+    take("its next one", runner, None)
 }
 
 #[test]
@@ -100,7 +88,7 @@ fn a_worker_does_its_messages_in_order(rt: HostRuntime) -> Result<(), Fail> {
     let day = two_stocks(rt.alloc())?;
     let parts = parts_of(&rt, rt.alloc(), &day, 2)?;
     let mut runner = runner_of(rt.alloc(), &parts, 1)?;
-    do_messages(&mut runner, &day)?;
+    do_messages(&mut runner)?;
     let places = (runner.place_of(1), runner.place_of(3));
     same("its stocks", &places, &(Some(0), Some(1)))?;
     let others = (runner.place_of(2), runner.place_of(5));
@@ -139,7 +127,7 @@ fn any_number_of_workers_makes_the_same_day(rt: HostRuntime) -> Result<(), Fail>
     let day = two_stocks(rt.alloc())?;
     for workers in [1, 2, 3, 64] {
         let parts = parts_of(&rt, rt.alloc(), &day, workers)?;
-        same_day(&replay_parts(rt.alloc(), &parts, &day)?)?;
+        same_day(&replay_parts(rt.alloc(), &parts)?)?;
     }
     Ok(())
 }
@@ -153,11 +141,11 @@ fn try_replay<R: Threads + Sync>(
     let day = two_stocks(heap)?;
     let parts = parts_of(rt, heap, &day, 2)?;
     heap.restart(refusal);
-    let made = replay_parts(heap, &parts, &day);
+    let made = replay_parts(heap, &parts);
     let tried = heap.tried(made.is_err());
     match made {
         Ok(replayed) => same_day(&replayed)?,
-        Err(AllocError) => same_day(&replay_parts(heap, &parts, &day)?)?,
+        Err(AllocError) => same_day(&replay_parts(heap, &parts)?)?,
     }
     Ok(tried)
 }
@@ -246,16 +234,9 @@ fn turns_of_two_stocks() -> [After; 8] {
 }
 
 // Takes turns of a worker with memory.
-fn lead<A: Allocator + Copy>(
-    runner: &mut Runner<'_, A>,
-    day: &Day<A>,
-    turns: &[After],
-) -> Result<(), Fail>
-    requires { day.now.payloads ≡ runner.old.day }
-    ensures { IfOk result (λ _. runner.new.day ≡ runner.old.day) }
-{
+fn lead<A: Allocator + Copy>(runner: &mut Runner<'_, A>, turns: &[After]) -> Result<(), Fail> {
     for wanted in turns {
-        take("an earlier turn", runner, day, wanted.0)?;
+        take("an earlier turn", runner, wanted.0)?;
     }
     Ok(())
 }
@@ -265,21 +246,18 @@ fn lead<A: Allocator + Copy>(
 fn turn_under<'h>(
     heap: &'h Refusing<Global>,
     runner: &mut Runner<'_, &'h Refusing<Global>>,
-    day: &Day<&'h Refusing<Global>>,
     earlier: &[After],
     wanted: After,
     refusal: Refusal,
-) -> Result<Tried, Fail>
-    requires { day.now.payloads ≡ runner.old.day }
-{
-    lead(runner, day, earlier)?;
+) -> Result<Tried, Fail> {
+    lead(runner, earlier)?;
     let before = said_by(heap, runner)?;
     heap.restart(refusal);
-    let mut answer = runner.turn(day);
+    let mut answer = runner.turn();
     let tried = heap.tried(answer.is_err());
     if tried.refused {
         same("a refused turn", &said_by(heap, runner)?, &before)?;
-        answer = runner.turn(day);
+        answer = runner.turn();
     }
     let (turned, next, [one, two, three]) = wanted;
     same("a turn", &answer, &Ok(turned))?;
@@ -301,7 +279,7 @@ fn try_turn<R: Threads + Sync>(
     let day = two_stocks(heap)?;
     let parts = parts_of(rt, heap, &day, 1)?;
     let mut runner = runner_of(heap, &parts, 0)?;
-    turn_under(heap, &mut runner, &day, earlier, *wanted, refusal)
+    turn_under(heap, &mut runner, earlier, *wanted, refusal)
 }
 
 // Only the two orders need memory.
@@ -372,7 +350,7 @@ fn turns_of_a_day_come_in_any_order(rt: HostRuntime) -> Result<(), Fail> {
     let heap = Refusing::new(rt.alloc(), Refusal::Never);
     let day = two_stocks(&heap)?;
     let parts = parts_of(&rt, &heap, &day, 2)?;
-    let mut turns = Turns::new(&heap, &parts, &day)?;
+    let mut turns = Turns::new(&heap, &parts)?;
     same("a turn of no worker", &turns.turn(2)?, &None)?;
     look_at_both("before the first turn", &turns, [0; 4], [0; 4])?;
     take_of_day(&mut turns, 1, 1, Outcome::Applied)?;

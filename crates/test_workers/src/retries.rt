@@ -1,9 +1,8 @@
 //! Turns that are refused memory and taken again, at a gate that notes with which messages it is called.
-ghost use Rattle.std.specs.Prelude.{◌≡◌, All};
+ghost use Rattle.std.specs.Prelude.{All};
 ghost use Rattle.top_cell.specs.Boards.{IsOn};
 
 use crate::turns::{only_worker, prepare, turn};
-use binaryfile::Day;
 use std::alloc::Global;
 use std::sync::Wait;
 use std::sync::atomic::{AtomicU64, Ordering};
@@ -39,12 +38,10 @@ impl Gate for Noting {
 fn take_turns<'h, R: Threads + Wait + Sync>(
     rt: &R,
     heap: &'h Refusing<Global>,
-    day: &Day<&'h Refusing<Global>>,
     board: &Board<'_, &'h Refusing<Global>>,
     worker: &mut Worker<'_, &'h Refusing<Global>>,
 ) -> Result<Tried, Fail>
-    requires day { day.now.payloads ≡ worker.old.state.day }
-    requires board { All (IsOn board.now) worker.old.places }
+    requires { All (IsOn board.now) worker.old.places }
 {
     let gate = Noting {
         digits: AtomicU64::new(0),
@@ -53,13 +50,13 @@ fn take_turns<'h, R: Threads + Wait + Sync>(
     let mut wanted = 0;
     for message in 1..=7 {
         wanted = with_digit(wanted, message);
-        if turn(rt, day, board, worker, &gate).is_err() {
+        if turn(rt, board, worker, &gate).is_err() {
             tried = Some(heap.tried(true));
             wanted = with_digit(wanted, message);
-            turn(rt, day, board, worker, &gate)?;
+            turn(rt, board, worker, &gate)?;
         }
     }
-    let last = turn(rt, day, board, worker, &gate)?;
+    let last = turn(rt, board, worker, &gate)?;
     let digits = gate.digits.load(Ordering::SeqCst);
     same("the gate's messages", &(last, digits), &(None, wanted))?;
     Ok(tried.unwrap_or_else(|| heap.tried(false)))
@@ -75,7 +72,7 @@ fn try_turns<R: Threads + Wait + Sync>(
     let (parts, waiting) = prepare(rt, heap, &day)?;
     let (mut worker, board, _) = only_worker(*heap, &parts, waiting)?;
     heap.restart(refusal);
-    take_turns(rt, *heap, &day, &board, &mut worker)
+    take_turns(rt, *heap, &board, &mut worker)
 }
 
 #[test]

@@ -26,12 +26,11 @@ pub struct Waiting<'a, A: Allocator> {
 }
 
 /// The parts of a day for one worker, and what the worker is made of.
-pub fn prepare<'a, R: Threads + Wait + Sync, A: Allocator + Copy + Send + Sync>(
+pub fn prepare<'d, 'a, R: Threads + Wait + Sync, A: Allocator + Copy + Send + Sync>(
     rt: &R,
     alloc: &'a A,
-    day: &Day<A>,
-) -> Result<(Parts<A>, Waiting<'a, A>), Fail>
-    ensures day { IfOk result (λ made. made.0.day ≡ day.now.payloads) }
+    day: &'d Day<A>,
+) -> Result<(Parts<'d, A>, Waiting<'a, A>), Fail>
     ensures waits { IfOk result (λ made. IsWaiting made.0 made.1.board 0 made.1.writers.items) }
     ensures screen { IfOk result (λ made. IsOn made.1.board made.1.screen.place) }
 {
@@ -49,12 +48,11 @@ pub fn prepare<'a, R: Threads + Wait + Sync, A: Allocator + Copy + Send + Sync>(
 /// The only worker of a day, its board, and a screen of the day's first stock.
 pub fn only_worker<'p, 'a, A: Allocator + Copy>(
     alloc: A,
-    parts: &'p Parts<A>,
+    parts: &'p Parts<'p, A>,
     waiting: Waiting<'a, A>,
 ) -> Result<(Worker<'p, A>, Board<'a, A>, Screen), AllocError>
     requires waits { IsWaiting parts.now waiting.board 0 waiting.writers.items }
     requires screen { IsOn waiting.board waiting.screen.place }
-    ensures day { IfOk result (λ made. made.0.state.day ≡ parts.now.day) }
     ensures worker { IfOk result (λ made. All (IsOn made.1) made.0.places) }
     ensures screen { IfOk result (λ made. IsOn made.1 made.2.place) }
 {
@@ -70,17 +68,14 @@ pub fn only_worker<'p, 'a, A: Allocator + Copy>(
 /// A worker's turn, after which its next one may be taken.
 pub fn turn<R: Threads + Wait + Sync, A: Allocator + Copy, G: Gate>(
     rt: &R,
-    day: &Day<A>,
     board: &Board<'_, A>,
     worker: &mut Worker<'_, A>,
     gate: &G,
 ) -> Result<Option<Piece>, AllocError>
-    requires day { day.now.payloads ≡ worker.old.state.day }
-    requires board { All (IsOn board.now) worker.old.places }
-    ensures day { worker.new.state.day ≡ worker.old.state.day }
-    ensures places { worker.new.places ≡ worker.old.places }
+    requires { All (IsOn board.now) worker.old.places }
+    ensures { worker.new.places ≡ worker.old.places }
 {
-    worker.turn(rt, day, board, gate)
+    worker.turn(rt, board, gate)
 }
 
 // What becomes of a message.
@@ -110,19 +105,17 @@ fn words_of(reading: Reading) -> [u64; 4] {
 // what is looked at there.
 fn follow<R: Threads + Wait + Sync, A: Allocator + Copy>(
     rt: &R,
-    day: &Day<A>,
     board: &Board<'_, A>,
     worker: &mut Worker<'_, A>,
     screen: &mut Screen,
     turns: &mut Turns<'_, A>,
     wanted: &[(Option<Piece>, [u64; 4])],
 ) -> Result<(), Fail>
-    requires day { day.now.payloads ≡ worker.old.state.day }
-    requires board { All (IsOn board.now) worker.old.places }
+    requires worker { All (IsOn board.now) worker.old.places }
     requires screen { IsOn board.now screen.old.place }
 {
     for after in wanted {
-        let piece = turn(rt, day, board, worker, &FreeGate)?;
+        let piece = turn(rt, board, worker, &FreeGate)?;
         let words = words_of(screen.read(rt, board));
         same("a turn", &(piece, words), after)?;
         let looked = (turns.turn(0)?, turns.look(1));
@@ -137,7 +130,7 @@ fn a_screen_reads_what_each_turn_leaves(rt: HostRuntime) -> Result<(), Fail> {
     let day = crossed_book(alloc)?;
     let (parts, waiting) = prepare(&rt, &alloc, &day)?;
     let (mut worker, board, mut screen) = only_worker(alloc, &parts, waiting)?;
-    let mut turns = Turns::new(alloc, &parts, &day)?;
+    let mut turns = Turns::new(alloc, &parts)?;
     let crossed = [3, 0x000f_6950_000f_4240, 100, 50];
     let wanted = [
         (piece(1, Outcome::Applied), [1, 0, 0, 0]),
@@ -148,15 +141,7 @@ fn a_screen_reads_what_each_turn_leaves(rt: HostRuntime) -> Result<(), Fail> {
         (piece(3, Outcome::Applied), crossed),
         (None, crossed),
     ];
-    follow(
-        &rt,
-        &day,
-        &board,
-        &mut worker,
-        &mut screen,
-        &mut turns,
-        &wanted,
-    )
+    follow(&rt, &board, &mut worker, &mut screen, &mut turns, &wanted)
 }
 
 // Makes the only worker of the two stocks under a refusal. Where it is refused, the parts are as they were, and a
@@ -289,18 +274,15 @@ fn find_without_memory<'h>(
 // Takes turns of a worker with memory.
 fn lead<R: Threads + Wait + Sync, A: Allocator + Copy>(
     rt: &R,
-    day: &Day<A>,
     board: &Board<'_, A>,
     worker: &mut Worker<'_, A>,
     turns: &[After],
 ) -> Result<(), Fail>
-    requires day { day.now.payloads ≡ worker.old.state.day }
-    requires board { All (IsOn board.now) worker.old.places }
-    ensures day { IfOk result (λ _. worker.new.state.day ≡ worker.old.state.day) }
-    ensures places { IfOk result (λ _. worker.new.places ≡ worker.old.places) }
+    requires { All (IsOn board.now) worker.old.places }
+    ensures { IfOk result (λ _. worker.new.places ≡ worker.old.places) }
 {
     for wanted in turns {
-        let piece = turn(rt, day, board, worker, &FreeGate)?;
+        let piece = turn(rt, board, worker, &FreeGate)?;
         same("an earlier turn", &piece, &wanted.0)?;
     }
     Ok(())
@@ -320,16 +302,16 @@ fn try_turn<R: Threads + Wait + Sync>(
     let day = two_stocks(*heap)?;
     let (parts, waiting) = prepare(rt, heap, &day)?;
     let (mut worker, board, mut screen) = only_worker(*heap, &parts, waiting)?;
-    lead(rt, &day, &board, &mut worker, earlier)?;
+    lead(rt, &board, &mut worker, earlier)?;
     find_without_memory(*heap, &worker)?;
     let before = see(rt, *heap, &board, &worker, &mut screen);
     heap.restart(refusal);
-    let mut answer = turn(rt, &day, &board, &mut worker, &FreeGate);
+    let mut answer = turn(rt, &board, &mut worker, &FreeGate);
     let tried = heap.tried(answer.is_err());
     if tried.refused {
         let after = see(rt, *heap, &board, &worker, &mut screen);
         same("a refused turn", &after, &before)?;
-        answer = turn(rt, &day, &board, &mut worker, &FreeGate);
+        answer = turn(rt, &board, &mut worker, &FreeGate);
     }
     let (first, second, reading) = see(rt, *heap, &board, &worker, &mut screen);
     let (piece, one, two) = *wanted;

@@ -3,6 +3,7 @@ ghost use Rattle.std.specs.Prelude.{◌≡◌, ◌↔◌, IsErrOf};
 ghost use Rattle.binaryfile.specs.Devices.{HasFailed};
 
 use binaryfile::{Feed, Sink};
+use day_core::WorkerCount;
 use itch_engine::{ProgFault, replay_run};
 use std::alloc::Allocator;
 use std::io::{self, Read, Write};
@@ -45,7 +46,8 @@ pub fn report_lines<T: Threads + Wait + Sync, A: Allocator + Copy + Send + Sync,
     ensures read { IsErrOf result ProgFault.Read ↔ HasFailed feed.new }
 {
     let mut counter = LineCounter { lines: 0 };
-    replay_run(rt, alloc, feed, &mut Sink::new(&mut counter), 1, &FreeGate)?;
+    let mut sink = Sink::new(&mut counter);
+    replay_run(rt, alloc, feed, &mut sink, WorkerCount::ONE, &FreeGate)?;
     Ok(counter.lines)
 }
 

@@ -1,5 +1,5 @@
 //! The engine that replays a day file.
-ghost use Rattle.std.specs.Prelude.{◌≡◌, ◌≤◌, IfOk, IfErr};
+ghost use Rattle.std.specs.Prelude.{◌≡◌, IfOk, IfErr};
 ghost use Rattle.itch_engine.specs.Runs.{Fails, Runs};
 ghost use Rattle.itch_engine.specs.ReplayEngines.{Replays, replayer};
 
@@ -7,6 +7,7 @@ use crate::fault::ProgFault;
 use crate::limits::{MOST_FILE_BYTES, MOST_MESSAGES};
 use crate::report::day::{Report, report_of_day};
 use binaryfile::{Day, Feed, Sink, read_to_end, send};
+use day_core::WorkerCount;
 use std::alloc::Allocator;
 use std::io::{Read, Write};
 use std::sync::Wait;
@@ -18,10 +19,9 @@ pub(crate) fn report_of_file<R: Threads + Wait + Sync, A: Allocator + Copy + Sen
     rt: &R,
     alloc: A,
     input: Vec<u8, A>,
-    workers: u32,
+    workers: WorkerCount,
     gate: &G,
 ) -> Result<Report<A>, ProgFault>
-    requires { (1 ≤ workers) × (workers ≤ 64) }
     ensures report { IfOk result (λ report. Replays input.items report.text.items report.refused) }
     ensures fault { IfErr result (Fails replayer input.items) }
 {
@@ -35,14 +35,14 @@ pub(crate) fn report_of_file<R: Threads + Wait + Sync, A: Allocator + Copy + Sen
 /// [`ProgFault::Write`] the bytes that were taken are a prefix of the report; after another fault none was sent.
 /// [`ProgFault::Read`] comes exactly where the feed has failed, [`ProgFault::TooManyBytes`] above
 /// [`MOST_FILE_BYTES`] bytes, [`ProgFault::TooManyMessages`] above [`MOST_MESSAGES`] messages, and
-/// [`ProgFault::Memory`] only where memory was refused. The report is the same for every number of workers, from 1 to
-/// 64: each replays the messages of its stocks in a thread of its own, calls the gate before each of them, and may wait
-/// there. Where no thread can be made, the work is done all the same. The report is of this project.
+/// [`ProgFault::Memory`] only where memory was refused. The report is the same for every number of workers: each
+/// replays the messages of its stocks in a thread of its own, calls the gate before each of them, and may wait there.
+/// Where no thread can be made, the work is done all the same. The report is of this project.
 ///
 /// ```text
 /// let mut feed = Feed::new(file);
 /// let mut sink = Sink::new(output);
-/// let refused = replay_run(rt, rt.alloc(), &mut feed, &mut sink, 1, &FreeGate)?;
+/// let refused = replay_run(rt, rt.alloc(), &mut feed, &mut sink, WorkerCount::ONE, &FreeGate)?;
 /// ```
 pub fn replay_run<
     T: Threads + Wait + Sync,
@@ -55,10 +55,9 @@ pub fn replay_run<
     alloc: A,
     feed: &mut Feed<R>,
     sink: &mut Sink<W>,
-    workers: u32,
+    workers: WorkerCount,
     gate: &G,
 ) -> Result<u32, ProgFault>
-    requires { (1 ≤ workers) × (workers ≤ 64) }
     ensures { Runs replayer R.remaining W.contents feed.old feed.new sink.old sink.new result }
 {
     let input = read_to_end(alloc, feed, MOST_FILE_BYTES)?;

@@ -1,5 +1,5 @@
 //! A whole day through the machines of its stocks, and the report of it.
-ghost use Rattle.std.specs.Prelude.{◌≡◌, ◌++◌, ◌<◌, ◌≤◌, ◌^◌, length, IfOk, OnOk, count_by};
+ghost use Rattle.std.specs.Prelude.{◌≡◌, ◌++◌, ◌<◌, ◌^◌, length, IfOk, OnOk, count_by};
 ghost use Rattle.std.specs.List.{All, flat_map};
 ghost use Rattle.byte_strings.specs.Bytes.{AreBytes};
 ghost use Rattle.byte_strings.specs.Extending.{Extends};
@@ -9,7 +9,7 @@ ghost use Rattle.itch_engine.specs.Report.{machine_lines, report_of_file, refuse
 use crate::report::messages::{count_refused, put_refused_lines, put_summary};
 use crate::report::stock::put_stock;
 use binaryfile::Day;
-use day_core::{Parts, parts_of};
+use day_core::{Parts, WorkerCount, parts_of};
 use itch_table::Side;
 use std::alloc::{AllocError, Allocator};
 use std::sync::Wait;
@@ -29,16 +29,14 @@ pub(crate) struct Report<A: Allocator> {
 fn replay<R: Threads + Wait + Sync, A: Allocator + Copy + Send + Sync, G: Gate>(
     rt: &R,
     alloc: A,
-    day: &Day<A>,
-    parts: &Parts<A>,
+    parts: &Parts<'_, A>,
     gate: &G,
 ) -> Result<Replayed<A>, AllocError>
-    requires { day.now.payloads ≡ parts.now.day }
-    ensures { IfOk result (λ replayed. IsReplayed day.now.payloads
+    ensures { IfOk result (λ replayed. IsReplayed parts.now.day
         replayed.outcomes.items replayed.stocks.items replayed.event) }
 {
-    let (board, writers) = Board::of_stocks(&alloc, day, parts.locates())?;
-    run_parts(rt, alloc, parts, day, &board, writers, gate)
+    let (board, writers) = Board::of_stocks(&alloc, parts.day(), parts.locates())?;
+    run_parts(rt, alloc, parts, &board, writers, gate)
 }
 
 // Adds the lines of a stock.
@@ -107,17 +105,16 @@ pub(crate) fn report_of_day<R: Threads + Wait + Sync, A: Allocator + Copy + Send
     rt: &R,
     alloc: A,
     day: &Day<A>,
-    workers: u32,
+    workers: WorkerCount,
     gate: &G,
 ) -> Result<Report<A>, AllocError>
-    requires workers { (1 ≤ workers) × (workers ≤ 64) }
     requires few { length day.now.payloads < 2 ^ 32 }
     requires bytes { All AreBytes day.now.payloads }
     ensures text { IfOk result (λ found. found.text.items ≡ report_of_file day.now) }
     ensures refused { IfOk result (λ found. found.refused ≡ refused_count day.now.payloads) }
 {
     let parts = parts_of(rt, alloc, day, workers)?;
-    let replayed = replay(rt, alloc, day, &parts, gate)?;
+    let replayed = replay(rt, alloc, &parts, gate)?;
     let text = report_text(alloc, day, &replayed)?;
     let refused = count_refused(&replayed.outcomes) as u32;
     Ok(Report { text, refused })

@@ -8,11 +8,11 @@ use Rattle.day_core.proofs.assembling.all_outcomes.Goals as goal
 
 pub offset_bounds-by_worker-worker : goal.offset_bounds-by_worker-worker
 offset_bounds-by_worker-worker g c =
-    omega (arith, c.loop-worker-test.true, c.workers-worker-end.ensures.workers, ap length c.requires.outcomes, length-map c.args.by_worker.now (λ v. v.items), length-map-range_with_len (outcomes_by c.args.parts.now) 0 c.args.parts.now.workers)
+    omega (arith, c.loop-worker-test.true, c.workers-worker-end.ensures.workers, ap length c.requires, length-map c.args.by_worker.now (λ v. v.items), length-map-range_with_len (outcomes_by c.args.parts.now) 0 c.args.parts.now.workers)
 
 pub bounds-by_worker-worker : goal.bounds-by_worker-worker
 bounds-by_worker-worker g c =
-    omega (arith, c.loop-worker-test.true, c.workers-worker-end.ensures.workers, ap length c.requires.outcomes, length-map c.args.by_worker.now (λ v. v.items), length-map-range_with_len (outcomes_by c.args.parts.now) 0 c.args.parts.now.workers)
+    omega (arith, c.loop-worker-test.true, c.workers-worker-end.ensures.workers, ap length c.requires, length-map c.args.by_worker.now (λ v. v.items), length-map-range_with_len (outcomes_by c.args.parts.now) 0 c.args.parts.now.workers)
 
 pub place_own-requires-clause-outcomes : goal.place_own-requires-clause-outcomes
 place_own-requires-clause-outcomes g c =
@@ -22,11 +22,11 @@ place_own-requires-clause-outcomes g c =
     let here = c.index-by_worker-worker.result in
     let below : worker < split.workers = omega (arith, c.loop-worker-test.true, c.workers-worker-end.ensures.workers) in
     let inside : worker < length lists =
-    omega (arith, below, ap length c.requires.outcomes, length-map lists (λ v. v.items), length-map-range_with_len (outcomes_by split) 0 split.workers)
+    omega (arith, below, ap length c.requires, length-map lists (λ v. v.items), length-map-range_with_len (outcomes_by split) 0 split.workers)
     in
     c.deref.ensures.value ∙ ap (λ v. v.items) c.index-by_worker-worker.is
     ∙ sym (get_or-map (λ v. v.items) lists worker here [] inside)
-    ∙ ap (λ (os : List (List Outcome)). get_or os worker []) c.requires.outcomes
+    ∙ ap (λ (os : List (List Outcome)). get_or os worker []) c.requires
     ∙ get_or-map-range_with_len (outcomes_by split) 0 split.workers worker worker [] below (omega arith)
 
 pub loop-worker-preserved : goal.loop-worker-preserved

@@ -9,9 +9,6 @@ loop-outcomes-init g c =
     subst (λ (s : WorkerState). HasDone first s c.in_ok-outcomes.outcomes.items) (sym (c.in_ok-runner.ensures {u = tt}))
     (does_none first c.in_ok-outcomes.outcomes.items refl c.in_ok-outcomes.ensures.items)
 
-pub turn-requires : goal.turn-requires
-turn-requires g c = c.requires.day ∙ ap (λ (s : WorkerState). s.day) (sym c.loop-outcomes.invariant.same)
-
 pub loop-outcomes-preserved : goal.loop-outcomes-preserved
 loop-outcomes-preserved g c =
     does_more (first_state c.args.parts.now c.args.worker) c.loop-outcomes.runner c.turn.new.self c.in-Some.turned c.loop-outcomes.outcomes.items c.push.new.self.items c.loop-outcomes.invariant
@@ -27,5 +24,5 @@ pub returns-clause-stocks : goal.returns-clause-stocks
 returns-clause-stocks g c =
     let first = first_state c.args.parts.now c.args.worker in
     let none = rw c.in_default.is at c.in_ok-turned.ensures.turned in
-    c.from_vec.ensures.items ∙ c.into_stocks.ensures ∙ ap (λ (s : WorkerState). map (machine_at s) (worker_locates s)) none.1
+    c.into_stocks.ensures ∙ ap (λ (s : WorkerState). map (machine_at s) (worker_locates s)) none.1
     ∙ stocks_through first c.loop-outcomes.runner c.loop-outcomes.outcomes.items c.loop-outcomes.invariant none.0

@@ -10,9 +10,8 @@ invariant_of-result g c =
     let dealt = c.in_ok-dealt.ensures.dealt in
     let seen = subst (λ (s : List Bool). AreSeen day 0 (length day) s) (sym c.deref.ensures.value) dealt.seen_are in
     let locates = locates_are day c.deref.result.now c.in_ok-locates.locates.items seen c.in_ok-locates.ensures in
-    rw c.of.ensures (record {
-      some = c.requires.some;
-      most = c.requires.most;
+    rw (← c.get.ensures.value) (record {
+      some = c.get.ensures.some;
       few = c.in_ok-dealt.ensures.few;
       locates_are = locates;
       dealt = dealt_all _ _ _ _ _ _ dealt;

@@ -2,14 +2,14 @@ use Rattle.std.proofs.Common.{◌∙◌}
 use Rattle.stock_workers.proofs.Finishing.{finished, on_board, under_way_more, waiting}
 use Rattle.stock_workers.proofs.forking.finish.Goals as goal
 
-pub turn-requires-clause-board : goal.turn-requires-clause-board
-turn-requires-clause-board g c = λ _ _.
-    on_board c.args.board.now c.args.waiting.writers.items c.loop-worker.worker c.requires.waiting.on_board c.loop-worker.invariant.same_places
+pub turn-requires-after_bounds : goal.turn-requires-after_bounds
+turn-requires-after_bounds g c κs within =
+    on_board c.args.board.now c.args.waiting.writers.items c.loop-worker.worker c.requires.on_board c.loop-worker.invariant.same_places
 
-pub look_ahead-wait-requires-clause-board : goal.look_ahead-wait-requires-clause-board
-look_ahead-wait-requires-clause-board g c =
+pub look_ahead-wait-requires : goal.look_ahead-wait-requires
+look_ahead-wait-requires g c =
     let turned = rw c.in-Some.is at c.in_ok-piece.ensures.turned in
-    on_board c.args.board.now c.args.waiting.writers.items c.turn.new.self c.requires.waiting.on_board (turned.2 ∙ c.loop-worker.invariant.same_places)
+    on_board c.args.board.now c.args.waiting.writers.items c.turn.new.self c.requires.on_board (turned.2 ∙ c.loop-worker.invariant.same_places)
 
 pub loop-worker-preserved : goal.loop-worker-preserved
 loop-worker-preserved g c =

@@ -1,36 +1,37 @@
-use Rattle.std.proofs.Common.{ℕ, List, map, sym, ap, ◌∙◌}
+use Rattle.std.proofs.Common.{ℕ, ◌∙◌}
 use Rattle.itch_table.specs.Shows.{locates_of_day}
 use Rattle.stock_workers.specs.Running.{at_last}
-use Rattle.stock_workers.proofs.Dealing.{all_at_last, find, found, own_wait}
+use Rattle.stock_workers.proofs.Dealing.{all_at_last, find, found, waits}
 use Rattle.stock_workers.proofs.Joined.{all_may_start}
 use Rattle.stock_workers.proofs.running.run_parts.Goals as goal
 
 pub finish_all-requires-after_bounds : goal.finish_all-requires-after_bounds
 finish_all-requires-after_bounds g c κs within =
-    let day = c.args.day.now.payloads in
     let ws = c.args.writers.items in
+    let board = c.args.board.now in
     let split = c.args.parts.now in
-    let listed = found day c.args.board.now ws c.requires.new ∙ ap (λ (d : List (List ℕ)). map (find ws) (locates_of_day d)) c.requires.day in
-    all_may_start split (find ws) c.in_ok-waiting.waiting.items day c.args.board.now (c.in_ok-waiting.ensures (find ws) listed) c.requires.day
-    (own_wait day c.args.board.now ws c.requires.new split c.requires.day)
+    let listed = found split.day board ws c.requires in
+    all_may_start split (find ws) c.in_ok-waiting.waiting.items board (c.in_ok-waiting.ensures (find ws) listed)
+    (waits split.day board ws c.requires split.workers)
 
 pub gather-requires : goal.gather-requires
 gather-requires g c =
     let ws = c.args.writers.items in
-    let listed = found c.args.day.now.payloads c.args.board.now ws c.requires.new ∙ ap (λ (d : List (List ℕ)). map (find ws) (locates_of_day d)) c.requires.day in
-    (find ws, c.in_ok-made.ensures c.args.parts.now (find ws) (c.in_ok-waiting.ensures (find ws) listed))
+    let split = c.args.parts.now in
+    let listed = found split.day c.args.board.now ws c.requires in
+    (find ws, c.in_ok-made.ensures split (find ws) (c.in_ok-waiting.ensures (find ws) listed))
 
 pub in_order-requires : goal.in_order-requires
 in_order-requires g c =
     let ws = c.args.writers.items in
     let split = c.args.parts.now in
-    let listed = found c.args.day.now.payloads c.args.board.now ws c.requires.new ∙ ap (λ (d : List (List ℕ)). map (find ws) (locates_of_day d)) c.requires.day in
+    let listed = found split.day c.args.board.now ws c.requires in
     (λ (l : ℕ). at_last split.day (find ws l), c.in_ok-gathered.ensures.writers (find ws) (c.in_ok-made.ensures split (find ws) (c.in_ok-waiting.ensures (find ws) listed)))
 
 pub returns-clause-writers : goal.returns-clause-writers
 returns-clause-writers g c =
     let ws = c.args.writers.items in
     let split = c.args.parts.now in
-    let listed = found c.args.day.now.payloads c.args.board.now ws c.requires.new ∙ ap (λ (d : List (List ℕ)). map (find ws) (locates_of_day d)) c.requires.day in
+    let listed = found split.day c.args.board.now ws c.requires in
     c.in_ok-writers.ensures.order (λ (l : ℕ). at_last split.day (find ws l)) (c.in_ok-gathered.ensures.writers (find ws) (c.in_ok-made.ensures split (find ws) (c.in_ok-waiting.ensures (find ws) listed)))
-    ∙ all_at_last split.day ws (locates_of_day split.day) listed ∙ ap (λ (d : List (List ℕ)). map (at_last d) ws) (sym c.requires.day)
+    ∙ all_at_last split.day ws (locates_of_day split.day) listed

@@ -1,10 +1,9 @@
-use Rattle.std.proofs.Common.{◌≡◌, All}
+use Rattle.std.proofs.Common.{All}
 use Rattle.top_cell.specs.Boards.{IsOn}
 use Rattle.test_workers.proofs.turns.follow.Given as goal
 
 abbrev pub invariant-loop-after : goal.invariant-loop-after
 invariant-loop-after g l = record {
-  day : l.day.payloads ≡ l.worker.state.day;
   worker : All (IsOn l.board) l.worker.places;
   screen : IsOn l.board l.screen.place;
 }

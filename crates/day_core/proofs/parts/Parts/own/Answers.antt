@@ -28,4 +28,4 @@ returns-in-None g c =
     let lists = c.self.inside.own.items in
     let long = length-map lists (λ v. v.items) in
     let past : c.self.inside.workers ≤ c.args.worker = omega (arith, c.in-None.ensures.lookup.3, ap length c.deref.ensures.value, long, c.self.invariant.dealt.own_long) in
-    sym (own_none c.self.inside.workers c.args.worker c.self.inside.day.value.payloads c.self.invariant.some past) ∙ ap (own_in c.args.worker) c.self.view_is
+    sym (own_none c.self.inside.workers c.args.worker c.self.inside.day.now.payloads c.self.invariant.some past) ∙ ap (own_in c.args.worker) c.self.view_is

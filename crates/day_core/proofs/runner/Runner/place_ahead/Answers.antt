@@ -1,4 +1,5 @@
 use Rattle.std.proofs.Common.{◌≡◌, List, ℕ, length, get_or, refl, sym, ap, subst, ◌∙◌, arith, true}
+use Rattle.binaryfile.specs.Index.{IsPlace}
 use Rattle.day_core.specs.Owners.{is_own, own_locates, part_at}
 use Rattle.day_core.specs.Workers.{WorkerState, state_in}
 use Rattle.day_core.proofs.Running.{own_is_own, own_is_within}
@@ -13,16 +14,20 @@ pub message_of-place-requires-clause-last : goal.message_of-place-requires-claus
 message_of-place-requires-clause-last g c =
     let state = state_in c.self.inside.parts.now c.self.inside.worker c.self.inside.done in
     let within = own_is_within state _ c.own-own.ensures _ c.saturating_add-index.result (omega arith) refl in
-    omega (arith, within, ap length (c.requires.day ∙ ap (λ (s : WorkerState). s.day) (sym c.self.view_is)))
+    omega (arith, within, ap length c.day.ensures)
 
 pub message_of-place-requires-clause-own : goal.message_of-place-requires-clause-own
 message_of-place-requires-clause-own g c =
     let inside = c.self.inside in
     let state = state_in inside.parts.now inside.worker inside.done in
-    let same = c.requires.day ∙ ap (λ (s : WorkerState). s.day) (sym c.self.view_is) in
+    let same = c.day.ensures in
     let own = own_is_own state _ c.own-own.ensures _ c.saturating_add-index.result (omega arith) refl in (
       inside.parts.now.workers,
       inside.worker,
       c.self.invariant.0.locates_are ∙ ap (own_locates inside.parts.now.workers inside.worker) (sym same),
       subst (λ (day : List (List ℕ)). is_own inside.parts.now.workers inside.worker (part_at day (get_or c.own-own.result.now c.saturating_add-index.result 0)) ≡ true) (sym same) own,
     )
+
+pub message_of-place-requires-clause-near : goal.message_of-place-requires-clause-near
+message_of-place-requires-clause-near g c =
+    subst (λ (day : List (List ℕ)). IsPlace day c.args.near.now) (sym (c.day.ensures ∙ ap (λ (s : WorkerState). s.day) c.self.view_is)) c.requires

@@ -13,12 +13,12 @@ message_of-place-requires-clause-first g c = (next_within _ _ _ _ c.own-own.ensu
 pub message_of-place-requires-clause-last : goal.message_of-place-requires-clause-last
 message_of-place-requires-clause-last g c =
     let within = next_within _ _ _ _ c.own-own.ensures c.self.invariant.0 _ (omega (arith, ap length c.own-own.ensures)) refl in
-    omega (arith, within, ap length (c.requires ∙ ap (λ (s : WorkerState). s.day) (sym c.self.view_is)))
+    omega (arith, within, ap length c.day-day.ensures)
 
 pub message_of-place-requires-clause-own : goal.message_of-place-requires-clause-own
 message_of-place-requires-clause-own g c =
     let inside = c.self.inside in
-    let same = c.requires ∙ ap (λ (s : WorkerState). s.day) (sym c.self.view_is) in
+    let same = c.day-day.ensures in
     let own = next_own _ _ _ _ c.own-own.ensures c.self.invariant.0 _ (omega (arith, ap length c.own-own.ensures)) refl in (
       inside.parts.now.workers,
       inside.worker,
@@ -28,7 +28,7 @@ message_of-place-requires-clause-own g c =
 
 pub message_of-place-requires-clause-near : goal.message_of-place-requires-clause-near
 message_of-place-requires-clause-near g c =
-    let same = c.requires ∙ ap (λ (s : WorkerState). s.day) (sym c.self.view_is) in
+    let same = c.day-day.ensures in
     subst (λ (day : List (List ℕ)). IsPlace day c.self.inside.near) (sym same) c.self.invariant.1
 
 pub index_mut-requires : goal.index_mut-requires
@@ -39,13 +39,13 @@ index_mut-requires g c =
 
 pub step-requires-clause-own : goal.step-requires-clause-own
 step-requires-clause-own g c =
-    let same = c.requires ∙ ap (λ (s : WorkerState). s.day) (sym c.self.view_is) in
+    let same = c.day-day.ensures in
     let found = c.message_of-place.ensures in
     step_own _ _ _ _ c.own-own.ensures c.self.invariant.0 _ (omega (arith, ap length c.own-own.ensures)) refl _ same _ c.index_mut.result.now found.within found.stock c.index_mut.ensures.value _ found.payload
 
 pub step-requires-clause-few : goal.step-requires-clause-few
 step-requires-clause-few g c =
-    let same = c.requires ∙ ap (λ (s : WorkerState). s.day) (sym c.self.view_is) in
+    let same = c.day-day.ensures in
     let found = c.message_of-place.ensures in
     step_few _ _ _ _ c.own-own.ensures c.self.invariant.0 _ (omega (arith, ap length c.own-own.ensures)) refl _ same _ c.index_mut.result.now found.within found.stock c.index_mut.ensures.value (omega arith)
 
@@ -56,11 +56,11 @@ invariant_of-self g c =
     let place = c.message_of-place.result.1 in
     let same : set inside.stocks.items place c.step.new.self ≡ inside.stocks.items =
     ap (set inside.stocks.items place) (c.in_err-outcome.ensures.err ∙ c.index_mut.ensures.value) ∙ set-get_or inside.stocks.items place c.index_mut.result.now in
-    (subst (λ (stocks : List StockMachine). IsRunner (state_in inside.parts.now inside.worker inside.done) inside.places stocks) (sym same) c.self.invariant.0, subst (λ (day : List (List ℕ)). IsPlace day c.message_of-place.new.near) (c.requires ∙ ap (λ (s : WorkerState). s.day) (sym c.self.view_is)) c.message_of-place.ensures.near)
+    (subst (λ (stocks : List StockMachine). IsRunner (state_in inside.parts.now inside.worker inside.done) inside.places stocks) (sym same) c.self.invariant.0, subst (λ (day : List (List ℕ)). IsPlace day c.message_of-place.new.near) c.day-day.ensures c.message_of-place.ensures.near)
 
 pub invariant_of-self-2 : goal.invariant_of-self-2
 invariant_of-self-2 g c =
-    let same = c.requires ∙ ap (λ (s : WorkerState). s.day) (sym c.self.view_is) in
+    let same = c.day-day.ensures in
     let found = c.message_of-place.ensures in
     let left = c.in_ok-outcome.ensures in
     let stepped = stock_stepped _ _ _ _ c.own-own.ensures c.self.invariant.0 _ (omega (arith, ap length c.own-own.ensures)) refl _ same _ c.index_mut.result.now found.within found.stock c.index_mut.ensures.value c.step.new.self c.in_ok-outcome.outcome _ found.payload c.step.ensures.locate left.steps left.ok in
@@ -68,7 +68,7 @@ invariant_of-self-2 g c =
 
 pub returns-clause-turned : goal.returns-clause-turned
 returns-clause-turned g c =
-    let same = c.requires ∙ ap (λ (s : WorkerState). s.day) (sym c.self.view_is) in
+    let same = c.day-day.ensures in
     let found = c.message_of-place.ensures in
     let left = c.in_ok-outcome.ensures in
     let stepped = stock_stepped _ _ _ _ c.own-own.ensures c.self.invariant.0 _ (omega (arith, ap length c.own-own.ensures)) refl _ same _ c.index_mut.result.now found.within found.stock c.index_mut.ensures.value c.step.new.self c.in_ok-outcome.outcome _ found.payload c.step.ensures.locate left.steps left.ok in
@@ -79,7 +79,7 @@ returns-clause-turned g c =
 
 pub returns-in_err-outcome-clause-grows : goal.returns-in_err-outcome-clause-grows
 returns-in_err-outcome-clause-grows g c =
-    let same = c.requires ∙ ap (λ (s : WorkerState). s.day) (sym c.self.view_is) in
+    let same = c.day-day.ensures in
     let found = c.message_of-place.ensures in
     on_err c.from_residual.result _
     (subst MayGrowNext c.self.view_is

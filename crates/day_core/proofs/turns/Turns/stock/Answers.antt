@@ -12,7 +12,7 @@ either (Some x) none some h = some x h
 
 pub returns : goal.returns
 returns g c =
-    let day = c.self.inside.day.now.payloads in
+    let day = c.self.inside.parts.now.day in
     let states = c.self.inside.workers.items in
     let from : c.from.result ≡ c.args.locate = omega arith in
     let len : c.len.result ≡ length states = omega arith in

@@ -1,13 +1,16 @@
-use Rattle.std.proofs.Common.{length, ap, ◌∙◌, arith}
+use Rattle.std.proofs.Common.{length, ap, subst, ◌∙◌, arith}
 use Rattle.std.proofs.lemmas.List.Sums.{count_by-le-length}
 use Rattle.itch_table.proofs.Days.{length-outcomes_until}
+use Rattle.day_core.specs.Replaying.{IsReplayed}
+use Rattle.day_core.specs.Splitting.{Split}
 use Rattle.itch_engine.specs.Report.{is_refused}
 use Rattle.itch_engine.proofs.report.day.report_of_day.Goals as goal
 
 pub overflow_cast-refused : goal.overflow_cast-refused
 overflow_cast-refused g c =
     let day = c.args.day.now.payloads in
-    let all = (c.in_ok-replayed.ensures {u = tt}) in
+    let made = c.in_ok-replayed.replayed in
+    let all = subst (λ (s : Split). IsReplayed s.day made.outcomes.items made.stocks.items made.event) (c.in_ok-parts.ensures {u = tt}) (c.in_ok-replayed.ensures {u = tt}) in
     record {
       fits = omega (
         arith,

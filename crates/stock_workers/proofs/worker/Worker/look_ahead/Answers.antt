@@ -1,4 +1,4 @@
-use Rattle.std.proofs.Common.{All, length, sym, ap, subst, ◌≡◌, ◌<◌, ◌∙◌, arith}
+use Rattle.std.proofs.Common.{All, sym, ap, subst, ◌∙◌, arith}
 use Rattle.std.proofs.lemmas.List.{get_or-map, length-map}
 use Rattle.top_cell.specs.Boards.{IsOn, WriterAt}
 use Rattle.stock_workers.specs.Working.{Working}
@@ -8,6 +8,6 @@ pub touch-sum-requires-then-place-len : goal.touch-sum-requires-then-place-len
 touch-sum-requires-then-place-len g c =
     let writers = c.self.inside.writers.items in
     let here = c.index.result.now in
-    let on = subst (λ (w : Working). All (IsOn c.args.board.now) w.places) (sym c.self.view_is) c.requires.board in
+    let on = subst (λ (w : Working). All (IsOn c.args.board.now) w.places) (sym c.self.view_is) c.requires in
     subst (IsOn c.args.board.now) (get_or-map (λ (w : WriterAt). w.place) writers _ here here.place (omega (arith, c.if-place-len.true, c.len.ensures)) ∙ ap (λ (w : WriterAt). w.place) (sym c.index.ensures))
     (on _ here.place (omega (arith, c.if-place-len.true, c.len.ensures, length-map writers (λ (w : WriterAt). w.place))))

@@ -12,7 +12,7 @@ publish-requires-clause-own g c =
     let writers = c.self.inside.writers.items in
     let at = c.in-Some-2.turned.place in
     let here = c.index_mut.result.now in
-    let on = subst (λ (w : Working). All (IsOn c.args.board.now) w.places) (sym c.self.view_is) c.requires.board in
+    let on = subst (λ (w : Working). All (IsOn c.args.board.now) w.places) (sym c.self.view_is) c.requires in
     let inside = room c.self.inside.runner c.in-Some-2.turned turned.0 writers here c.self.invariant c.index_mut.ensures.value in
     subst (IsOn c.args.board.now) (get_or-map (λ (w : WriterAt). w.place) writers at here here.place inside ∙ ap (λ (w : WriterAt). w.place) (sym c.index_mut.ensures.value))
     (on at here.place (omega (arith, inside, length-map writers (λ (w : WriterAt). w.place))))
