@@ -215,24 +215,8 @@ fn cells_that_are_made_take_no_memory(rt: HostRuntime) -> Result<(), Fail> {
 // That the writer is in the middle of its first change, and that a screen stands before the first message.
 const IN_FIRST_CHANGE: (Glance, u32) = (Err(Busy { count: 1 }), 0);
 
-// That the writer is in the middle of its second change, and that a screen stands at the first message.
-const IN_SECOND_CHANGE: (Glance, u32) = (Err(Busy { count: 3 }), 1);
-
-// Publishes the message at which the writer stands once more.
-fn publish_again<A: Allocator + Copy>(
-    _day: &Day<A>,
-    machine: &Plain<A>,
-    board: &Board<'_, A>,
-    writer: &mut TopWriter,
-)
-    requires { AreInStep _day.now.payloads board.now machine.now writer.old }
-    ensures { writer.new ≡ writer.old }
-{
-    writer.publish(board, writer.message(), machine.top(writer.locate()));
-}
-
-// What glances return while the first two messages of the crossed book are shown by single steps, of which the first
-// is published once more in between, and after each of the three.
+// What glances return while the first message of the crossed book is shown by single steps, then, and after the other
+// two.
 fn glance_at_steps<A: Allocator + Copy>(
     day: &Day<A>,
     machine: &mut Plain<A>,
@@ -252,9 +236,7 @@ fn glance_at_steps<A: Allocator + Copy>(
         ask_shares: 0,
     };
     same("after it", &screen.glance(board, 1), &Ok(first))?;
-    publish_again(day, machine, board, &mut writer);
-    let (mut writer, seen) = show_by_steps(day, machine, board, writer, &mut screen)?;
-    same_list("in the second change", &seen, &[IN_SECOND_CHANGE; 5])?;
+    show_next(day, machine, board, &mut writer)?;
     show_next(day, machine, board, &mut writer)?;
     same("at the end", &screen.glance(board, 1), &Ok(CROSSED))?;
     same("where the screen stands", &screen.message(), &3)
@@ -266,4 +248,45 @@ fn a_glance_is_busy_during_a_change(rt: HostRuntime) -> Result<(), Fail> {
     let day = crossed_book(alloc)?;
     let (board, writer, mut machine) = only_cell(&alloc, &day)?;
     glance_at_steps(&day, &mut machine, &board, writer)
+}
+
+// That the writer is in the middle of its second change, and that a screen stands before the first message.
+const IN_SECOND_CHANGE: (Glance, u32) = (Err(Busy { count: 3 }), 0);
+
+// Publishes the message at which the writer stands once more.
+fn publish_again<A: Allocator + Copy>(
+    _day: &Day<A>,
+    machine: &Plain<A>,
+    board: &Board<'_, A>,
+    writer: &mut TopWriter,
+)
+    requires { AreInStep _day.now.payloads board.now machine.now writer.old }
+    ensures { writer.new ≡ writer.old }
+{
+    writer.publish(board, writer.message(), machine.top(writer.locate()));
+}
+
+// What glances return while the second message of the crossed book is shown by single steps, where the first one was
+// published twice.
+fn glance_after_twice<A: Allocator + Copy>(
+    day: &Day<A>,
+    machine: &mut Plain<A>,
+    board: &Board<'_, A>,
+    mut writer: TopWriter,
+) -> Result<(), Fail>
+    requires { AreInStep day.now.payloads board.now machine.old writer }
+{
+    let mut screen = writer.screen(board);
+    show_next(day, machine, board, &mut writer)?;
+    publish_again(day, machine, board, &mut writer);
+    let (_writer, seen) = show_by_steps(day, machine, board, writer, &mut screen)?;
+    same_list("in the second change", &seen, &[IN_SECOND_CHANGE; 5])
+}
+
+#[test]
+fn a_message_published_again_changes_nothing(rt: HostRuntime) -> Result<(), Fail> {
+    let alloc = rt.alloc();
+    let day = crossed_book(alloc)?;
+    let (board, writer, mut machine) = only_cell(&alloc, &day)?;
+    glance_after_twice(&day, &mut machine, &board, writer)
 }
