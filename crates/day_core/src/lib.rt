@@ -2,7 +2,7 @@
 //!
 //! [`split`] says which messages each of 1 to 64 workers does, and [`replay_parts`] does them, one worker after
 //! another: the outcome of each message, and each stock's machine after the day. [`parts_of`] is [`split`] for a number
-//! that is known to be one of workers ([`WorkerCount`]).
+//! that is from 1 to 64 by its type ([`WorkerCount`]).
 //!
 //! ```rust
 //! let parts = split(rt, alloc, &day, workers)?;

@@ -65,7 +65,8 @@ fn queues_of<T: Drop, A: Allocator + Copy>(
     alloc: A,
     lists: Vec<Vec<T, A>, A>,
 ) -> Result<Vec<VecDeque<T, A>, A>, AllocError>
-    ensures { IfOk result (λ queues. map (λ own. own.items) queues.items ≡ map (λ own. own.items) lists.items) }
+    ensures { IfOk result (λ queues.
+        map (λ own. own.items) queues.items ≡ map (λ own. own.items) lists.items) }
 {
     let mut queues = Vec::with_capacity(alloc, lists.len())?;
     for list in lists {

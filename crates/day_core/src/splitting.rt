@@ -27,7 +27,7 @@ impl From<AllocError> for SplitFault {
     }
 }
 
-/// Splits a day as [`split`] does, for a number that is known to be one of workers.
+/// Splits a day as [`split`] does, for a number of workers that is from 1 to 64 by its type.
 pub fn parts_of<'d, R: Threads + Sync, A: Allocator + Copy + Send + Sync>(
     rt: &R,
     alloc: A,

@@ -262,11 +262,10 @@ pub fn stock_name(word: &str) -> Option<StockName> {
     Some(StockName::Symbol(symbol_of(symbol)?))
 }
 
-// The number of workers that the arguments of a replay give, which is in the range of the argument; 1 where they give
+// The number of workers that the arguments of a task give, which is in the range of the argument; 1 where they give
 // none.
-fn worker_count(replay: &ArgMatches<'_>) -> WorkerCount {
-    replay
-        .get_one("workers")
+fn worker_count(task: &ArgMatches<'_>) -> WorkerCount {
+    task.get_one("workers")
         .and_then(WorkerCount::new)
         .unwrap_or(WorkerCount::ONE)
 }

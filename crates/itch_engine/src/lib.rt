@@ -17,7 +17,7 @@
 //! ```
 //!
 //! The program `itch` calls these. [`replay_run`] and [`hex_run`] take `rt` as well, in whose threads the workers
-//! replay.
+//! replay; `workers` is a `WorkerCount` of `day_core`.
 //!
 //! All meet one contract, `Runs`, which says what was read, written and returned for each result. [`limits`] has the
 //! greatest inputs that they take, and [`status`] the exit status for what an engine returned. The functions that begin

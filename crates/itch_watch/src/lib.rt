@@ -6,10 +6,13 @@
 //! last doesn't.
 //!
 //! ```rust
-//! watch_run(rt, rt.alloc(), &mut feed, &mut sink, StockName::Locate(1), workers, &FreeGate)?;
+//! let seen = AtomicU64::new(0);
+//! let stock = StockName::Locate(1);
+//! watch_run(rt, rt.alloc(), &mut feed, &mut sink, stock, workers, &FreeGate, &seen)?;
 //! ```
 //!
-//! Both take `rt`, in whose threads the workers replay and the screen looks. [`watch_stock`] is a caller to copy from:
+//! Both take `rt`, in whose threads the workers replay and the screen looks; `workers` is a `WorkerCount` of
+//! `day_core`. [`watch_stock`] is a caller to copy from:
 //! it calls `run_parts` of `stock_workers`, and its screen reads the board meanwhile.
 #![tactic(auto)]
 

@@ -1,6 +1,6 @@
 -- What the loads of a try show together, and the steps of a change.
 use Rattle.std.proofs.Common.{◌≡◌, ◌≢◌, ℕ, ◌+◌, ◌%◌, ◌<◌, ◌≤◌, List, [], Some, None, inl, inr, refl, sym, ap, ◌∙◌, subst, arith}
-use Rattle.top_cell.specs.Rule.{ShowsOf, IsIdle, IsScreen, stock_of, number_in, number_of, rest_of, change_of, sight_of, sight}
+use Rattle.top_cell.specs.Rule.{ShowsOf, IsIdle, IsScreen, stock_of, number_in, number_of, change_of, sight_of, sight}
 use Rattle.top_cell.specs.WriterBegins.{WriterBegun}
 use Rattle.top_cell.specs.WriterPuts.{WriterHasPut}
 use Rattle.top_cell.specs.WriterEnds.{WriterEnded}
@@ -10,7 +10,7 @@ use Rattle.top_cell.specs.Tries.{CountsRise, Got, Lost}
 use Rattle.top_cell.specs.declared.rule.DayStock.{DayStock}
 use Rattle.top_cell.specs.declared.rule.Sight.{Sight}
 use Rattle.top_cell.specs.declared.rule.View.{View}
-use Rattle.top_cell.specs.declared.rule.View.TheVariants.{WriterOf, Writing, ScreenOf}
+use Rattle.top_cell.specs.declared.rule.View.TheVariants.{Writing, ScreenOf}
 
 -- ---- a try
 

@@ -1,12 +1,12 @@
 -- The rule of a cell where one view changes.
-use Rattle.std.proofs.Common.{◌≡◌, ◌≢◌, ℕ, zero, suc, ◌%◌, ◌≤◌, true, false, true≢false, List, [], ◌∷◌, map, get_or, length, set, inl, refl, sym, ap, ◌∙◌, subst, ⊎_elim, arith, le_refl, le_trans, length-set}
+use Rattle.std.proofs.Common.{◌≡◌, ◌≢◌, ℕ, zero, suc, ◌%◌, ◌≤◌, true, false, true≢false, List, [], ◌∷◌, map, length, set, inl, refl, sym, ap, ◌∙◌, subst, ⊎_elim, arith, le_refl, le_trans, length-set}
 use Rattle.std.specs.Prelude.{slice_index}
 use mathlib.Core.Option.{some, some-ne-none, some-injective}
 use lib.ListN.{get_elem?}
 use lib.Seq.{set-get_or}
 use Rattle.atomic_table.specs.Table.{State, keeps, stepped}
 use Rattle.atomic_table.proofs.Lists.{at_set, set_else}
-use Rattle.top_cell.specs.Rule.{IsAboveNoteOrNow, IsNotedOrNow, Sees, Fits, is_writers, IsOpen, CellHolds, new_cell, open_cell, CellRule, new_sight, note_of, sight_of}
+use Rattle.top_cell.specs.Rule.{IsAboveNoteOrNow, IsNotedOrNow, Sees, Fits, is_writers, IsOpen, CellHolds, new_cell, open_cell, CellRule, note_of, sight_of}
 use Rattle.top_cell.specs.declared.rule.DayStock.{DayStock}
 use Rattle.top_cell.specs.declared.rule.Sight.{Sight}
 use Rattle.top_cell.specs.declared.rule.View.{View}

@@ -29,11 +29,12 @@ pub record ChangeAt : Type 0 where
   pub to : ℕ
   pub put : ℕ
 
--- a screen, which stands at a message: how often it has loaded the count or a word of its cell, how often it has loaded
--- the count, has begun a try and has won one, the last count that it has loaded, and the even one at which its last try
--- began
+-- a screen, which stands at a message: its seat of the cell, how often it has loaded the count or a word there, how
+-- often it has loaded the count, has begun a try and has won one, the last count that it has loaded, and the even one
+-- at which its last try began
 pub record ScreenAt : Type 0 where
   pub place : Place
+  pub seat : ℕ
   pub message : ℕ
   pub loads : ℕ
   pub looks : ℕ
@@ -64,10 +65,11 @@ abbrev pub AreApart : List CellId → Type 0
 AreApart board =
     (i j : ℕ) (c d : CellId) → slice_get board i ≡ Some c → slice_get board j ≡ Some d → c.locate ≡ d.locate → c ≡ d
 
--- a screen that stands at a message and has made no loads
-abbrev pub new_screen : Place → ℕ → ScreenAt
-new_screen own message = record {
+-- a screen that stands at a message and has made no loads, at a seat
+abbrev pub new_screen : Place → ℕ → ℕ → ScreenAt
+new_screen own message seat = record {
   place = own;
+  seat = seat;
   message = message;
   loads = 0;
   looks = 0;

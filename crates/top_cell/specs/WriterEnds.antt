@@ -1,5 +1,5 @@
 -- Writer ends: the count goes up by one, where all four words were put. The writer stands at their number, and notes
--- what is known at each seat.
+-- what is known at each seat, as when it begins.
 use Rattle.std.specs.Prelude.{◌≡◌, List}
 use Rattle.top_cell.specs.declared.rule.Sight.{Sight}
 use Rattle.top_cell.specs.declared.rule.View.{View}

@@ -16,9 +16,10 @@ use std::sync::Wait;
 
 /// One that reads a cell. It stands at the message that it has read last, and never reads an earlier one.
 ///
-/// It is seen as the cell that it belongs to, with the day and the stock that the cell shows, the number of the
-/// message at which it stands, how often it has loaded the count or a word of the cell, the last count that it has
-/// loaded, and the even one at which its last try to read began. Neither of these counts ever falls.
+/// It is seen as the cell that it belongs to, with the day and the stock that the cell shows, its seat there, the number
+/// of the message at which it stands, how often it has loaded the count or a word of the cell, how often it has loaded
+/// the count, has begun a try to read and has won one, the last count that it has loaded, and the even one at which its
+/// last try began. None of these counts ever falls.
 #[derive(Drop)]
 pub struct Screen {
     pub(crate) seat: Seat,
@@ -36,6 +37,7 @@ impl Model for Screen {
 
     ghost view = { λ s. record {
       place = place s.seat.me.0 s.index s.seat.table_id;
+      seat = s.seat.id;
       message = s.message;
       loads = (sight_of s.seat.me.0).loads;
       looks = (sight_of s.seat.me.0).looks;
@@ -79,9 +81,10 @@ impl Screen {
     /// It waits for nobody. An error says that the writer was changing the cell at each try; the screen then stands
     /// where it stood. Where no change is under way from the beginning to the end of a try, it succeeds.
     ///
-    /// By the rule of a cell, a screen that has loaded the count, begun a try or won one in a call has found there what
-    /// stood at some moment of the call. So a reading is of no earlier message than the cell showed when the call
-    /// began, and a glance during which the count is even and doesn't change isn't busy.
+    /// By the rule of a cell, what a screen has found at its seat in a call stood there at some moment of the call: the
+    /// counts that it has loaded, and the message of a try that it has won or an earlier one. So a reading is of no
+    /// earlier message than the cell showed when the call began, and a glance during which the count is even and
+    /// doesn't change isn't busy.
     pub fn glance<A: Allocator>(
         &mut self,
         board: &Board<'_, A>,
@@ -90,6 +93,7 @@ impl Screen {
         requires own { IsOn board.now self.old.place }
         requires tries { 1 ≤ tries }
         ensures place { self.new.place ≡ self.old.place }
+        ensures seat { self.new.seat ≡ self.old.seat }
         ensures shows { IfOk result (λ reading.
             Shows self.old.place.day self.old.place.locate reading.message (words_read reading)) }
         ensures later { IfOk result (λ reading. self.old.message ≤ reading.message) }
@@ -123,6 +127,7 @@ impl Screen {
     pub fn read<R: Wait, A: Allocator>(&mut self, rt: &R, board: &Board<'_, A>) -> Reading
         requires { IsOn board.now self.old.place }
         ensures place { self.new.place ≡ self.old.place }
+        ensures seat { self.new.seat ≡ self.old.seat }
         ensures shows { Shows self.old.place.day self.old.place.locate result.message (words_read result) }
         ensures later { self.old.message ≤ result.message }
         ensures stands { self.new.message ≡ result.message }
@@ -145,7 +150,7 @@ impl Screen {
     pub fn split<A: Allocator>(&mut self, board: &Board<'_, A>) -> Screen
         requires { IsOn board.now self.old.place }
         ensures same { self.new ≡ self.old }
-        ensures screen { result ≡ new_screen self.old.place self.old.message }
+        ensures screen { result ≡ new_screen self.old.place self.old.message result.seat }
     {
         let cell = board.cell(self.index);
         Screen {

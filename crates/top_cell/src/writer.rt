@@ -85,7 +85,7 @@ impl TopWriter {
     pub fn screen<A: Allocator>(&mut self, board: &Board<'_, A>) -> Screen
         requires { IsOn board.now self.old.place }
         ensures same { self.new ≡ self.old }
-        ensures screen { result ≡ new_screen self.old.place self.old.message }
+        ensures screen { result ≡ new_screen self.old.place self.old.message result.seat }
     {
         let cell = board.cell(self.index);
         Screen {
