@@ -1,7 +1,7 @@
 //! Days that are split among workers.
 use crate::days::{add_entry, day_of, parts_of, two_stocks};
 use binaryfile::Day;
-use day_core::{Piece, SplitFault, split};
+use day_core::{Parts, Piece, SplitFault, split};
 use itch_table::Outcome;
 use std::alloc::{Allocator, Global};
 use std::test::Fail;
@@ -102,6 +102,24 @@ fn a_long_day_is_split_whole(rt: HostRuntime) -> Result<(), Fail> {
     )
 }
 
+// Compares the parts of a day, which has these stocks, with those of a good run.
+fn compare<R: Threads + Sync, A: Allocator + Copy + Send + Sync>(
+    rt: &R,
+    alloc: A,
+    day: &Day<A>,
+    parts: &Parts<'_, A>,
+    locates: &[u16],
+) -> Result<(), Fail> {
+    same_list("the stocks", parts.locates(), locates)?;
+    let workers = parts.workers();
+    let whole = parts_of(rt, alloc, day, workers)?;
+    same_list("the messages of no stock", parts.fixed(), whole.fixed())?;
+    for worker in 0..workers {
+        same_list("a worker's messages", parts.own(worker), whole.own(worker))?;
+    }
+    Ok(())
+}
+
 // Splits a day under a refusal, which leaves the day as it is. Where it is refused, it is split with memory. It has
 // these stocks.
 fn try_split<R: Threads + Sync>(
@@ -117,22 +135,14 @@ fn try_split<R: Threads + Sync>(
     let made = split(rt, heap, &day, workers);
     let tried = heap.tried(made.is_err());
     same_bytes("the day", day.bytes(), file)?;
-    let parts = match made {
-        Ok(parts) => parts,
+    match made {
+        Ok(parts) => compare(rt, heap, &day, &parts, locates)?,
         Err(fault) => {
-            same(
-                "a refused growth",
-                &(refusal, fault),
-                &(refusal, SplitFault::Memory),
-            )?;
-            parts_of(rt, heap, &day, workers)?
+            let found = (refusal, fault);
+            same("a refused growth", &found, &(refusal, SplitFault::Memory))?;
+            let parts = parts_of(rt, heap, &day, workers)?;
+            compare(rt, heap, &day, &parts, locates)?;
         }
-    };
-    same_list("the stocks", parts.locates(), locates)?;
-    let whole = parts_of(rt, heap, &day, workers)?;
-    same_list("the messages of no stock", parts.fixed(), whole.fixed())?;
-    for worker in 0..workers {
-        same_list("a worker's messages", parts.own(worker), whole.own(worker))?;
     }
     Ok(tried)
 }

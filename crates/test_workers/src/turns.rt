@@ -144,31 +144,42 @@ fn a_screen_reads_what_each_turn_leaves(rt: HostRuntime) -> Result<(), Fail> {
     follow(&rt, &board, &mut worker, &mut screen, &mut turns, &wanted)
 }
 
-// Makes the only worker of the two stocks under a refusal. Where it is refused, the parts are as they were, and a
-// worker is made with memory. A list that is refused more room than it needs may ask again for less: where one growth
-// alone is refused, there is no worker exactly where no other growth is asked for after it.
+// Makes the only worker of the two stocks under a refusal. Where it is refused, the parts are as they were.
+fn make_worker<'h, R: Threads + Wait + Sync>(
+    rt: &R,
+    heap: &'h Refusing<Global>,
+    day: &Day<&'h Refusing<Global>>,
+    refusal: Refusal,
+) -> Result<Tried, Fail> {
+    let (parts, waiting) = prepare(rt, &heap, day)?;
+    heap.restart(refusal);
+    let made = only_worker(heap, &parts, waiting).is_ok();
+    let tried = heap.tried(!made);
+    same_list(
+        "the worker's messages",
+        parts.own(0),
+        &[1, 2, 3, 4, 5, 6, 7],
+    )?;
+    Ok(tried)
+}
+
+// The same, and where it is refused, a worker is made with memory. A list that is refused more room than it needs may
+// ask again for less: where one growth alone is refused, there is no worker exactly where no other growth is asked for
+// after it.
 fn try_worker<R: Threads + Wait + Sync>(
     rt: &R,
     heap: &Refusing<Global>,
     refusal: Refusal,
 ) -> Result<Tried, Fail> {
     let day = two_stocks(heap)?;
-    let (parts, waiting) = prepare(rt, &heap, &day)?;
-    heap.restart(refusal);
-    let made = only_worker(heap, &parts, waiting).is_ok();
-    let tried = heap.tried(!made);
+    let tried = make_worker(rt, heap, &day, refusal)?;
     if let Refusal::Only(growth) = refusal {
         let last = tried.growths == growth;
         same("one alone", &(growth, tried.refused), &(growth, last))?;
     }
     if tried.refused {
-        same_list(
-            "the worker's messages",
-            parts.own(0),
-            &[1, 2, 3, 4, 5, 6, 7],
-        )?;
-        let (parts, waiting) = prepare(rt, &heap, &day)?;
-        only_worker(heap, &parts, waiting)?;
+        let again = make_worker(rt, heap, &day, Refusal::Never)?;
+        same("with memory", &again.refused, &false)?;
     }
     Ok(tried)
 }
