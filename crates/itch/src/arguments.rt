@@ -35,7 +35,7 @@ pub enum Task<'a> {
     /// To replay a file, by as many workers as the arguments say.
     Replay {
         file: &'a str,
-        workers: WorkerCount,
+        workers: u32,
         /// Whether to say how far the replay is.
         progress: bool,
     },
@@ -63,7 +63,7 @@ pub enum Task<'a> {
     Watch {
         file: &'a str,
         stock: &'a str,
-        workers: WorkerCount,
+        workers: u32,
     },
     /// To make a file of a text.
     Assemble {
@@ -262,20 +262,12 @@ pub fn stock_name(word: &str) -> Option<StockName> {
     Some(StockName::Symbol(symbol_of(symbol)?))
 }
 
-// The number of workers that the arguments of a task give, which is in the range of the argument; 1 where they give
-// none.
-fn worker_count(task: &ArgMatches<'_>) -> WorkerCount {
-    task.get_one("workers")
-        .and_then(WorkerCount::new)
-        .unwrap_or(WorkerCount::ONE)
-}
-
 // To replay a file, where the arguments ask for it.
 fn replaying<'a>(matches: &ArgMatches<'a>) -> Option<Task<'a>> {
     let replay = matches.subcommand_matches("replay")?;
     Some(Task::Replay {
         file: replay.get_str("FILE")?,
-        workers: worker_count(replay),
+        workers: replay.get_one("workers").unwrap_or(1),
         progress: replay.get_flag("progress"),
     })
 }
@@ -301,7 +293,7 @@ fn watching<'a>(matches: &ArgMatches<'a>) -> Option<Task<'a>> {
     Some(Task::Watch {
         file: watch.get_str("FILE")?,
         stock: watch.get_str("STOCK")?,
-        workers: worker_count(watch),
+        workers: watch.get_one("workers").unwrap_or(1),
     })
 }
 

@@ -50,15 +50,21 @@ fn open<R: Runtime>(rt: &R, path: &str) -> Result<Feed<R::File>, ProgFault> {
     }
 }
 
+// The number of workers that the arguments give, which is in the range of the argument.
+fn worker_count(number: u32) -> WorkerCount {
+    WorkerCount::new(number).unwrap_or(WorkerCount::ONE)
+}
+
 // Replays a file by this many workers, and writes its report on standard output.
 fn replay<R: Runtime + AllocGlobal + Threads + Wait + Sync>(
     rt: &R,
     path: &str,
-    workers: WorkerCount,
+    workers: u32,
     progress: bool,
 ) -> Result<u32, ProgFault> {
     let mut feed = open(rt, path)?;
     let mut sink = Sink::new(io::writer(rt));
+    let workers = worker_count(workers);
     if progress {
         let gate = Progress::new(rt);
         replay_run(rt, rt.alloc(), &mut feed, &mut sink, workers, &gate)
@@ -117,7 +123,7 @@ fn watch<R: Runtime + AllocGlobal + Threads + Wait + Sync>(
     rt: &R,
     path: &str,
     stock: &str,
-    workers: WorkerCount,
+    workers: u32,
 ) -> Result<u32, ProgFault> {
     let Some(name) = arguments::stock_name(stock) else {
         return Err(ProgFault::NoStock);
@@ -130,7 +136,7 @@ fn watch<R: Runtime + AllocGlobal + Threads + Wait + Sync>(
         &mut feed,
         &mut sink,
         name,
-        workers,
+        worker_count(workers),
         &FreeGate,
         &AtomicU64::new(0),
     )?;
