@@ -1,6 +1,7 @@
 //! One worker with the writers of its stocks' cells.
-ghost use Rattle.std.specs.Prelude.{◌≡◌, ℕ, All, IfOk, IfSome, MatchOption, OnErr, map};
+ghost use Rattle.std.specs.Prelude.{◌≡◌, ◌≤◌, ℕ, All, IfOk, IfSome, MatchOption, OnErr, length, map};
 ghost use Rattle.std.specs.List.{Contains};
+ghost use Rattle.itch_table.specs.Shows.{top_after};
 ghost use Rattle.day_core.specs.Owners.{own_locates};
 ghost use Rattle.day_core.specs.Workers.{MayGrowNext, first_state, machine_at, worker_locates};
 ghost use Rattle.top_cell.specs.Boards.{IsOn};
@@ -8,6 +9,7 @@ ghost use Rattle.stock_workers.specs.Working.{PublishesTurn, ShowsTurn, WritersA
 
 use crate::gate::Gate;
 use day_core::{Parts, Piece, Runner};
+use itch_table::Top;
 use std::alloc::{AllocError, Allocator};
 use std::marker::Model;
 use std::sync::Wait;
@@ -39,6 +41,17 @@ impl<'p, A: Allocator> Model for Worker<'p, A> {
     ghost view = { λ w. record { state = w.runner; places = map (λ t. t.place) w.writers.items } };
 
     ghost invariant = { λ w. WritersStand w.runner w.writers.items };
+}
+
+// Shows a message that was done, whatever became of it: publishes the best bid and ask that it leaves.
+fn show<A: Allocator>(writer: &mut TopWriter, board: &Board<'_, A>, piece: Piece, best: Top)
+    requires own { IsOn board.now writer.old.place }
+    requires later { writer.old.message ≤ piece.message }
+    requires within { piece.message ≤ length writer.old.place.day }
+    requires top { best ≡ top_after writer.old.place.day writer.old.place.locate piece.message }
+    ensures { writer.new ≡ record writer.old { message = piece.message } }
+{
+    writer.publish(board, piece.message, best);
 }
 
 impl<'p, A: Allocator + Copy> Worker<'p, A> {
@@ -88,7 +101,7 @@ impl<'p, A: Allocator + Copy> Worker<'p, A> {
             return Ok(None);
         };
         let best = self.runner.stock_at(turned.place).top();
-        self.writers[turned.place].publish(board, turned.piece.message, best);
+        show(&mut self.writers[turned.place], board, turned.piece, best);
         Ok(Some(turned.piece))
     }
 }

@@ -6,8 +6,8 @@ use Rattle.stock_workers.specs.Working.{ShowsTurn, Working}
 use Rattle.stock_workers.proofs.Writing.{later, places_stay, room, shows_turn, stand_turned, top_there, within_day}
 use Rattle.stock_workers.proofs.worker.Worker.turn.Goals as goal
 
-pub publish-requires-clause-own : goal.publish-requires-clause-own
-publish-requires-clause-own g c =
+pub show-requires-clause-own : goal.show-requires-clause-own
+show-requires-clause-own g c =
     let turned = rw c.in-Some-2.is at c.in_ok-turned.ensures.turned in
     let writers = c.self.inside.writers.items in
     let at = c.in-Some-2.turned.place in
@@ -17,18 +17,18 @@ publish-requires-clause-own g c =
     subst (IsOn c.args.board.now) (get_or-map (λ (w : WriterAt). w.place) writers at here here.place inside ∙ ap (λ (w : WriterAt). w.place) (sym c.index_mut.ensures.value))
     (on at here.place (omega (arith, inside, length-map writers (λ (w : WriterAt). w.place))))
 
-pub publish-requires-clause-later : goal.publish-requires-clause-later
-publish-requires-clause-later g c =
+pub show-requires-clause-later : goal.show-requires-clause-later
+show-requires-clause-later g c =
     let turned = rw c.in-Some-2.is at c.in_ok-turned.ensures.turned in
     later c.self.inside.runner c.in-Some-2.turned turned.0 c.self.inside.writers.items c.index_mut.result.now c.self.invariant c.index_mut.ensures.value
 
-pub publish-requires-clause-within : goal.publish-requires-clause-within
-publish-requires-clause-within g c =
+pub show-requires-clause-within : goal.show-requires-clause-within
+show-requires-clause-within g c =
     let turned = rw c.in-Some-2.is at c.in_ok-turned.ensures.turned in
     within_day c.self.inside.runner c.in-Some-2.turned turned.0 c.self.inside.writers.items c.index_mut.result.now c.self.invariant c.index_mut.ensures.value
 
-pub publish-requires-clause-top : goal.publish-requires-clause-top
-publish-requires-clause-top g c =
+pub show-requires-clause-top : goal.show-requires-clause-top
+show-requires-clause-top g c =
     let turned = rw c.in-Some-2.is at c.in_ok-turned.ensures.turned in
     top_there c.self.inside.runner c.in-Some-2.turned turned.0 c.self.inside.writers.items c.index_mut.result.now c.self.invariant c.index_mut.ensures.value
     c.turn.new.self c.stock_at.result.now c.top-best.result turned.1 c.stock_at.ensures c.top-best.ensures
@@ -37,13 +37,13 @@ pub invariant_of-self-2 : goal.invariant_of-self-2
 invariant_of-self-2 g c =
     let turned = rw c.in-Some-2.is at c.in_ok-turned.ensures.turned in
     stand_turned c.self.inside.runner c.in-Some-2.turned turned.0 c.self.inside.writers.items c.index_mut.result.now c.self.invariant c.index_mut.ensures.value
-    c.turn.new.self c.publish.new.self turned.1 c.publish.ensures
+    c.turn.new.self c.show.new.writer turned.1 c.show.ensures
 
 pub returns-clause-turned : goal.returns-clause-turned
 returns-clause-turned g c =
     let turned = rw c.in-Some-2.is at c.in_ok-turned.ensures.turned in
     let state = ap (λ (w : Working). w.state) c.self.view_is in
-    let stay = places_stay c.self.inside.runner c.in-Some-2.turned turned.0 c.self.inside.writers.items c.index_mut.result.now c.self.invariant c.index_mut.ensures.value c.publish.new.self c.publish.ensures in (
+    let stay = places_stay c.self.inside.runner c.in-Some-2.turned turned.0 c.self.inside.writers.items c.index_mut.result.now c.self.invariant c.index_mut.ensures.value c.show.new.writer c.show.ensures in (
       c.in-Some-2.turned.place,
       subst (λ (s : WorkerState). TakesTurn s c.turn.new.self (Some c.in-Some-2.turned)) state turned,
       stay ∙ ap (λ (w : Working). w.places) c.self.view_is,
