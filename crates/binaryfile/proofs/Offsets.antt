@@ -4,6 +4,7 @@ use Rattle.std.proofs.lemmas.List.{append_assoc, length-append, drop_at, drop_mo
 use Rattle.std.proofs.lemmas.Bool.{cases_lt}
 use Rattle.std.proofs.lemmas.List.Concat.{flat_map-append}
 use Rattle.std.proofs.lemmas.List.Elements.{All-drop}
+use Rattle.std.specs.Prelude.{Option, Some, None, IsSome, MatchOption}
 use Rattle.std.specs.List.{flat_map}
 use Rattle.std.specs.Int.{w16, from_be_bytes}
 use Rattle.binaryfile.specs.Entries.{IsPayload, entry, marker, Contents, Splits}
@@ -118,6 +119,12 @@ steps bytes at n p rest are is first =
 pub stops : (bytes : List ℕ) (at n : ℕ) → AreBytes bytes → at ≡ offset (payloads_of bytes) n → n ≤ length (payloads_of bytes)
     → payloads_of (take (length bytes - at) (drop at bytes)) ≡ [] → n ≡ length (payloads_of bytes)
 stops bytes at n are is within none = ends (payloads_of bytes) n within (sym (read_at bytes at n are is) ∙ none)
+
+-- before the end of the entries there is one more
+pub stands : (bytes : List ℕ) (at n : ℕ) → AreBytes bytes → at ≡ offset (payloads_of bytes) n → n < length (payloads_of bytes)
+    → {T : Type 0} (first : Option T) (One : T → Type 0) → MatchOption first (payloads_of (take (length bytes - at) (drop at bytes)) ≡ []) One → IsSome first
+stands bytes at n are is within None One none = absurd (omega (arith, within, stops bytes at n are is (omega (arith, within)) none))
+stands bytes at n are is within (Some x) One one = refl
 
 -- the index that has grown by one entry, or stays
 pub record Indexed (bytes starts : List ℕ) (n : ℕ) : Type 0 where

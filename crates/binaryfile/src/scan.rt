@@ -81,10 +81,8 @@ fn place_from(bytes: &[u8], from: usize, place: usize, number: usize) -> usize
 {
     let mut at = place;
     for _ in from..number {
-        match first_payload(&bytes[at..]) {
-            Some(payload) => at += 2 + payload.len(),
-            None => unreachable!(),
-        }
+        let payload = first_payload(&bytes[at..]).unwrap();
+        at += 2 + payload.len();
     }
     at
 }
@@ -115,10 +113,8 @@ pub(crate) fn index<A: Allocator>(
         if number % STRIDE == 0 {
             starts.push(at as u64)?;
         }
-        match first_payload(&bytes[at..]) {
-            Some(payload) => at += 2 + payload.len(),
-            None => unreachable!(),
-        }
+        let payload = first_payload(&bytes[at..]).unwrap();
+        at += 2 + payload.len();
     }
     Ok(starts)
 }
@@ -140,10 +136,7 @@ pub(crate) fn nth_payload<'a>(bytes: &'a [u8], starts: &[u64], number: usize) ->
     ensures { result.now ≡ slice_index_or (payloads_of bytes.entry.now) number result.now }
 {
     let at = entry_place(bytes, starts, number);
-    match first_payload(&bytes[at..]) {
-        Some(payload) => payload,
-        None => unreachable!(),
-    }
+    first_payload(&bytes[at..]).unwrap()
 }
 
 // The place of the entry of this number, counted from 0: by a place that stands a little before it, or else by the
@@ -177,14 +170,10 @@ pub(crate) fn payload_near<'a>(
     ensures near { IsPlace (payloads_of bytes.entry.now) near.new }
 {
     let at = place_near(bytes, starts, *near, number as usize);
-    match first_payload(&bytes[at..]) {
-        Some(payload) => {
-            near.number = number as usize + 1;
-            near.at = at + 2 + payload.len();
-            payload
-        }
-        None => unreachable!(),
-    }
+    let payload = first_payload(&bytes[at..]).unwrap();
+    near.number = number as usize + 1;
+    near.at = at + 2 + payload.len();
+    payload
 }
 
 /// Whether the bytes, which begin with no entry, begin with an end marker.

@@ -64,9 +64,7 @@ fn deal_between<A: Allocator + Copy>(
     let mut event = None;
     let mut payloads = day.payloads_after(from);
     for before in from..to {
-        let Some(payload) = payloads.next() else {
-            unreachable!()
-        };
+        let payload = payloads.next().unwrap();
         match part(payload) {
             Part::Locate(locate) => {
                 seen[usize::from(locate)] = true;

@@ -108,10 +108,7 @@ fn message_of<'d, A: Allocator>(
     let Part::Locate(locate) = part(payload) else {
         unreachable!()
     };
-    let Some(place) = places.place_of(locate) else {
-        unreachable!()
-    };
-    (payload, place)
+    (payload, places.place_of(locate).unwrap())
 }
 
 impl<'p, A: Allocator + Copy> Runner<'p, A> {

@@ -146,9 +146,7 @@ pub(crate) fn put_breaks<A: Allocator>(
         return text.extend_from_slice(b"no breaks\n");
     }
     'places: for place in 0..count {
-        let Some(breakpoint) = debugger.break_at(place) else {
-            unreachable!();
-        };
+        let breakpoint = debugger.break_at(place).unwrap();
         put_numbered_break(text, place as u128 + 1, breakpoint)?;
     }
     Ok(())

@@ -11,10 +11,7 @@ pub(crate) fn array_at<const N: usize>(payload: &[u8], offset: usize) -> [u8; N]
     requires { offset + N ≤ length payload.now }
     ensures { result ≡ bytes_at offset N payload.now }
 {
-    match payload[offset..offset + N].first_chunk::<N>() {
-        Some(bytes) => *bytes,
-        None => unreachable!(),
-    }
+    *payload[offset..offset + N].first_chunk::<N>().unwrap()
 }
 
 /// The byte at an offset.

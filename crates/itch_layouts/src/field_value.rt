@@ -33,10 +33,7 @@ fn put_bytes<A: Allocator>(out: &mut Vec<u8, A>, bytes: &[u8])
     ensures len { vec_len out.new ≡ vec_len out.old + length bytes.now }
     ensures capacity { vec_capacity out.old ≤ vec_capacity out.new }
 {
-    match out.extend_from_slice(bytes) {
-        Ok(()) => {}
-        Err(_) => unreachable!(),
-    }
+    out.extend_from_slice(bytes).unwrap();
 }
 
 // Appends the bytes of a value, for which there is room.

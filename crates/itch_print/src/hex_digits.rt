@@ -10,9 +10,7 @@ pub(crate) fn digits_of(byte: u8) -> [u8; 2]
     ensures { result ≡ encode_lower (byte ∷ []) }
 {
     let mut digits = [0u8; 2];
-    if hex::encode_to_slice([byte], &mut digits).is_err() {
-        unreachable!();
-    }
+    hex::encode_to_slice([byte], &mut digits).unwrap();
     digits
 }
 

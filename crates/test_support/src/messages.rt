@@ -30,13 +30,10 @@ pub const MSFT: Ticker = Ticker {
 
 /// The head of a message under a locate code, with tracking number and time 0.
 pub fn head(locate: u16) -> Head {
-    let Some(time) = Nanos::new(0) else {
-        unreachable!()
-    };
     Head {
         locate,
         tracking: 0,
-        time,
+        time: Nanos::new(0).unwrap(),
     }
 }
 

@@ -1,19 +1,18 @@
 use Rattle.std.proofs.Common.{refl, arith}
 use Rattle.binaryfile.proofs.ByteRanges.{bytes_are}
-use Rattle.binaryfile.proofs.Offsets.{steps, stops, indexed_push, indexed_stay, indexed_none}
+use Rattle.binaryfile.proofs.Offsets.{stands, steps, indexed_push, indexed_stay, indexed_none}
 use Rattle.binaryfile.proofs.scan.index.Goals as goal
 use Rattle.binaryfile.proofs.scan.index.Goals.{then-number-eq0+in_ok-push, else-number-eq0}
 
-pub unreachable-requires : goal.unreachable-requires
-unreachable-requires g c =
-    let none = stops c.args.bytes.now c.loop-number.at c.loop-number.number (bytes_are c.args.bytes.now c.type_inv.bytes) c.loop-number.invariant.place (omega arith) (c.in-None.ensures {u = tt}) in
-    omega arith
+pub unwrap-payload-requires : goal.unwrap-payload-requires
+unwrap-payload-requires g c =
+    stands c.args.bytes.now c.loop-number.at c.loop-number.number (bytes_are c.args.bytes.now c.type_inv.bytes) c.loop-number.invariant.place (omega arith) _ _ c.first_payload.ensures
 
 pub loop-number-preserved : goal.loop-number-preserved
 loop-number-preserved g c =
-    let first = c.in-Some.ensures in
+    let first = rw c.unwrap-payload.ensures at c.first_payload.ensures in
     let i = c.loop-number.invariant in
-    let s = steps c.args.bytes.now c.loop-number.at c.loop-number.number c.in-Some.payload.now first.0 (bytes_are c.args.bytes.now c.type_inv.bytes) i.place first.1 in
+    let s = steps c.args.bytes.now c.loop-number.at c.loop-number.number c.unwrap-payload.result.now first.0 (bytes_are c.args.bytes.now c.type_inv.bytes) i.place first.1 in
     record {
       place = s.place;
       within = s.within;

@@ -2,25 +2,24 @@ use Rattle.std.proofs.Common.{[], ◌∙◌, arith}
 use Rattle.std.proofs.lemmas.List.{get_or_default}
 use Rattle.binaryfile.specs.Index.{IsPlace, payloads_of}
 use Rattle.binaryfile.proofs.ByteRanges.{bytes_are}
-use Rattle.binaryfile.proofs.Offsets.{Steps, steps, stops}
+use Rattle.binaryfile.proofs.Offsets.{Steps, stands, steps}
 use Rattle.binaryfile.proofs.scan.payload_near.Goals as goal
 
-pub unreachable-requires : goal.unreachable-requires
-unreachable-requires c =
+pub unwrap-payload-requires : goal.unwrap-payload-requires
+unwrap-payload-requires c =
     let bytes = c.args.bytes.now in
-    let all = stops bytes c.place_near-at.result c.args.number (bytes_are bytes c.type_inv.bytes) c.place_near-at.ensures.place (omega (arith, c.requires.number)) (c.in-None.ensures {u = tt}) in
-    omega (arith, all, c.requires.number)
+    stands bytes c.place_near-at.result c.args.number (bytes_are bytes c.type_inv.bytes) c.place_near-at.ensures.place c.requires.number _ _ c.first_payload.ensures
 
 -- what the step to the next entry gives
-stepped : (c : goal.After-near-in-Some-1) → Steps c.args.bytes.now c.place_near-at.result c.args.number c.in-Some.payload.now
+stepped : (c : goal.After-near-2-1) → Steps c.args.bytes.now c.place_near-at.result c.args.number c.unwrap-payload.result.now
 stepped c =
-    let first = c.in-Some.ensures {u = tt} in
-    steps c.args.bytes.now c.place_near-at.result c.args.number c.in-Some.payload.now first.0 (bytes_are c.args.bytes.now c.type_inv.bytes) c.place_near-at.ensures.place first.1
+    let first = rw c.unwrap-payload.ensures at c.first_payload.ensures in
+    steps c.args.bytes.now c.place_near-at.result c.args.number c.unwrap-payload.result.now first.0 (bytes_are c.args.bytes.now c.type_inv.bytes) c.place_near-at.ensures.place first.1
 
 pub returns-clause-payload : goal.returns-clause-payload
 returns-clause-payload c =
     let s = stepped c in
-    s.is ∙ get_or_default (payloads_of c.args.bytes.now) c.args.number [] c.in-Some.payload.now s.more
+    s.is ∙ get_or_default (payloads_of c.args.bytes.now) c.args.number [] c.unwrap-payload.result.now s.more
 
 pub returns-clause-near : goal.returns-clause-near
 returns-clause-near c =

@@ -1,21 +1,20 @@
 use Rattle.std.proofs.Common.{◌≡◌, ap, ◌∙◌, arith}
 use Rattle.binaryfile.specs.Index.{offset, payloads_of}
 use Rattle.binaryfile.proofs.ByteRanges.{bytes_are}
-use Rattle.binaryfile.proofs.Offsets.{steps, stops, offset_within}
+use Rattle.binaryfile.proofs.Offsets.{stands, steps, offset_within}
 use Rattle.binaryfile.proofs.scan.place_from.Goals as goal
 
 pub loop-init : goal.loop-init
 loop-init c = (c.requires.place, rw c.requires.place (offset_within c.args.bytes.now c.args.from (bytes_are c.args.bytes.now c.type_inv.bytes)))
 
-pub unreachable-requires : goal.unreachable-requires
-unreachable-requires c =
-    let none = stops c.args.bytes.now c.loop.at c.loop.counter (bytes_are c.args.bytes.now c.type_inv.bytes) c.loop.invariant.0 (omega arith) (c.in-None.ensures {u = tt}) in
-    omega arith
+pub unwrap-payload-requires : goal.unwrap-payload-requires
+unwrap-payload-requires c =
+    stands c.args.bytes.now c.loop.at c.loop.counter (bytes_are c.args.bytes.now c.type_inv.bytes) c.loop.invariant.0 (omega arith) _ _ c.first_payload.ensures
 
 pub loop-preserved : goal.loop-preserved
 loop-preserved c =
-    let first = c.in-Some.ensures in
-    let s = steps c.args.bytes.now c.loop.at c.loop.counter c.in-Some.payload.now first.0 (bytes_are c.args.bytes.now c.type_inv.bytes) c.loop.invariant.0 first.1 in
+    let first = rw c.unwrap-payload.ensures at c.first_payload.ensures in
+    let s = steps c.args.bytes.now c.loop.at c.loop.counter c.unwrap-payload.result.now first.0 (bytes_are c.args.bytes.now c.type_inv.bytes) c.loop.invariant.0 first.1 in
     (s.place, s.within)
 
 pub returns-clause-place : goal.returns-clause-place

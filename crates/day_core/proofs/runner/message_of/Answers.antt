@@ -1,5 +1,5 @@
 use Rattle.std.proofs.Common.{List, ℕ, subst, sym, ap, ◌∙◌, arith}
-use Rattle.std.proofs.lemmas.Bool.{false≢true}
+use Rattle.std.proofs.lemmas.Bool.{false≢true, some_since}
 use Rattle.std.specs.List.{Contains}
 use Rattle.itch_table.specs.declared.outcome.Part.TheVariants.{Locate}
 use Rattle.itch_table.specs.Parts.{part}
@@ -13,14 +13,14 @@ unreachable-requires g c =
     let here = payload_is c.args.day.now.payloads c.args.message _ c.requires.first c.requires.last c.payload_near-payload.ensures.payload in
     false≢true (ap (is_own own.0 own.1) (c.in_default.ensures ∙ ap part here) ∙ own.3)
 
-pub unreachable-requires-in_default-place_of : goal.unreachable-requires-in_default-place_of
-unreachable-requires-in_default-place_of g c =
+pub unwrap-requires : goal.unwrap-requires
+unwrap-requires g c =
     let own = c.requires.own in
     let day = c.args.day.now.payloads in
     let here = payload_is day c.args.message _ c.requires.first c.requires.last c.payload_near-payload.ensures.payload in
     let mine = c.in-Locate.ensures ∙ ap part here in
     let there = code_there own.0 own.1 day c.args.message c.in-Locate.locate (omega arith) (omega arith) (omega arith) (sym mine) (ap (is_own own.0 own.1) mine ∙ own.3) in
-    c.in_default-place_of.ensures (subst (λ (ls : List ℕ). Contains ls c.in-Locate.locate) (sym own.2) there)
+    some_since _ _ _ c.place_of.ensures (λ none. none (subst (λ (ls : List ℕ). Contains ls c.in-Locate.locate) (sym own.2) there))
 
 pub returns-clause-payload : goal.returns-clause-payload
 returns-clause-payload g c = payload_is c.args.day.now.payloads c.args.message _ c.requires.first c.requires.last c.payload_near-payload.ensures.payload
@@ -28,4 +28,8 @@ returns-clause-payload g c = payload_is c.args.day.now.payloads c.args.message _
 pub returns-clause-stock : goal.returns-clause-stock
 returns-clause-stock g c =
     let here = payload_is c.args.day.now.payloads c.args.message _ c.requires.first c.requires.last c.payload_near-payload.ensures.payload in
-    sym (c.in-Locate.ensures ∙ ap part here) ∙ ap Locate (sym (c.in-Some.ensures.1))
+    let place = rw c.unwrap.ensures at c.place_of.ensures in
+    sym (c.in-Locate.ensures ∙ ap part here) ∙ ap Locate (sym place.1)
+
+pub returns-clause-within : goal.returns-clause-within
+returns-clause-within g c = (rw c.unwrap.ensures at c.place_of.ensures).0

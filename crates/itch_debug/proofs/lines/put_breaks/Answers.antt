@@ -8,6 +8,6 @@ pub places-preserved : goal.places-preserved
 places-preserved g c =
     let breaks = c.args.debugger.now.breaks in
     let place : ℕ = c.places.place in
-    let at : slice_get breaks place ≡ Some c.in-Some.breakpoint = search rules in
+    let at : slice_get breaks place ≡ Some c.unwrap-breakpoint.result = search rules in
     ap (λ (text : List ℕ). text ++ break_lines (place + 1 + 1) (drop (place + 1) breaks)) (c.in_ok-put_numbered_break.ensures {u = tt})
-    ∙ break_more breaks place c.in-Some.breakpoint c.places.text.items _ at c.places.invariant
+    ∙ break_more breaks place c.unwrap-breakpoint.result c.places.text.items _ at c.places.invariant
