@@ -2,6 +2,7 @@
 ghost use Rattle.std.specs.Prelude.{◌≡◌, ◌≤◌, IfOk, OnOk, length};
 ghost use Rattle.checkpoints.specs.Copies.{machine_after_own, numbers_of};
 
+use crate::filtering::numbers_where;
 use binaryfile::Day;
 use itch_table::is_of_stock;
 use std::alloc::{AllocError, Allocator};
@@ -15,15 +16,7 @@ pub fn numbers_of<A: Allocator + Copy>(
 ) -> Result<Vec<u32, A>, AllocError>
     ensures { IfOk result (λ numbers. numbers.items ≡ numbers_of day.now.payloads locate) }
 {
-    let mut numbers = Vec::new(alloc);
-    let mut number = 0;
-    for payload in day.payloads() {
-        number += 1;
-        if is_of_stock(payload, locate) {
-            numbers.push(number)?;
-        }
-    }
-    Ok(numbers)
+    numbers_where(alloc, day, |payload| is_of_stock(payload, locate))
 }
 
 /// Steps a stock's machine, which has taken the first `from` of the stock's messages, over the next ones, so that it

@@ -11,6 +11,7 @@
 //!
 //! `stock_workers` replays the parts in threads. [`Turns`] and [`play`] replay them without threads, in any order of
 //! the workers, and [`merge`] puts outcomes together that come in any order. [`Runner`] is one worker without threads.
+//! [`event_after`] is the last event code after one more payload.
 //!
 //! The effects of messages are those of Nasdaq TotalView-ITCH 5.0; the rest is of this project. An `AllocError` says
 //! that memory was refused.
@@ -33,6 +34,7 @@ mod worker_cells;
 mod worker_count;
 
 pub use assembling::{ReplayedDay, assemble};
+pub use dealing::event_after;
 pub use laws::{days_come_to_their_end, looks_never_go_back, looks_show_their_stock};
 pub use merging::{MergeFault, Piece, merge};
 pub use ordering::{by_worker, in_order};

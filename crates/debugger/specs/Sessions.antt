@@ -7,9 +7,9 @@ use Rattle.itch_layouts.specs.declared.shape.Shape.{Shape}
 use Rattle.itch_layouts.specs.declared.shape.Shape.TheVariants.{Known}
 use Rattle.itch_table.specs.declared.outcome.Outcome.{Outcome}
 use Rattle.itch_table.specs.After.{outcome}
-use Rattle.itch_table.specs.Projection.{payload_at}
 use Rattle.day_core.specs.Owners.{last_or}
 use Rattle.checkpoints.specs.Copies.{Tracked, numbers_of}
+use Rattle.checkpoints.specs.Filtering.{numbers_where}
 use Rattle.debugger.specs.Stops.{stops_at}
 use Rattle.debugger.specs.declared.breakpoint.Break.{Break}
 
@@ -64,7 +64,7 @@ is_system shape = false
 
 -- the system event messages of a day, by their numbers, rising
 unfoldable pub systems_of : List (List ℕ) → List ℕ
-systems_of day = filter (λ n. is_system (shape_of (payload_at day n))) (range_with_len 1 (length day))
+systems_of day = numbers_where day (λ payload. is_system (shape_of payload))
 
 -- ---- what is kept
 

@@ -1,12 +1,13 @@
 //! The system events of a day.
-ghost use Rattle.std.specs.Prelude.{◌≡◌, ◌≤◌, IfOk, None, length};
+ghost use Rattle.std.specs.Prelude.{◌≡◌, ◌≤◌, IfOk, length};
 ghost use Rattle.itch_layouts.specs.Shapes.{shape_of};
 ghost use Rattle.itch_table.specs.After.{after};
-ghost use Rattle.itch_table.specs.Projection.{event_with};
 ghost use Rattle.debugger.specs.Sessions.{is_system, systems_of};
 
 use crate::finding::latest_until;
 use binaryfile::Day;
+use checkpoints::numbers_where;
+use day_core::event_after;
 use itch_layouts::{Msg, Shape, read_msg};
 use std::alloc::{AllocError, Allocator};
 
@@ -21,25 +22,7 @@ fn is_system(payload: &[u8]) -> bool
 pub fn systems_of<A: Allocator + Copy>(alloc: A, day: &Day<A>) -> Result<Vec<u32, A>, AllocError>
     ensures { IfOk result (λ systems. systems.items ≡ systems_of day.now.payloads) }
 {
-    let mut systems = Vec::new(alloc);
-    let mut number = 0;
-    for payload in day.payloads() {
-        number += 1;
-        if is_system(payload) {
-            systems.push(number)?;
-        }
-    }
-    Ok(systems)
-}
-
-// The event code of a payload, none where it isn't a system event message.
-fn event_of(payload: &[u8]) -> Option<u8>
-    ensures { result ≡ event_with (shape_of payload.now) None }
-{
-    match read_msg(payload) {
-        Shape::Known(Msg::System(_, message)) => Some(message.event),
-        _ => None,
-    }
+    numbers_where(alloc, day, is_system)
 }
 
 /// The event code of the last system event message among the first `n` messages of a day, by the numbers of all of
@@ -49,5 +32,5 @@ pub fn event_at<A: Allocator>(day: &Day<A>, systems: &[u32], n: u32) -> Option<u
     requires within { n ≤ length day.now.payloads }
     ensures { result ≡ (after day.now.payloads n).event }
 {
-    event_of(day.payload(latest_until(systems, n)?))
+    event_after(day.payload(latest_until(systems, n)?), None)
 }

@@ -8,6 +8,7 @@ ghost use Rattle.debugger.specs.declared.breakpoint.Break.{Break};
 
 use crate::breakpoint::Break;
 use binaryfile::Day;
+use checkpoints::numbers_where;
 use itch_layouts::{Nanos, Shape, read_msg};
 use itch_table::{Side, is_of_stock};
 use std::alloc::{AllocError, Allocator};
@@ -43,15 +44,7 @@ fn reference_stops<A: Allocator + Copy>(
     ensures { IfOk result (λ stops.
         stops.items ≡ stops_of day.now.payloads (Break.Reference locate reference)) }
 {
-    let mut stops = Vec::new(alloc);
-    let mut number = 0;
-    for payload in day.payloads() {
-        number += 1;
-        if is_named(payload, locate, reference) {
-            stops.push(number)?;
-        }
-    }
-    Ok(stops)
+    numbers_where(alloc, day, |payload| is_named(payload, locate, reference))
 }
 
 // The first message of at least a time.

@@ -34,4 +34,4 @@ returns g c =
     let last = c.in_ok-latest_until.field-0 in
     let found = c.in_ok-latest_until.ensures (is_event day) (length day) c.requires.systems c.requires.within in
     let here = payload_is day last _ found.0 (omega (arith, found.1, c.requires.within)) c.payload.ensures in
-    c.event_of.ensures ∙ ap (λ payload. event_with (shape_of payload) None) here ∙ event_latest day c.args.n (Some last) found
+    c.event_after.ensures ∙ ap (λ payload. event_with (shape_of payload) None) here ∙ event_latest day c.args.n (Some last) found
