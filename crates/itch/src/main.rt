@@ -35,11 +35,11 @@ const DEVICE: u8 = 3;
 
 // Ends with the status for what an engine returned, and says why on standard error where it stopped before its work was
 // done. A line that can't be printed changes no status.
-fn end(rt: &impl Eprint, answer: Result<u32, ProgFault>) -> ExitCode {
-    if let Err(fault) = &answer {
+fn end(rt: &impl Eprint, returned: Result<u32, ProgFault>) -> ExitCode {
+    if let Err(fault) = &returned {
         let _ = eprintln!(rt; "itch: {fault}");
     }
-    ExitCode::from(status(&answer))
+    ExitCode::from(status(&returned))
 }
 
 // A file, to be read from its start.

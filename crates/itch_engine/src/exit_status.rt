@@ -8,10 +8,10 @@ use itch_text::AsmFault;
 /// The exit status for what an engine returned, of this project: 0 where no message was refused, 1 where some were, 2
 /// where the day hasn't the stock that was asked for, 3 where input or output failed and where a file or its digits
 /// aren't taken, 4 where memory was refused, and 5 where a line of a text is faulty.
-pub fn status(answer: &Result<u32, ProgFault>) -> u8
-    ensures { result ≡ exit_status answer.now }
+pub fn status(returned: &Result<u32, ProgFault>) -> u8
+    ensures { result ≡ exit_status returned.now }
 {
-    match answer {
+    match returned {
         Ok(0) => 0,
         Ok(_) => 1,
         Err(ProgFault::Memory | ProgFault::Asm(AsmFault::Memory)) => 4,

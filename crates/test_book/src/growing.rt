@@ -41,8 +41,8 @@ fn call_under<'h>(
     refusal: Refusal,
 ) -> Result<Tried, Fail> {
     heap.restart(refusal);
-    let answer = make(book, call)?;
-    let tried = heap.tried(answer.is_err());
+    let returned = make(book, call)?;
+    let tried = heap.tried(returned.is_err());
     if tried.refused {
         same_books(heap, book, twin)?;
         same_answers(book, twin)?;

@@ -107,7 +107,7 @@ impl Engine {
     }
 
     /// What the engine returns for it: how many messages were refused, and 0 where none is replayed.
-    pub(crate) fn answer(self) -> Result<u32, ProgFault> {
+    pub(crate) fn returns(self) -> Result<u32, ProgFault> {
         match self {
             Engine::Replay | Engine::Digits => Ok(1),
             Engine::TwoWorkers => Ok(2),

@@ -44,8 +44,8 @@ fn try_run<T: AllocGlobal + Threads + Wait + Sync>(
     written: &[u8],
 ) -> Result<(), Fail> {
     let mut output = Vec::new(rt.alloc());
-    let answer = engine.run(rt, rt.alloc(), input, &mut output);
-    same("an answer", &(engine, answer), &(engine, wanted))?;
+    let returned = engine.run(rt, rt.alloc(), input, &mut output);
+    same("a result", &(engine, returned), &(engine, wanted))?;
     same_bytes("an output", &output, written)
 }
 

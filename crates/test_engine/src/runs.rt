@@ -19,13 +19,13 @@ fn try_pieces<T: AllocGlobal + Threads + Wait + Sync>(
     most: usize,
 ) -> Result<(), Fail> {
     let mut output = Vec::new(rt.alloc());
-    let answer = engine.run(
+    let returned = engine.run(
         rt,
         rt.alloc(),
         Pieces::new(engine.input(), most),
         &mut output,
     );
-    same("an answer", &(engine, answer), &(engine, engine.answer()))?;
+    same("a result", &(engine, returned), &(engine, engine.returns()))?;
     same_bytes("an output", &output, engine.output())
 }
 
@@ -72,7 +72,7 @@ fn try_workers<T: AllocGlobal + Threads + Wait + Sync>(rt: &T, workers: u32) -> 
         own: AtomicU64::new(0),
         sum: AtomicU64::new(0),
     };
-    let answer = replay_run(
+    let returned = replay_run(
         rt,
         rt.alloc(),
         &mut Feed::new(FILE),
@@ -80,7 +80,7 @@ fn try_workers<T: AllocGlobal + Threads + Wait + Sync>(rt: &T, workers: u32) -> 
         count,
         &gate,
     );
-    same("an answer", &(workers, answer), &(workers, Ok(1)))?;
+    same("a result", &(workers, returned), &(workers, Ok(1)))?;
     same_bytes("a report", &output, REPORT)?;
     let calls = gate.calls.load(Ordering::SeqCst);
     let own = gate.own.load(Ordering::SeqCst);
@@ -108,8 +108,8 @@ fn try_read<T: AllocGlobal + Threads + Wait + Sync>(
 ) -> Result<(), Fail> {
     let mut output = Vec::new(rt.alloc());
     let reader = Pieces::failing(engine.input(), 1, failing, ErrorKind::Interrupted);
-    let answer = engine.run(rt, rt.alloc(), reader, &mut output);
-    let found = (engine, failing, answer, output.len());
+    let returned = engine.run(rt, rt.alloc(), reader, &mut output);
+    let found = (engine, failing, returned, output.len());
     same(
         "a failed read",
         &found,
@@ -137,8 +137,8 @@ fn try_write<T: AllocGlobal + Threads + Wait + Sync>(
 ) -> Result<(), Fail> {
     let failing = (taken as u64).saturating_add(1);
     let mut output = Narrow::failing(rt.alloc(), failing, failure);
-    let answer = engine.run(rt, rt.alloc(), engine.input(), &mut output);
-    let found = (engine, failing, answer, output.calls());
+    let returned = engine.run(rt, rt.alloc(), engine.input(), &mut output);
+    let found = (engine, failing, returned, output.calls());
     same(
         "a failed write",
         &found,
@@ -169,15 +169,15 @@ fn try_refusal<T: AllocGlobal + Threads + Wait + Sync>(
 ) -> Result<Tried, Fail> {
     let heap = Refusing::new(rt.alloc(), refusal);
     let mut output = Vec::new(rt.alloc());
-    let mut answer = engine.run(rt, &heap, engine.input(), &mut output);
-    let tried = heap.tried(answer.is_err());
+    let mut returned = engine.run(rt, &heap, engine.input(), &mut output);
+    let tried = heap.tried(returned.is_err());
     let case = (engine, refusal);
     if tried.refused {
-        let found = (case, answer, output.len());
+        let found = (case, returned, output.len());
         same("without memory", &found, &(case, Err(ProgFault::Memory), 0))?;
-        answer = engine.run(rt, &heap, engine.input(), &mut output);
+        returned = engine.run(rt, &heap, engine.input(), &mut output);
     }
-    same("an answer", &(case, answer), &(case, engine.answer()))?;
+    same("a result", &(case, returned), &(case, engine.returns()))?;
     same_bytes("an output", &output, engine.output())?;
     Ok(tried)
 }

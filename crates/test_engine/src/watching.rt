@@ -45,7 +45,7 @@ const SEEN: &[u8] = b"at 1 bid none ask none\n\
 fn a_screen_that_workers_wait_for_sees_every_message(rt: HostRuntime) -> Result<(), Fail> {
     let seen = AtomicU64::new(0);
     let mut output = Vec::new(rt.alloc());
-    let answer = watch_run(
+    let returned = watch_run(
         &rt,
         rt.alloc(),
         &mut Feed::new(FILE),
@@ -55,6 +55,6 @@ fn a_screen_that_workers_wait_for_sees_every_message(rt: HostRuntime) -> Result<
         &Following { seen: &seen },
         &seen,
     );
-    same("an answer", &answer, &Ok(()))?;
+    same("a result", &returned, &Ok(()))?;
     same_bytes("what a screen sees", &output, SEEN)
 }

@@ -7,8 +7,8 @@ use std::test::Fail;
 use test_support::{AMPLE, Pieces, STORED_RUN, same};
 
 // How many bytes a read gave, or the kind of its error.
-fn kind_or_count(answer: io::Result<usize>) -> Result<usize, ErrorKind> {
-    answer.map_err(|error| error.kind())
+fn kind_or_count(returned: io::Result<usize>) -> Result<usize, ErrorKind> {
+    returned.map_err(|error| error.kind())
 }
 
 #[test]

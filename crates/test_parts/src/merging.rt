@@ -120,13 +120,13 @@ fn the_first_faulty_piece_is_the_fault(rt: HostRuntime) -> Result<(), Fail> {
 fn try_merge(heap: &Refusing<Global>, refusal: Refusal) -> Result<Tried, Fail> {
     let lists = lists_of(heap, &[applied(1)], &[applied(2)])?;
     heap.restart(refusal);
-    let answer = merge(heap, 2, lists).map(|outcomes| outcomes.len());
-    let tried = heap.tried(answer.is_err());
+    let returned = merge(heap, 2, lists).map(|outcomes| outcomes.len());
+    let tried = heap.tried(returned.is_err());
     let wanted = match refusal {
         Refusal::Never => Ok(2),
         Refusal::Only(_) | Refusal::From(_) => Err(MergeFault::Memory),
     };
-    same("a merge", &(refusal, answer), &(refusal, wanted))?;
+    same("a merge", &(refusal, returned), &(refusal, wanted))?;
     let outcome = Some(Outcome::Applied);
     let again = merged(heap, 2, &[applied(1)], &[applied(2)])?;
     same("with memory", &again, &Ok((2, outcome, outcome)))?;
@@ -137,7 +137,7 @@ fn try_merge(heap: &Refusing<Global>, refusal: Refusal) -> Result<Tried, Fail> {
 fn try_faulty_merge(heap: &Refusing<Global>, refusal: Refusal) -> Result<(), Fail> {
     let lists = lists_of(heap, &[applied(1)], &[applied(1)])?;
     heap.restart(refusal);
-    let answer = merge(heap, 2, lists).map(|outcomes| outcomes.len());
+    let returned = merge(heap, 2, lists).map(|outcomes| outcomes.len());
     heap.restart(Refusal::Never);
     let wanted = match refusal {
         Refusal::Never => MergeFault::Double(1),
@@ -145,7 +145,7 @@ fn try_faulty_merge(heap: &Refusing<Global>, refusal: Refusal) -> Result<(), Fai
     };
     same(
         "a faulty merge",
-        &(refusal, answer),
+        &(refusal, returned),
         &(refusal, Err(wanted)),
     )
 }

@@ -241,15 +241,15 @@ fn try_turn<R: Threads + Sync>(
     }
     let before = looked_at(heap, &turns)?;
     heap.restart(refusal);
-    let mut answer = turns.turn(0);
-    let tried = heap.tried(answer.is_err());
+    let mut returned = turns.turn(0);
+    let tried = heap.tried(returned.is_err());
     if tried.refused {
         same("after a refused turn", &looked_at(heap, &turns)?, &before)?;
-        answer = turns.turn(0);
+        returned = turns.turn(0);
     }
     let message = earlier.saturating_add(1);
     let outcome = Outcome::Applied;
-    same("a turn", &answer, &Ok(Some(Piece { message, outcome })))?;
+    same("a turn", &returned, &Ok(Some(Piece { message, outcome })))?;
     let (words, stock) = wanted;
     same(
         "after the turn",

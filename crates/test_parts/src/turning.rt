@@ -62,8 +62,8 @@ fn take<A: Allocator + Copy>(
     runner: &mut Runner<'_, A>,
     wanted: Option<Turned>,
 ) -> Result<(), Fail> {
-    let answer = runner.turn()?;
-    same(case, &answer, &wanted)
+    let returned = runner.turn()?;
+    same(case, &returned, &wanted)
 }
 
 // Worker 1 of two does all of its messages of the two stocks.
@@ -253,14 +253,14 @@ fn turn_under<'h>(
     lead(runner, earlier)?;
     let before = said_by(heap, runner)?;
     heap.restart(refusal);
-    let mut answer = runner.turn();
-    let tried = heap.tried(answer.is_err());
+    let mut returned = runner.turn();
+    let tried = heap.tried(returned.is_err());
     if tried.refused {
         same("a refused turn", &said_by(heap, runner)?, &before)?;
-        answer = runner.turn();
+        returned = runner.turn();
     }
     let (turned, next, [one, two, three]) = wanted;
-    same("a turn", &answer, &Ok(turned))?;
+    same("a turn", &returned, &Ok(turned))?;
     let after = (0, 7, next, [Some(one), Some(two), Some(three)]);
     same("after a turn", &said_by(heap, runner)?, &after)?;
     Ok(tried)
@@ -313,8 +313,8 @@ fn take_of_day<'d, A: Allocator + Copy>(
     message: u32,
     outcome: Outcome,
 ) -> Result<(), Fail> {
-    let answer = turns.turn(worker)?;
-    same("a turn", &answer, &Some(Piece { message, outcome }))
+    let returned = turns.turn(worker)?;
+    same("a turn", &returned, &Some(Piece { message, outcome }))
 }
 
 // Looks at stocks 1 and 2, which show these words.

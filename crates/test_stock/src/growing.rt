@@ -44,10 +44,10 @@ fn step_under<'h>(
         return Err(Fail::new("the payload isn't the stock's next one"));
     }
     heap.restart(refusal);
-    let answer = stock.step(payload);
-    let tried = heap.tried(answer.is_err());
+    let returned = stock.step(payload);
+    let tried = heap.tried(returned.is_err());
     if !tried.refused {
-        same("a step", &answer, &Ok(Outcome::Applied))?;
+        same("a step", &returned, &Ok(Outcome::Applied))?;
     }
     Ok(tried)
 }

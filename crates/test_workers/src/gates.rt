@@ -79,7 +79,7 @@ fn two_workers_of_a_report_run_beside_each_other(rt: HostRuntime) -> Result<(), 
     let day = day_with(alloc, &[AAPL.directory(), MSFT.directory()])?;
     let gate = Meeting::new();
     let mut report = Vec::new(alloc);
-    let answer = replay_run(
+    let returned = replay_run(
         &rt,
         alloc,
         &mut Feed::new(day.bytes()),
@@ -88,7 +88,11 @@ fn two_workers_of_a_report_run_beside_each_other(rt: HostRuntime) -> Result<(), 
         &gate,
     );
     let met = gate.met.load(Ordering::SeqCst);
-    same("who met the other in a replay", &(answer, met), &(Ok(0), 2))
+    same(
+        "who met the other in a replay",
+        &(returned, met),
+        &(Ok(0), 2),
+    )
 }
 
 // Holds the worker at message 2 until a screen has seen message 1.

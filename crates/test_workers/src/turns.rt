@@ -317,16 +317,16 @@ fn try_turn<R: Threads + Wait + Sync>(
     find_without_memory(*heap, &worker)?;
     let before = see(rt, *heap, &board, &worker, &mut screen);
     heap.restart(refusal);
-    let mut answer = turn(rt, &board, &mut worker, &FreeGate);
-    let tried = heap.tried(answer.is_err());
+    let mut returned = turn(rt, &board, &mut worker, &FreeGate);
+    let tried = heap.tried(returned.is_err());
     if tried.refused {
         let after = see(rt, *heap, &board, &worker, &mut screen);
         same("a refused turn", &after, &before)?;
-        answer = turn(rt, &board, &mut worker, &FreeGate);
+        returned = turn(rt, &board, &mut worker, &FreeGate);
     }
     let (first, second, reading) = see(rt, *heap, &board, &worker, &mut screen);
     let (piece, one, two) = *wanted;
-    same("a turn", &answer, &Ok(piece))?;
+    same("a turn", &returned, &Ok(piece))?;
     same(
         "the stocks and the screen",
         &(first, second, words_of(reading)),
