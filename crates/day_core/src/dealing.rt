@@ -34,7 +34,7 @@ pub(crate) struct Stretch<A: Allocator> {
     pub event: Option<u8>,
 }
 
-/// The event code of the last system event message up to a payload, by the one before the payload.
+/// The event code of the last system event message up to a payload, given that of the messages before the payload.
 pub fn event_after(payload: &[u8], before: Option<u8>) -> Option<u8>
     ensures { result ≡ event_with (shape_of payload.now) before }
 {

@@ -134,7 +134,7 @@ fn same_levels<A: Allocator + Copy>(
 }
 
 /// Two books return the same for each reference and each price that a test names, whether there are orders or not.
-pub fn same_answers<A: Allocator + Copy>(found: &Book<A>, wanted: &Book<A>) -> Result<(), Fail> {
+pub fn same_results<A: Allocator + Copy>(found: &Book<A>, wanted: &Book<A>) -> Result<(), Fail> {
     for reference in 0..=1_100u64 {
         same(
             "an order",

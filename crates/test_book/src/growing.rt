@@ -1,5 +1,5 @@
 //! Growths that are refused in turn: a call that is refused memory changes nothing, and some calls take none.
-use crate::calls::{Call, ask, bid, level, make, make_all, same_answers, same_books};
+use crate::calls::{Call, ask, bid, level, make, make_all, same_books, same_results};
 use itch_table::{Order, Side, Top};
 use order_book::Book;
 use std::alloc::{AllocError, Allocator, Global};
@@ -45,7 +45,7 @@ fn call_under<'h>(
     let tried = heap.tried(returned.is_err());
     if tried.refused {
         same_books(heap, book, twin)?;
-        same_answers(book, twin)?;
+        same_results(book, twin)?;
         make_all(book, &[call])?;
     }
     make_all(twin, &[call])?;

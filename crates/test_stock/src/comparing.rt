@@ -73,7 +73,7 @@ pub fn same_machines<A: Allocator + Copy>(
 
 /// Compares what two machines return for each reference and each price that a test names, whether there are orders or
 /// not.
-pub fn same_answers<A: Allocator + Copy>(found: &Stock<A>, wanted: &Stock<A>) -> Result<(), Fail> {
+pub fn same_results<A: Allocator + Copy>(found: &Stock<A>, wanted: &Stock<A>) -> Result<(), Fail> {
     for reference in 0..=1_100u64 {
         same(
             "an order",

@@ -1,5 +1,5 @@
 //! Growths that are refused in turn, and steps and calls that take no memory.
-use crate::comparing::{after, same_answers, same_machines, take, take_message};
+use crate::comparing::{after, same_machines, same_results, take, take_message};
 use itch_layouts::Msg;
 use itch_table::{Fault, Level, Order, Outcome, Part, Side, Status, Top, Totals, Trading, part};
 use std::alloc::{AllocError, Allocator, Global};
@@ -64,7 +64,7 @@ fn take_under<'h>(
     let tried = step_under(heap, stock, payload, refusal)?;
     if tried.refused {
         same_machines(heap, stock, twin)?;
-        same_answers(stock, twin)?;
+        same_results(stock, twin)?;
         take(stock, payload, Outcome::Applied)?;
     }
     take(twin, payload, Outcome::Applied)?;

@@ -162,7 +162,7 @@ fn spent_references_are_the_same_for_each_number_of_workers(rt: HostRuntime) -> 
 }
 
 #[test]
-fn an_event_is_answered(rt: HostRuntime) -> Result<(), Fail> {
+fn a_run_returns_the_last_event(rt: HostRuntime) -> Result<(), Fail> {
     let alloc = rt.alloc();
     let day = day_with(alloc, &[system(0, b'O'), system(0, b'S')])?;
     let replayed = replayed(&rt, &alloc, &day, 2)?;

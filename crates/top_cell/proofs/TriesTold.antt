@@ -58,14 +58,14 @@ lost a c d r n words is took ended moved risen up =
     let t = e.6 moved in
     let later : r < n = grind (arith, e.3, moved) in
     subst (λ u. Ends a u (Lost a n)) (sym t)
-    (((refl, refl), refl), ((sym (ap number_of is), refl, inr (omega arith, later)), omega arith, omega arith, omega arith), (omega arith, up, omega arith, omega arith, omega arith))
+    (((refl, refl), refl), ((sym (ap number_of is), refl, inr (omega arith, later)), omega arith, omega arith, (omega arith, refl)), (omega arith, up, omega arith, omega arith, omega arith))
 
 -- the writer was at work
 pub missed : (a b : View) (r : ℕ) → a ≡ ScreenOf (stock_of a) (sight_of a) → ReaderBegun r a b → r % 2 ≡ 1 → (sight_of a).last ≤ r → Ends a b (Lost a r)
 missed a b r is load odd risen =
     let t = (begun r a b is load).4 odd in
     subst (λ u. Ends a u (Lost a r)) (sym t)
-    (((refl, refl), refl), ((sym (ap number_of is), refl, inl odd), omega arith, omega arith, omega arith), (risen, omega arith, omega arith, omega arith, omega arith))
+    (((refl, refl), refl), ((sym (ap number_of is), refl, inl odd), omega arith, omega arith, (omega arith, refl)), (risen, omega arith, omega arith, omega arith, omega arith))
 
 -- ---- a change
 

@@ -40,12 +40,16 @@ Got before words after =
     Stands before words after × ((sight_of after).loads ≡ (sight_of before).loads + 6) × EndsAtRest after
     × IsWon before after
 
+-- this many tries were lost: the count was loaded that often or more often, and no try was won
+abbrev pub AreLost : View → ℕ → View → Type 0
+AreLost before tries after =
+    ((sight_of before).looks + tries ≤ (sight_of after).looks) × ((sight_of after).wins ≡ (sight_of before).wins)
+
 -- one try was lost, by one to six loads
 abbrev pub Lost : View → ℕ → View → Type 0
 Lost before count after =
     WasBusy before count after × ((sight_of before).loads < (sight_of after).loads)
-    × ((sight_of after).loads ≤ (sight_of before).loads + 6)
-    × ((sight_of before).looks < (sight_of after).looks)
+    × ((sight_of after).loads ≤ (sight_of before).loads + 6) × AreLost before 1 after
 
 -- one of several tries gave these words, by six loads or more
 abbrev pub Won : View → List ℕ → View → Type 0
@@ -53,8 +57,6 @@ Won before words after =
     Stands before words after × ((sight_of before).loads + 6 ≤ (sight_of after).loads) × EndsAtRest after
     × IsWon before after
 
--- all tries were lost, by one load or more
+-- some tries were lost, the last of them at this count, by one load or more
 abbrev pub Busied : View → ℕ → View → Type 0
-Busied before count after =
-    WasBusy before count after × ((sight_of before).loads < (sight_of after).loads)
-    × ((sight_of before).looks < (sight_of after).looks)
+Busied before count after = WasBusy before count after × ((sight_of before).loads < (sight_of after).loads)

@@ -103,6 +103,8 @@ impl Screen {
         ensures busy { IfErr result (λ busy. (self.new.message ≡ self.old.message)
             × (busy.count ≡ self.new.last) × ((busy.count % 2 ≡ 1)
             ⊎ ((self.old.tries < self.new.tries) × (self.new.began < busy.count)))) }
+        ensures lost { IfErr result (λ _. (self.old.looks + tries ≤ self.new.looks)
+            × (self.new.wins ≡ self.old.wins)) }
         ensures looked { self.old.looks < self.new.looks }
         ensures counts { (self.old.last ≤ self.new.last) × (self.old.began ≤ self.new.began)
             × (self.old.tries ≤ self.new.tries) × (self.old.wins ≤ self.new.wins) }

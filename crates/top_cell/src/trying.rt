@@ -2,7 +2,7 @@
 ghost use Rattle.std.specs.Prelude.{◌≡◌, ◌+◌, ◌*◌, ◌<◌, ◌≤◌, [], IfOk, IfErr, Some};
 ghost use Rattle.top_cell.specs.Rule.{IsScreen, sight, sight_of, stock_of};
 ghost use Rattle.top_cell.specs.Seats.{IsSameSeat, IsSeatOf};
-ghost use Rattle.top_cell.specs.Tries.{Busied, CountsRise, Got, Lost, Won};
+ghost use Rattle.top_cell.specs.Tries.{AreLost, Busied, CountsRise, Got, Lost, Won};
 ghost use Rattle.top_cell.specs.declared.rule.View.TheVariants.{ScreenOf};
 
 use crate::kinds::reader_begins::ReaderBegins;
@@ -63,6 +63,7 @@ pub(crate) fn try_times(cell: &Words, seat: &mut Seat, tries: u32) -> Result<[u6
         × (seat.new.me.1 ≡ seat.old.me.1) }
     ensures ok { IfOk result (λ words. Won seat.old.me.0 words seat.new.me.0) }
     ensures err { IfErr result (λ count. Busied seat.old.me.0 count seat.new.me.0) }
+    ensures lost { IfErr result (λ _. AreLost seat.old.me.0 tries seat.new.me.0) }
     ensures counts { CountsRise seat.old.me.0 seat.new.me.0 }
     ensures loads { (sight_of seat.new.me.0).loads ≤ (sight_of seat.old.me.0).loads + 6 * tries }
 {

@@ -1,5 +1,5 @@
 //! What a program that runs a day beside its replay may look like: a gate that counts, and a display.
-ghost use Rattle.std.specs.Prelude.{◌≡◌, ◌+◌, ◌≤◌, All, IfSome};
+ghost use Rattle.std.specs.Prelude.{◌≡◌, ◌+◌, ◌<◌, ◌≤◌, All, IfSome};
 ghost use Rattle.top_cell.specs.Boards.{IsOn};
 ghost use Rattle.itch_watch.specs.Watching.{IsReading};
 
@@ -48,6 +48,7 @@ pub fn next_frame<A: Allocator>(
     requires before { IsReading screen.old.place.day screen.old.place.locate before }
     ensures shows { IsReading screen.new.place.day screen.new.place.locate result }
     ensures place { screen.new.place ≡ screen.old.place }
+    ensures looked { screen.old.looks < screen.new.looks }
     ensures loads { screen.new.loads ≤ screen.old.loads + 24 }
 {
     match screen.glance(board, 4) {
