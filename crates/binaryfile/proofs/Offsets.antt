@@ -1,10 +1,10 @@
 -- Where the entries lie.
 use Rattle.std.proofs.Common.{inl, inr, ◌≡◌, ℕ, zero, suc, ◌+◌, ◌-◌, ◌*◌, ◌%◌, ◌<◌, ◌≤◌, List, [], ◌∷◌, ◌++◌, length, take, drop, get_or, refl, sym, ◌∙◌, ap, subst, arith}
 use Rattle.std.proofs.lemmas.List.{append_assoc, length-append, drop_at, drop_more, drop_all, take_more, length-drop, append-nil, take_rest, take-append-drop, length-take-le, drop-drop, length_push, get_or_append_left, get_or_push}
-use Rattle.std.proofs.lemmas.Bool.{cases_lt}
+use Rattle.std.proofs.lemmas.Bool.{cases_lt, some_since}
 use Rattle.std.proofs.lemmas.List.Concat.{flat_map-append}
 use Rattle.std.proofs.lemmas.List.Elements.{All-drop}
-use Rattle.std.specs.Prelude.{Option, Some, None, IsSome, MatchOption}
+use Rattle.std.specs.Prelude.{Option, IsSome, MatchOption}
 use Rattle.std.specs.List.{flat_map}
 use Rattle.std.specs.Int.{w16, from_be_bytes}
 use Rattle.binaryfile.specs.Entries.{IsPayload, entry, marker, Contents, Splits}
@@ -120,11 +120,11 @@ pub stops : (bytes : List ℕ) (at n : ℕ) → AreBytes bytes → at ≡ offset
     → payloads_of (take (length bytes - at) (drop at bytes)) ≡ [] → n ≡ length (payloads_of bytes)
 stops bytes at n are is within none = ends (payloads_of bytes) n within (sym (read_at bytes at n are is) ∙ none)
 
--- before the end of the entries there is one more
-pub stands : (bytes : List ℕ) (at n : ℕ) → AreBytes bytes → at ≡ offset (payloads_of bytes) n → n < length (payloads_of bytes)
+-- where the entries don't end, a first one is found
+pub first_is_found : (bytes : List ℕ) (at n : ℕ) → AreBytes bytes → at ≡ offset (payloads_of bytes) n → n < length (payloads_of bytes)
     → {T : Type 0} (first : Option T) (One : T → Type 0) → MatchOption first (payloads_of (take (length bytes - at) (drop at bytes)) ≡ []) One → IsSome first
-stands bytes at n are is within None One none = absurd (omega (arith, within, stops bytes at n are is (omega (arith, within)) none))
-stands bytes at n are is within (Some x) One one = refl
+first_is_found bytes at n are is within first One found =
+    some_since first _ One found (λ none. omega (arith, within, stops bytes at n are is (omega (arith, within)) none))
 
 -- the index that has grown by one entry, or stays
 pub record Indexed (bytes starts : List ℕ) (n : ℕ) : Type 0 where

@@ -1,12 +1,12 @@
 use Rattle.std.proofs.Common.{refl, arith}
 use Rattle.binaryfile.proofs.ByteRanges.{bytes_are}
-use Rattle.binaryfile.proofs.Offsets.{stands, steps, indexed_push, indexed_stay, indexed_none}
+use Rattle.binaryfile.proofs.Offsets.{first_is_found, steps, indexed_push, indexed_stay, indexed_none}
 use Rattle.binaryfile.proofs.scan.index.Goals as goal
 use Rattle.binaryfile.proofs.scan.index.Goals.{then-number-eq0+in_ok-push, else-number-eq0}
 
 pub unwrap-payload-requires : goal.unwrap-payload-requires
 unwrap-payload-requires g c =
-    stands c.args.bytes.now c.loop-number.at c.loop-number.number (bytes_are c.args.bytes.now c.type_inv.bytes) c.loop-number.invariant.place (omega arith) _ _ c.first_payload.ensures
+    first_is_found c.args.bytes.now c.loop-number.at c.loop-number.number (bytes_are c.args.bytes.now c.type_inv.bytes) c.loop-number.invariant.place (omega arith) _ _ c.first_payload.ensures
 
 pub loop-number-preserved : goal.loop-number-preserved
 loop-number-preserved g c =

@@ -1,7 +1,7 @@
 use Rattle.std.proofs.Common.{◌≡◌, ap, ◌∙◌, arith}
 use Rattle.binaryfile.specs.Index.{offset, payloads_of}
 use Rattle.binaryfile.proofs.ByteRanges.{bytes_are}
-use Rattle.binaryfile.proofs.Offsets.{stands, steps, offset_within}
+use Rattle.binaryfile.proofs.Offsets.{first_is_found, steps, offset_within}
 use Rattle.binaryfile.proofs.scan.place_from.Goals as goal
 
 pub loop-init : goal.loop-init
@@ -9,7 +9,7 @@ loop-init c = (c.requires.place, rw c.requires.place (offset_within c.args.bytes
 
 pub unwrap-payload-requires : goal.unwrap-payload-requires
 unwrap-payload-requires c =
-    stands c.args.bytes.now c.loop.at c.loop.counter (bytes_are c.args.bytes.now c.type_inv.bytes) c.loop.invariant.0 (omega arith) _ _ c.first_payload.ensures
+    first_is_found c.args.bytes.now c.loop.at c.loop.counter (bytes_are c.args.bytes.now c.type_inv.bytes) c.loop.invariant.0 (omega arith) _ _ c.first_payload.ensures
 
 pub loop-preserved : goal.loop-preserved
 loop-preserved c =
