@@ -72,6 +72,13 @@ pub record MayGrowNext (s : WorkerState) : Type 0 where
   pub adds : (locate : ℕ) → part_at s.day (next_message s) ≡ Locate locate
       → IsTrue (shape_adds_row (Some locate) (shape_of (payload_at s.day (next_message s))))
 
+-- a message of a day as it was found: its payload, and which of these stocks it is of
+pub record IsFound (day : List (List ℕ)) (locates : List ℕ) (message : ℕ) (payload : List ℕ) (place : ℕ)
+    : Type 0 where
+  pub within : place < length locates
+  pub payload_is : payload ≡ payload_at day message
+  pub stock_is : part_at day message ≡ Locate (slice_index locates place)
+
 -- what a runner keeps: its stocks' locate codes, and their machines as far as it has come
 pub record IsRunner (s : WorkerState) (locates : List ℕ) (stocks : List StockMachine) : Type 0 where
   pub within : s.done ≤ length (worker_messages s)

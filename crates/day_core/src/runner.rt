@@ -1,11 +1,9 @@
 //! One worker without threads.
-ghost use Rattle.std.specs.Prelude.{◌≡◌, ◌<◌, ◌≤◌, ℕ, true, IfOk, IfSome, MatchOption, OnErr, length, map, slice_get, slice_index};
+ghost use Rattle.std.specs.Prelude.{◌≡◌, ◌<◌, ◌≤◌, ℕ, true, All, IfOk, IfSome, MatchOption, OnErr, length, map, slice_get, slice_index};
 ghost use Rattle.std.specs.List.{Contains};
 ghost use Rattle.binaryfile.specs.Index.{IsPlace};
-ghost use Rattle.itch_table.specs.declared.outcome.Part.TheVariants.{Locate};
-ghost use Rattle.itch_table.specs.Projection.{payload_at};
 ghost use Rattle.day_core.specs.Owners.{is_own, own_locates, part_at};
-ghost use Rattle.day_core.specs.Workers.{MayGrowNext, TakesTurn, first_state, machine_at, new_machine, worker_locates, worker_messages};
+ghost use Rattle.day_core.specs.Workers.{IsFound, MayGrowNext, TakesTurn, first_state, machine_at, new_machine, worker_locates, worker_messages};
 
 use crate::merging::Piece;
 use crate::parts::Parts;
@@ -25,6 +23,17 @@ pub struct Turned {
     pub place: usize,
 }
 
+// How many messages a worker finds ahead of their turns at once.
+const AHEAD: usize = 16;
+
+// A worker's message that was found: its payload, and which of the worker's stocks it is of.
+#[derive(Clone, Copy)]
+struct FoundMessage<'d> {
+    message: u32,
+    payload: &'d [u8],
+    place: usize,
+}
+
 /// One worker of a day that is split: the machines of its stocks, and how many of its messages it has done. It borrows
 /// the parts of the day, and reads its list of messages there.
 ///
@@ -36,21 +45,26 @@ pub struct Runner<'p, A: Allocator> {
     done: usize,
     // A place of the day, after the last message that was looked for.
     near: Place,
+    // Messages that were found ahead of their turns, and how many turns were taken since.
+    ahead: Vec<FoundMessage<'p>, A>,
+    turns_since: usize,
     places: Places<A>,
     stocks: Vec<Stock<A>, A>,
 }
 
 impl<'p, A: Allocator> Model for Runner<'p, A> {
+    ghost use Rattle.std.specs.Prelude.{All};
     ghost use Rattle.binaryfile.specs.Index.{IsPlace};
     ghost use Rattle.day_core.specs.Splitting.{Split};
-    ghost use Rattle.day_core.specs.Workers.{IsRunner, WorkerState, state_in};
+    ghost use Rattle.day_core.specs.Workers.{IsFound, IsRunner, WorkerState, state_in};
 
     ghost Value = { WorkerState };
 
     ghost view = { λ r. state_in r.parts.now r.worker r.done };
 
     ghost invariant = { λ r. IsRunner (state_in r.parts.now r.worker r.done) r.places r.stocks.items
-        × IsPlace r.parts.now.day r.near };
+        × IsPlace r.parts.now.day r.near
+        × All (λ f. IsFound r.parts.now.day r.places f.message f.payload.now f.place) r.ahead.items };
 }
 
 // The locate codes of a worker's stocks.
@@ -86,29 +100,57 @@ fn new_stocks<A: Allocator + Copy>(
     Ok(stocks)
 }
 
-// A worker's message: its payload, and the index of its stock among the worker's. It is looked for from a place of the
-// day, and another one, for the message after it, is left there.
-fn message_of<'d, A: Allocator>(
+// Finds a worker's message, from a place of the day. Another one, for the message after it, is left there.
+fn find_message<'d, A: Allocator>(
     day: &'d Day<A>,
     near: &mut Place,
     places: &Places<A>,
     message: u32,
-) -> (&'d [u8], usize)
+) -> FoundMessage<'d>
     requires first { 1 ≤ message }
     requires last { message ≤ length day.now.payloads }
     requires own { (workers worker : ℕ) × (places.now ≡ own_locates workers worker day.now.payloads)
         × (is_own workers worker (part_at day.now.payloads message) ≡ true) }
     requires near { IsPlace day.now.payloads near.old }
     ensures near { IsPlace day.now.payloads near.new }
-    ensures payload { result.0.now ≡ payload_at day.now.payloads message }
-    ensures within { result.1 < length places.now }
-    ensures stock { part_at day.now.payloads message ≡ Locate (slice_index places.now result.1) }
+    ensures message { result.message ≡ message }
+    ensures found { IsFound day.now.payloads places.now message result.payload.now result.place }
 {
     let payload = day.payload_near(near, message);
     let Part::Locate(locate) = part(payload) else {
         unreachable!()
     };
-    (payload, places.place_of(locate).unwrap())
+    let place = places.place_of(locate).unwrap();
+    FoundMessage {
+        message,
+        payload,
+        place,
+    }
+}
+
+// The same, where the message may have been found ahead, at an index that is likely to be its own.
+fn next_message<'d, A: Allocator>(
+    day: &'d Day<A>,
+    near: &mut Place,
+    places: &Places<A>,
+    ahead: &[FoundMessage<'d>],
+    index: usize,
+    message: u32,
+) -> FoundMessage<'d>
+    requires first { 1 ≤ message }
+    requires last { message ≤ length day.now.payloads }
+    requires own { (workers worker : ℕ) × (places.now ≡ own_locates workers worker day.now.payloads)
+        × (is_own workers worker (part_at day.now.payloads message) ≡ true) }
+    requires near { IsPlace day.now.payloads near.old }
+    requires ahead { All (λ f. IsFound day.now.payloads places.now f.message f.payload.now f.place) ahead.now }
+    ensures near { IsPlace day.now.payloads near.new }
+    ensures message { result.message ≡ message }
+    ensures found { IsFound day.now.payloads places.now message result.payload.now result.place }
+{
+    match ahead.get(index) {
+        Some(found) if found.message == message => *found,
+        _ => find_message(day, near, places, message),
+    }
 }
 
 impl<'p, A: Allocator + Copy> Runner<'p, A> {
@@ -125,6 +167,8 @@ impl<'p, A: Allocator + Copy> Runner<'p, A> {
             worker,
             done: 0,
             near: Place::first(),
+            ahead: Vec::with_capacity(alloc, AHEAD)?,
+            turns_since: 0,
             places,
             stocks,
         })
@@ -147,39 +191,88 @@ impl<'p, A: Allocator + Copy> Runner<'p, A> {
         }
         let message = own[self.done];
         let day = self.parts.day();
-        let (payload, place) = message_of(day, &mut self.near, &self.places, message);
-        let outcome = self.stocks[place].step(payload)?;
+        let found = next_message(
+            day,
+            &mut self.near,
+            &self.places,
+            &self.ahead,
+            self.turns_since,
+            message,
+        );
+        let outcome = self.stocks[found.place].step(found.payload)?;
         self.done += 1;
+        self.turns_since = self.turns_since.saturating_add(1);
         Ok(Some(Turned {
             piece: Piece { message, outcome },
-            place,
+            place: found.place,
         }))
     }
 }
 
 impl<'p, A: Allocator + Copy> Runner<'p, A> {
-    /// A place of the day, from which the worker's next messages are looked for.
-    pub fn near(&self) -> Place
-        ensures { IsPlace self.now.day result }
+    /// Finds the worker's next messages, of which it takes 16 at most, so that their turns find them at hand. No
+    /// contract says what was found: a turn looks for its message where it isn't there.
+    pub fn look_ahead(&mut self)
+        ensures { self.new ≡ self.old }
     {
-        self.near
+        self.ahead.clear();
+        self.turns_since = 0;
+        let mut near = self.near;
+        for index in 0..AHEAD {
+            let Some(found) = self.message_ahead(&mut near, index) else {
+                break;
+            };
+            if self.ahead.push(found).is_err() {
+                break;
+            }
+        }
+        self.near = near;
     }
 
-    /// The index of the stock of a message to come, `ahead` messages after the worker's next one; none after its last
-    /// message. The caller passes a place of the day.
-    pub fn place_ahead(&self, near: &mut Place, ahead: usize) -> Option<usize>
+    // The message to come that is this many after the worker's next one, looked for from a place of the day; none after
+    // its last message.
+    fn message_ahead(&self, near: &mut Place, after: usize) -> Option<FoundMessage<'p>>
         requires { IsPlace self.now.day near.old }
         ensures near { IsPlace self.now.day near.new }
-        ensures place { IfSome result (λ place. place < length (worker_locates self.now)) }
+        ensures found { IfSome result (λ f. IsFound self.now.day (worker_locates self.now) f.message
+            f.payload.now f.place) }
     {
-        let index = self.done.saturating_add(ahead);
+        let index = self.done.saturating_add(after);
         let own = self.parts.own(self.worker);
         if index >= own.len() {
             return None;
         }
         let message = own[index];
-        let (_, place) = message_of(self.parts.day(), near, &self.places, message);
-        Some(place)
+        Some(find_message(self.parts.day(), near, &self.places, message))
+    }
+
+    /// Which of the worker's stocks the message is of that was found ahead at this index, in the order of the messages;
+    /// none where fewer were found.
+    pub fn stock_ahead(&self, index: usize) -> Option<usize>
+        ensures { IfSome result (λ place. place < length (worker_locates self.now)) }
+    {
+        let found = self.ahead.get(index)?;
+        Some(found.place)
+    }
+
+    /// Reads what the messages that were found ahead are likely to need of their stocks' machines, so that the
+    /// processor has fetched that memory when their turns come. It changes nothing, and what it returns means nothing:
+    /// it is there to be used, so that the reads aren't left out.
+    pub fn touch_ahead(&self) -> u64 {
+        let mut sum: u64 = 0;
+        for found in &self.ahead {
+            sum = sum.wrapping_add(self.stocks[found.place].touch(found.payload));
+        }
+        sum
+    }
+
+    /// Reads the rows that they are likely to need, in the same way.
+    pub fn touch_rows_ahead(&self) -> u64 {
+        let mut sum: u64 = 0;
+        for found in &self.ahead {
+            sum = sum.wrapping_add(self.stocks[found.place].touch_rows(found.payload));
+        }
+        sum
     }
 }
 

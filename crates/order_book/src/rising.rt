@@ -234,6 +234,14 @@ impl<A: Allocator + Copy> RisingOrders<A> {
         sum
     }
 
+    /// Reads the order that came last. What it returns means nothing.
+    pub fn touch_last(&self) -> u64 {
+        match self.rows.last() {
+            Some(row) => u64::from(row.distance),
+            None => 0,
+        }
+    }
+
     /// Adds an order that has shares, and returns true; or returns false where its reference isn't above those of all in
     /// the list, or is too far above the first. An error says that memory was refused, and leaves the orders as they
     /// were.

@@ -64,17 +64,31 @@ impl<A: Allocator + Copy> Rows<A> {
         self.book.order(reference)
     }
 
-    /// Reads what stands in the value itself. What it returns means nothing.
-    pub fn touch(&self) -> u64 {
-        self.book
+    /// Reads what stands in the value itself and a message is likely to need. What it returns means nothing.
+    pub fn touch(&self, payload: &[u8]) -> u64 {
+        let all = self
+            .book
             .touch()
-            .wrapping_add(self.spent.touch())
-            .wrapping_add(u64::from(self.known.is_some()))
+            .wrapping_add(u64::from(self.known.is_some()));
+        match payload {
+            [b'A' | b'F' | b'U', ..] => all.wrapping_add(self.spent.touch()),
+            [b'E' | b'C' | b'P', ..] => all.wrapping_add(self.trades.touch()),
+            _ => all,
+        }
     }
 
-    /// Reads rows that most messages look for first. What it returns means nothing.
-    pub fn touch_rows(&self) -> u64 {
-        self.book.touch_rows().wrapping_add(self.spent.touch_rows())
+    /// Reads rows that a message is likely to look for first. What it returns means nothing.
+    pub fn touch_rows(&self, payload: &[u8]) -> u64 {
+        match payload {
+            [b'A' | b'F', ..] => self.book.touch_last().wrapping_add(self.spent.touch_rows()),
+            [b'U', ..] => self.book.touch_rows().wrapping_add(self.spent.touch_rows()),
+            [b'E' | b'C', ..] => self
+                .book
+                .touch_rows()
+                .wrapping_add(self.trades.touch_rows()),
+            [b'P', ..] => self.trades.touch_rows(),
+            _ => self.book.touch_rows(),
+        }
     }
 
     /// Whether an order has had a reference.

@@ -17,7 +17,7 @@ use std::thread::Threads;
 use stock_machine::Stock;
 use top_cell::{Board, TopWriter};
 
-// How many messages a worker looks ahead.
+// How many turns a worker takes until it looks ahead again.
 const AHEAD: usize = 16;
 
 // How many stocks a worker has at least to look ahead. Those of fewer stay in the processor's caches by themselves.
@@ -107,14 +107,15 @@ impl<'p, A: Allocator + Copy> Worker<'p, A> {
 }
 
 impl<'p, A: Allocator + Copy> Worker<'p, A> {
-    /// Reads what the worker's next messages are likely to need, where `wait` is 0, so that the processor fetches the
-    /// memory of all of them at once: a publish waits for all reads before it, so turns by themselves would wait for
-    /// the memory of one message after another. First the machines are read, then the cells, and then the rows that
-    /// the machines lead to, each in a loop of its own, so short that the processor is in all of its rounds at once. A
-    /// worker of few stocks does without. It changes nothing. It returns what `wait` is after the next turn; the number
-    /// depends on what was read, so that the reads aren't left out.
-    pub(crate) fn look_ahead(&self, board: &Board<'_, A>, wait: usize) -> usize
-        requires { All (IsOn board.now) self.now.places }
+    /// Finds the worker's next messages and reads what they are likely to need, where `wait` is 0, so that the processor
+    /// fetches the memory of all of them at once: a publish waits for all reads before it, so turns by themselves would
+    /// wait for the memory of one message after another. First the machines are read, then the cells, and then the rows
+    /// that the machines lead to, each in a loop of its own, so short that the processor is in all of its rounds at
+    /// once. A worker of few stocks does without. Nothing that is seen of the worker changes. It returns what `wait` is
+    /// after the next turn; the number depends on what was read, so that the reads aren't left out.
+    pub(crate) fn look_ahead(&mut self, board: &Board<'_, A>, wait: usize) -> usize
+        requires { All (IsOn board.now) self.old.places }
+        ensures { self.new ≡ self.old }
     {
         if wait > 0 {
             return wait - 1;
@@ -122,30 +123,30 @@ impl<'p, A: Allocator + Copy> Worker<'p, A> {
         if self.runner.stock_count() < MANY_STOCKS {
             return AHEAD - 1;
         }
-        let mut places = [0; AHEAD];
-        let mut near = self.runner.near();
-        for message in 0..AHEAD {
-            if let Some(place) = self.runner.place_ahead(&mut near, message) {
-                places[message] = place;
-            }
+        self.runner.look_ahead();
+        let machines = self.runner.touch_ahead();
+        let cells = self.touch_cells(board);
+        let rows = self.runner.touch_rows_ahead();
+        if machines.wrapping_add(cells).wrapping_add(rows) == u64::MAX {
+            0
+        } else {
+            AHEAD - 1
         }
+    }
+
+    // Reads the cells of the messages that were found ahead.
+    fn touch_cells(&self, board: &Board<'_, A>) -> u64
+        requires { All (IsOn board.now) self.now.places }
+    {
         let mut sum: u64 = 0;
-        for place in places {
-            if place < self.runner.stock_count() {
-                sum = sum.wrapping_add(self.runner.stock_at(place).touch());
-            }
-        }
-        for place in places {
-            if place < self.writers.len() {
+        for index in 0..AHEAD {
+            if let Some(place) = self.runner.stock_ahead(index)
+                && place < self.writers.len()
+            {
                 sum = sum.wrapping_add(self.writers[place].touch(board));
             }
         }
-        for place in places {
-            if place < self.runner.stock_count() {
-                sum = sum.wrapping_add(self.runner.stock_at(place).touch_rows());
-            }
-        }
-        if sum == u64::MAX { 0 } else { AHEAD - 1 }
+        sum
     }
 }
 

@@ -1,5 +1,6 @@
-use Rattle.std.proofs.Common.{◌∙◌}
-use Rattle.stock_workers.proofs.Finishing.{finished, on_board, under_way_more, waiting}
+use Rattle.std.proofs.Common.{subst, sym, ◌∙◌}
+use Rattle.stock_workers.specs.Working.{Working}
+use Rattle.stock_workers.proofs.Finishing.{IsUnderWay, finished, on_board, under_way_more, waiting}
 use Rattle.stock_workers.proofs.forking.finish.Goals as goal
 
 pub turn-requires-after_bounds : goal.turn-requires-after_bounds
@@ -13,8 +14,10 @@ look_ahead-wait-requires g c =
 
 pub loop-worker-preserved : goal.loop-worker-preserved
 loop-worker-preserved g c =
-    under_way_more (waiting c.args.waiting.parts.now c.args.waiting.worker c.args.waiting.writers.items) c.loop-worker.worker c.turn.new.self c.in-Some.piece c.loop-worker.outcomes.items c.push.new.self.items c.loop-worker.invariant
-    (rw c.in-Some.is at c.in_ok-piece.ensures.turned) c.in_ok-push.ensures.items
+    let first = waiting c.args.waiting.parts.now c.args.waiting.worker c.args.waiting.writers.items in
+    subst (λ (w : Working). IsUnderWay first w c.push.new.self.items) (sym c.look_ahead-wait.ensures)
+    (under_way_more first c.loop-worker.worker c.turn.new.self c.in-Some.piece c.loop-worker.outcomes.items c.push.new.self.items c.loop-worker.invariant
+    (rw c.in-Some.is at c.in_ok-piece.ensures.turned) c.in_ok-push.ensures.items)
 
 pub returns : goal.returns
 returns g c =

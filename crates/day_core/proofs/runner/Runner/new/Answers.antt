@@ -1,4 +1,4 @@
-use Rattle.std.proofs.Common.{map, subst, sym, ap, ◌∙◌}
+use Rattle.std.proofs.Common.{length, map, subst, sym, ap, ◌∙◌, arith}
 use Rattle.std.specs.List.Sorted.{IsStrictlyIncreasing}
 use Rattle.day_core.specs.Workers.{new_machine}
 use Rattle.day_core.proofs.Running.{codes_rise, runner_new}
@@ -11,4 +11,4 @@ pub invariant_of-result : goal.invariant_of-result
 invariant_of-result g c =
     let codes = c.in_ok-places.ensures in
     let stocks = c.in_ok-stocks.ensures ∙ ap (map new_machine) (c.deref.ensures.value ∙ sym codes) in
-    (runner_new c.args.parts.now c.args.worker _ _ (codes ∙ c.in_ok-locates.ensures) stocks, c.first.ensures c.args.parts.now.day)
+    (runner_new c.args.parts.now c.args.worker _ _ (codes ∙ c.in_ok-locates.ensures) stocks, c.first.ensures c.args.parts.now.day, λ i f within. absurd (omega (arith, within, ap length c.in_ok-with_capacity.ensures.items)))

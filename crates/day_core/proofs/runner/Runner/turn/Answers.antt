@@ -7,16 +7,16 @@ use Rattle.day_core.specs.Workers.{IsRunner, IsTurned, MayGrowNext, WorkerState,
 use Rattle.day_core.proofs.Running.{grows, next_own, next_within, on_err, runner_after, step_few, step_own, stock_stepped, turned_is}
 use Rattle.day_core.proofs.runner.Runner.turn.Goals as goal
 
-pub message_of-place-requires-clause-first : goal.message_of-place-requires-clause-first
-message_of-place-requires-clause-first g c = (next_within _ _ _ _ c.own-own.ensures c.self.invariant.0 _ (omega (arith, ap length c.own-own.ensures)) refl).0
+pub next_message-found-requires-clause-first : goal.next_message-found-requires-clause-first
+next_message-found-requires-clause-first g c = (next_within _ _ _ _ c.own-own.ensures c.self.invariant.0 _ (omega (arith, ap length c.own-own.ensures)) refl).0
 
-pub message_of-place-requires-clause-last : goal.message_of-place-requires-clause-last
-message_of-place-requires-clause-last g c =
+pub next_message-found-requires-clause-last : goal.next_message-found-requires-clause-last
+next_message-found-requires-clause-last g c =
     let within = next_within _ _ _ _ c.own-own.ensures c.self.invariant.0 _ (omega (arith, ap length c.own-own.ensures)) refl in
     omega (arith, within, ap length c.day-day.ensures)
 
-pub message_of-place-requires-clause-own : goal.message_of-place-requires-clause-own
-message_of-place-requires-clause-own g c =
+pub next_message-found-requires-clause-own : goal.next_message-found-requires-clause-own
+next_message-found-requires-clause-own g c =
     let inside = c.self.inside in
     let same = c.day-day.ensures in
     let own = next_own _ _ _ _ c.own-own.ensures c.self.invariant.0 _ (omega (arith, ap length c.own-own.ensures)) refl in (
@@ -26,8 +26,8 @@ message_of-place-requires-clause-own g c =
       subst (λ (day : List (List ℕ)). is_own inside.parts.now.workers inside.worker (part_at day (get_or c.own-own.result.now inside.done 0)) ≡ true) (sym same) own,
     )
 
-pub message_of-place-requires-clause-near : goal.message_of-place-requires-clause-near
-message_of-place-requires-clause-near g c =
+pub next_message-found-requires-clause-near : goal.next_message-found-requires-clause-near
+next_message-found-requires-clause-near g c =
     let same = c.day-day.ensures in
     subst (λ (day : List (List ℕ)). IsPlace day c.self.inside.near) (sym same) c.self.invariant.1
 
@@ -35,52 +35,52 @@ pub index_mut-requires : goal.index_mut-requires
 index_mut-requires g c =
     let inside = c.self.inside in
     let runner = c.self.invariant.0 in
-    omega (arith, c.message_of-place.ensures.within, ap length runner.stocks_are, length-map inside.places (machine_at (state_in inside.parts.now inside.worker inside.done)))
+    omega (arith, c.next_message-found.ensures.found.within, ap length runner.stocks_are, length-map inside.places (machine_at (state_in inside.parts.now inside.worker inside.done)))
 
 pub step-requires-clause-own : goal.step-requires-clause-own
 step-requires-clause-own g c =
     let same = c.day-day.ensures in
-    let found = c.message_of-place.ensures in
-    step_own _ _ _ _ c.own-own.ensures c.self.invariant.0 _ (omega (arith, ap length c.own-own.ensures)) refl _ same _ c.index_mut.result.now found.within found.stock c.index_mut.ensures.value _ found.payload
+    let found = c.next_message-found.ensures.found in
+    step_own _ _ _ _ c.own-own.ensures c.self.invariant.0 _ (omega (arith, ap length c.own-own.ensures)) refl _ same _ c.index_mut.result.now found.within found.stock_is c.index_mut.ensures.value _ found.payload_is
 
 pub step-requires-clause-few : goal.step-requires-clause-few
 step-requires-clause-few g c =
     let same = c.day-day.ensures in
-    let found = c.message_of-place.ensures in
-    step_few _ _ _ _ c.own-own.ensures c.self.invariant.0 _ (omega (arith, ap length c.own-own.ensures)) refl _ same _ c.index_mut.result.now found.within found.stock c.index_mut.ensures.value (omega arith)
+    let found = c.next_message-found.ensures.found in
+    step_few _ _ _ _ c.own-own.ensures c.self.invariant.0 _ (omega (arith, ap length c.own-own.ensures)) refl _ same _ c.index_mut.result.now found.within found.stock_is c.index_mut.ensures.value (omega arith)
 
 -- after an error the machine at the index is the one that was there
 pub invariant_of-self : goal.invariant_of-self
 invariant_of-self g c =
     let inside = c.self.inside in
-    let place = c.message_of-place.result.1 in
+    let place = c.next_message-found.result.place in
     let same : set inside.stocks.items place c.step.new.self ≡ inside.stocks.items =
     ap (set inside.stocks.items place) (c.in_err-outcome.ensures.err ∙ c.index_mut.ensures.value) ∙ set-get_or inside.stocks.items place c.index_mut.result.now in
-    (subst (λ (stocks : List StockMachine). IsRunner (state_in inside.parts.now inside.worker inside.done) inside.places stocks) (sym same) c.self.invariant.0, subst (λ (day : List (List ℕ)). IsPlace day c.message_of-place.new.near) c.day-day.ensures c.message_of-place.ensures.near)
+    (subst (λ (stocks : List StockMachine). IsRunner (state_in inside.parts.now inside.worker inside.done) inside.places stocks) (sym same) c.self.invariant.0, subst (λ (day : List (List ℕ)). IsPlace day c.next_message-found.new.near) c.day-day.ensures c.next_message-found.ensures.near, c.self.invariant.2)
 
 pub invariant_of-self-2 : goal.invariant_of-self-2
 invariant_of-self-2 g c =
     let same = c.day-day.ensures in
-    let found = c.message_of-place.ensures in
+    let found = c.next_message-found.ensures.found in
     let left = c.in_ok-outcome.ensures in
-    let stepped = stock_stepped _ _ _ _ c.own-own.ensures c.self.invariant.0 _ (omega (arith, ap length c.own-own.ensures)) refl _ same _ c.index_mut.result.now found.within found.stock c.index_mut.ensures.value c.step.new.self c.in_ok-outcome.outcome _ found.payload c.step.ensures.locate left.steps left.ok in
-    (runner_after _ _ _ _ c.own-own.ensures c.self.invariant.0 _ (omega (arith, ap length c.own-own.ensures)) refl _ same _ c.index_mut.result.now found.within found.stock c.index_mut.ensures.value c.step.new.self stepped.0, subst (λ (day : List (List ℕ)). IsPlace day c.message_of-place.new.near) same found.near)
+    let stepped = stock_stepped _ _ _ _ c.own-own.ensures c.self.invariant.0 _ (omega (arith, ap length c.own-own.ensures)) refl _ same _ c.index_mut.result.now found.within found.stock_is c.index_mut.ensures.value c.step.new.self c.in_ok-outcome.outcome _ found.payload_is c.step.ensures.locate left.steps left.ok in
+    (runner_after _ _ _ _ c.own-own.ensures c.self.invariant.0 _ (omega (arith, ap length c.own-own.ensures)) refl _ same _ c.index_mut.result.now found.within found.stock_is c.index_mut.ensures.value c.step.new.self stepped.0, subst (λ (day : List (List ℕ)). IsPlace day c.next_message-found.new.near) same c.next_message-found.ensures.near, c.self.invariant.2)
 
 pub returns-clause-turned : goal.returns-clause-turned
 returns-clause-turned g c =
     let same = c.day-day.ensures in
-    let found = c.message_of-place.ensures in
+    let found = c.next_message-found.ensures.found in
     let left = c.in_ok-outcome.ensures in
-    let stepped = stock_stepped _ _ _ _ c.own-own.ensures c.self.invariant.0 _ (omega (arith, ap length c.own-own.ensures)) refl _ same _ c.index_mut.result.now found.within found.stock c.index_mut.ensures.value c.step.new.self c.in_ok-outcome.outcome _ found.payload c.step.ensures.locate left.steps left.ok in
-    let turned = turned_is _ _ _ _ c.own-own.ensures c.self.invariant.0 _ (omega (arith, ap length c.own-own.ensures)) refl _ same _ c.index_mut.result.now found.within found.stock c.index_mut.ensures.value c.in_ok-outcome.outcome stepped.1 in (
-      subst (λ (s : WorkerState). IsTurned s (record { piece = record { message = get_or c.own-own.result.now c.self.inside.done 0; outcome = c.in_ok-outcome.outcome }; place = c.message_of-place.result.1 })) c.self.view_is turned,
+    let stepped = stock_stepped _ _ _ _ c.own-own.ensures c.self.invariant.0 _ (omega (arith, ap length c.own-own.ensures)) refl _ same _ c.index_mut.result.now found.within found.stock_is c.index_mut.ensures.value c.step.new.self c.in_ok-outcome.outcome _ found.payload_is c.step.ensures.locate left.steps left.ok in
+    let turned = turned_is _ _ _ _ c.own-own.ensures c.self.invariant.0 _ (omega (arith, ap length c.own-own.ensures)) refl _ same _ c.index_mut.result.now found.within found.stock_is c.index_mut.ensures.value c.in_ok-outcome.outcome stepped.1 in (
+      subst (λ (s : WorkerState). IsTurned s (record { piece = record { message = get_or c.own-own.result.now c.self.inside.done 0; outcome = c.in_ok-outcome.outcome }; place = c.next_message-found.result.place })) c.self.view_is turned,
       ap (λ (s : WorkerState). let next : WorkerState = record s { done = s.done + 1 } in next) c.self.view_is,
     )
 
 pub returns-in_err-outcome-clause-grows : goal.returns-in_err-outcome-clause-grows
 returns-in_err-outcome-clause-grows g c =
     let same = c.day-day.ensures in
-    let found = c.message_of-place.ensures in
+    let found = c.next_message-found.ensures.found in
     on_err c.from_residual.result _
     (subst MayGrowNext c.self.view_is
-    (grows _ _ _ _ c.own-own.ensures c.self.invariant.0 _ (omega (arith, ap length c.own-own.ensures)) refl _ same _ c.index_mut.result.now found.within found.stock c.index_mut.ensures.value _ found.payload c.in_err-outcome.ensures.grows))
+    (grows _ _ _ _ c.own-own.ensures c.self.invariant.0 _ (omega (arith, ap length c.own-own.ensures)) refl _ same _ c.index_mut.result.now found.within found.stock_is c.index_mut.ensures.value _ found.payload_is c.in_err-outcome.ensures.grows))

@@ -3,21 +3,21 @@ use Rattle.binaryfile.specs.Index.{IsPlace}
 use Rattle.day_core.specs.Owners.{is_own, own_locates, part_at}
 use Rattle.day_core.specs.Workers.{WorkerState, state_in}
 use Rattle.day_core.proofs.Running.{own_is_own, own_is_within}
-use Rattle.day_core.proofs.runner.Runner.place_ahead.Goals as goal
+use Rattle.day_core.proofs.runner.Runner.message_ahead.Goals as goal
 
-pub message_of-place-requires-clause-first : goal.message_of-place-requires-clause-first
-message_of-place-requires-clause-first g c =
+pub find_message-requires-clause-first : goal.find_message-requires-clause-first
+find_message-requires-clause-first g c =
     let state = state_in c.self.inside.parts.now c.self.inside.worker c.self.inside.done in
     (own_is_within state _ c.own-own.ensures _ c.saturating_add-index.result (omega arith) refl).0
 
-pub message_of-place-requires-clause-last : goal.message_of-place-requires-clause-last
-message_of-place-requires-clause-last g c =
+pub find_message-requires-clause-last : goal.find_message-requires-clause-last
+find_message-requires-clause-last g c =
     let state = state_in c.self.inside.parts.now c.self.inside.worker c.self.inside.done in
     let within = own_is_within state _ c.own-own.ensures _ c.saturating_add-index.result (omega arith) refl in
     omega (arith, within, ap length c.day.ensures)
 
-pub message_of-place-requires-clause-own : goal.message_of-place-requires-clause-own
-message_of-place-requires-clause-own g c =
+pub find_message-requires-clause-own : goal.find_message-requires-clause-own
+find_message-requires-clause-own g c =
     let inside = c.self.inside in
     let state = state_in inside.parts.now inside.worker inside.done in
     let same = c.day.ensures in
@@ -28,6 +28,6 @@ message_of-place-requires-clause-own g c =
       subst (λ (day : List (List ℕ)). is_own inside.parts.now.workers inside.worker (part_at day (get_or c.own-own.result.now c.saturating_add-index.result 0)) ≡ true) (sym same) own,
     )
 
-pub message_of-place-requires-clause-near : goal.message_of-place-requires-clause-near
-message_of-place-requires-clause-near g c =
+pub find_message-requires-clause-near : goal.find_message-requires-clause-near
+find_message-requires-clause-near g c =
     subst (λ (day : List (List ℕ)). IsPlace day c.args.near.now) (sym (c.day.ensures ∙ ap (λ (s : WorkerState). s.day) c.self.view_is)) c.requires

@@ -2,10 +2,10 @@ use Rattle.std.proofs.Common.{All, sym, ap, subst, ◌∙◌, arith}
 use Rattle.std.proofs.lemmas.List.{get_or-map, length-map}
 use Rattle.top_cell.specs.Boards.{IsOn, WriterAt}
 use Rattle.stock_workers.specs.Working.{Working}
-use Rattle.stock_workers.proofs.worker.Worker.look_ahead.Goals as goal
+use Rattle.stock_workers.proofs.worker.Worker.touch_cells.Goals as goal
 
-pub touch-sum-requires-then-place-len : goal.touch-sum-requires-then-place-len
-touch-sum-requires-then-place-len g c =
+pub touch-sum-requires : goal.touch-sum-requires
+touch-sum-requires g c =
     let writers = c.self.inside.writers.items in
     let here = c.index.result.now in
     let on = subst (λ (w : Working). All (IsOn c.args.board.now) w.places) (sym c.self.view_is) c.requires in

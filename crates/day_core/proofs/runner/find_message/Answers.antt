@@ -5,7 +5,7 @@ use Rattle.itch_table.specs.declared.outcome.Part.TheVariants.{Locate}
 use Rattle.itch_table.specs.Parts.{part}
 use Rattle.day_core.specs.Owners.{is_own}
 use Rattle.day_core.proofs.Running.{code_there, payload_is}
-use Rattle.day_core.proofs.runner.message_of.Goals as goal
+use Rattle.day_core.proofs.runner.find_message.Goals as goal
 
 pub unreachable-requires : goal.unreachable-requires
 unreachable-requires g c =
@@ -13,8 +13,8 @@ unreachable-requires g c =
     let here = payload_is c.args.day.now.payloads c.args.message _ c.requires.first c.requires.last c.payload_near-payload.ensures.payload in
     false≢true (ap (is_own own.0 own.1) (c.in_default.ensures ∙ ap part here) ∙ own.3)
 
-pub unwrap-requires : goal.unwrap-requires
-unwrap-requires g c =
+pub unwrap-place-requires : goal.unwrap-place-requires
+unwrap-place-requires g c =
     let own = c.requires.own in
     let day = c.args.day.now.payloads in
     let here = payload_is day c.args.message _ c.requires.first c.requires.last c.payload_near-payload.ensures.payload in
@@ -22,14 +22,12 @@ unwrap-requires g c =
     let there = code_there own.0 own.1 day c.args.message c.in-Locate.locate (omega arith) (omega arith) (omega arith) (sym mine) (ap (is_own own.0 own.1) mine ∙ own.3) in
     some_since _ _ _ c.place_of.ensures (λ none. none (subst (λ (ls : List ℕ). Contains ls c.in-Locate.locate) (sym own.2) there))
 
-pub returns-clause-payload : goal.returns-clause-payload
-returns-clause-payload g c = payload_is c.args.day.now.payloads c.args.message _ c.requires.first c.requires.last c.payload_near-payload.ensures.payload
-
-pub returns-clause-stock : goal.returns-clause-stock
-returns-clause-stock g c =
+pub returns-clause-found : goal.returns-clause-found
+returns-clause-found g c =
     let here = payload_is c.args.day.now.payloads c.args.message _ c.requires.first c.requires.last c.payload_near-payload.ensures.payload in
-    let place = rw c.unwrap.ensures at c.place_of.ensures in
-    sym (c.in-Locate.ensures ∙ ap part here) ∙ ap Locate (sym place.1)
-
-pub returns-clause-within : goal.returns-clause-within
-returns-clause-within g c = (rw c.unwrap.ensures at c.place_of.ensures).0
+    let there = rw c.unwrap-place.ensures at c.place_of.ensures in
+    record {
+      within = there.0;
+      payload_is = here;
+      stock_is = sym (c.in-Locate.ensures ∙ ap part here) ∙ ap Locate (sym there.1);
+    }
