@@ -8,8 +8,8 @@ ghost use Rattle.binaryfile.specs.Loading.{Loads, ExceedsMessages, HasMoreMessag
 
 use crate::load::read_to_end;
 use crate::scan::{
-    Place, begins_with_marker, bytes_after, bytes_from, entries_extent, index, nth_payload,
-    payload_near,
+    IndexedEntries, Place, begins_with_marker, bytes_after, bytes_from, entries_within,
+    nth_payload, payload_near,
 };
 use crate::{Feed, LoadFault, Payloads, Sink, WriteFault, send};
 use std::alloc::Allocator;
@@ -103,17 +103,13 @@ impl<A: Allocator + Copy> Day<A> {
         ensures not_bytes { result ≢ Err LoadFault.TooManyBytes }
     {
         let whole = bytes.as_slice();
-        let entries = entries_extent(whole);
-        if entries.count > messages as usize {
-            return Err(LoadFault::TooManyMessages);
-        }
-        let marked = begins_with_marker(&whole[entries.end..]);
-        let starts = index(alloc, whole, entries.count)?;
+        let IndexedEntries { extent, starts } = entries_within(alloc, whole, messages)?;
+        let marked = begins_with_marker(&whole[extent.end..]);
         Ok(Day {
             bytes,
             starts,
-            count: entries.count as u32,
-            end: entries.end,
+            count: extent.count as u32,
+            end: extent.end,
             marked,
         })
     }

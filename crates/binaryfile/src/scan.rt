@@ -1,11 +1,11 @@
 // The entries of a byte string, from the first on.
-ghost use Rattle.std.specs.Prelude.{◌≡◌, ◌<◌, ◌≤◌, List, ℕ, [], ◌∷◌, length, drop, MatchOption, IfOk, slice_index_or};
+ghost use Rattle.std.specs.Prelude.{◌≡◌, ◌≢◌, ◌<◌, ◌≤◌, ◌*◌, List, ℕ, [], ◌∷◌, length, drop, Err, MatchOption, IfOk, IsErrOf, slice_index_or};
 ghost use Rattle.byte_strings.specs.Bytes.{AreBytes};
 ghost use Rattle.binaryfile.specs.Entries.{marker};
 ghost use Rattle.binaryfile.specs.Index.{offset, payloads_of, IsIndex, IsPlace};
 ghost use Rattle.binaryfile.specs.Scanned.{contents_of};
 
-use crate::STRIDE;
+use crate::{LoadFault, STRIDE};
 use std::alloc::{AllocError, Allocator};
 
 /// How many entries there are, and the place where they end.
@@ -13,6 +13,13 @@ use std::alloc::{AllocError, Allocator};
 pub(crate) struct Extent {
     pub(crate) count: usize,
     pub(crate) end: usize,
+}
+
+/// How far the entries go, with their index.
+#[derive(Drop)]
+pub(crate) struct IndexedEntries<A: Allocator> {
+    pub(crate) extent: Extent,
+    pub(crate) starts: Vec<u64, A>,
 }
 
 /// Where an entry of a day begins, or where the entries end. From there one of the next payloads is found sooner than
@@ -55,8 +62,8 @@ fn first_payload(bytes: &[u8]) -> Option<&[u8]>
     Some(payload)
 }
 
-/// How far the entries go.
-pub(crate) fn entries_extent(bytes: &[u8]) -> Extent
+// How far the entries go.
+fn entries_extent(bytes: &[u8]) -> Extent
     ensures count { result.count ≡ length (payloads_of bytes.now) }
     ensures end { result.end ≡ offset (payloads_of bytes.now) result.count }
     ensures within { result.end ≤ length bytes.now }
@@ -98,12 +105,8 @@ fn entry_place(bytes: &[u8], starts: &[u64], number: usize) -> usize
     place_from(bytes, entry * STRIDE, starts[entry] as usize, number)
 }
 
-/// The places of the entries whose number from 0 is a multiple of `STRIDE`, in one block.
-pub(crate) fn index<A: Allocator>(
-    alloc: A,
-    bytes: &[u8],
-    count: usize,
-) -> Result<Vec<u64, A>, AllocError>
+// The places of the entries whose number from 0 is a multiple of `STRIDE`, in one block.
+fn index<A: Allocator>(alloc: A, bytes: &[u8], count: usize) -> Result<Vec<u64, A>, AllocError>
     requires { count ≡ length (payloads_of bytes.now) }
     ensures { IfOk result (λ starts. IsIndex starts.items bytes.now) }
 {
@@ -117,6 +120,59 @@ pub(crate) fn index<A: Allocator>(
         at += 2 + payload.len();
     }
     Ok(starts)
+}
+
+// How far the entries go, with the index that `index` makes, in one pass.
+fn index_to_end<A: Allocator>(alloc: A, bytes: &[u8]) -> Result<IndexedEntries<A>, AllocError>
+    ensures count { IfOk result (λ made. made.extent.count ≡ length (payloads_of bytes.now)) }
+    ensures end { IfOk result (λ made. made.extent.end ≡ offset (payloads_of bytes.now) made.extent.count) }
+    ensures within { IfOk result (λ made. made.extent.end ≤ length bytes.now) }
+    ensures few { IfOk result (λ made. 2 * made.extent.count ≤ length bytes.now) }
+    ensures index { IfOk result (λ made. IsIndex made.starts.items bytes.now) }
+{
+    let mut starts = Vec::new(alloc);
+    let mut count = 0;
+    let mut end = 0;
+    while let Some(payload) = first_payload(&bytes[end..]) {
+        if count % STRIDE == 0 {
+            starts.push(end as u64)?;
+        }
+        end += 2 + payload.len();
+        count += 1;
+    }
+    Ok(IndexedEntries {
+        extent: Extent { count, end },
+        starts,
+    })
+}
+
+/// How far the entries go, and their index, where there are no more payloads than a limit. Of bytes that are too few for
+/// more, both are found in one pass; of others the payloads are counted first, before any memory is asked for.
+pub(crate) fn entries_within<A: Allocator>(
+    alloc: A,
+    bytes: &[u8],
+    messages: u32,
+) -> Result<IndexedEntries<A>, LoadFault>
+    ensures count { IfOk result (λ made. made.extent.count ≡ length (payloads_of bytes.now)) }
+    ensures end { IfOk result (λ made. made.extent.end ≡ offset (payloads_of bytes.now) made.extent.count) }
+    ensures within { IfOk result (λ made. made.extent.end ≤ length bytes.now) }
+    ensures limit { IfOk result (λ made. made.extent.count ≤ messages) }
+    ensures index { IfOk result (λ made. IsIndex made.starts.items bytes.now) }
+    ensures too_many { IsErrOf result LoadFault.TooManyMessages → messages < length (payloads_of bytes.now) }
+    ensures not_read { result ≢ Err LoadFault.Read }
+    ensures not_bytes { result ≢ Err LoadFault.TooManyBytes }
+    ensures are { AreBytes bytes.now }
+{
+    // An entry has two bytes and more.
+    if bytes.len() as u64 / 2 <= u64::from(messages) {
+        return Ok(index_to_end(alloc, bytes)?);
+    }
+    let extent = entries_extent(bytes);
+    if extent.count > messages as usize {
+        return Err(LoadFault::TooManyMessages);
+    }
+    let starts = index(alloc, bytes, extent.count)?;
+    Ok(IndexedEntries { extent, starts })
 }
 
 /// The bytes from the entry of this number on, counted from 0.

@@ -5,8 +5,9 @@ ghost use Rattle.byte_strings.specs.Bytes.{AreBytes};
 ghost use Rattle.byte_strings.specs.Extending.{Extends};
 ghost use Rattle.day_core.specs.Replaying.{IsReplayed};
 ghost use Rattle.itch_engine.specs.Report.{machine_lines, report_of_file, refused_count};
+ghost use Rattle.itch_engine.specs.Tallies.{IsTally};
 
-use crate::report::messages::{count_refused, put_refused_lines, put_summary};
+use crate::report::messages::{Tally, put_refused_lines, put_summary, tally_of};
 use crate::report::stock::put_stock;
 use binaryfile::Day;
 use day_core::{Parts, WorkerCount, parts_of};
@@ -79,7 +80,9 @@ fn report_text<A: Allocator + Copy>(
     alloc: A,
     day: &Day<A>,
     replayed: &Replayed<A>,
+    tally: Tally,
 ) -> Result<Vec<u8, A>, AllocError>
+    requires tally { IsTally replayed.now.outcomes.items tally }
     requires few { length day.now.payloads < 2 ^ 32 }
     requires bytes { All AreBytes day.now.payloads }
     requires replayed { IsReplayed day.now.payloads
@@ -91,6 +94,7 @@ fn report_text<A: Allocator + Copy>(
     put_summary(
         &mut text,
         &replayed.outcomes,
+        tally,
         day.marked(),
         day.tail().len(),
         replayed.event,
@@ -115,7 +119,10 @@ pub(crate) fn report_of_day<R: Threads + Wait + Sync, A: Allocator + Copy + Send
 {
     let parts = parts_of(rt, alloc, day, workers)?;
     let replayed = replay(rt, alloc, &parts, gate)?;
-    let text = report_text(alloc, day, &replayed)?;
-    let refused = count_refused(&replayed.outcomes) as u32;
-    Ok(Report { text, refused })
+    let tally = tally_of(&replayed.outcomes);
+    let text = report_text(alloc, day, &replayed, tally)?;
+    Ok(Report {
+        text,
+        refused: tally.refused as u32,
+    })
 }

@@ -1,41 +1,39 @@
 //! The lines of a report that speak of messages.
-ghost use Rattle.std.specs.Prelude.{◌≡◌, ◌++◌, ◌<◌, ◌^◌, length, OnOk, count_by};
+ghost use Rattle.std.specs.Prelude.{◌≡◌, ◌++◌, ◌<◌, ◌^◌, length, OnOk};
 ghost use Rattle.byte_strings.specs.Extending.{Extends};
-ghost use Rattle.itch_engine.specs.Report.{refused_line, refused_lines, counts, mark, summary_line, is_applied, is_passed, is_refused};
+ghost use Rattle.itch_engine.specs.Report.{refused_line, refused_lines, counts, mark, summary_line};
+ghost use Rattle.itch_engine.specs.Tallies.{IsTally};
 
 use crate::report::numbers::put_count;
 use crate::report::quoted_bytes::put_quoted_byte;
 use itch_table::Outcome;
 use std::alloc::{AllocError, Allocator};
 
-// How many messages were applied.
-fn count_applied(outcomes: &[Outcome]) -> usize
-    ensures { result ≡ count_by is_applied outcomes.now }
-{
-    outcomes
-        .iter()
-        .filter(|outcome| matches!(outcome, Outcome::Applied))
-        .count()
+/// How many messages of a day were applied, passed over and refused.
+#[derive(Clone, Copy)]
+pub(crate) struct Tally {
+    pub applied: usize,
+    pub passed: usize,
+    pub refused: usize,
 }
 
-// How many messages were passed over.
-fn count_passed(outcomes: &[Outcome]) -> usize
-    ensures { result ≡ count_by is_passed outcomes.now }
+/// Counts what became of the messages of a day, in one pass.
+pub(crate) fn tally_of(outcomes: &[Outcome]) -> Tally
+    ensures { IsTally outcomes.now result }
 {
-    outcomes
-        .iter()
-        .filter(|outcome| matches!(outcome, Outcome::Passed))
-        .count()
-}
-
-/// How many messages were refused.
-pub(crate) fn count_refused(outcomes: &[Outcome]) -> usize
-    ensures { result ≡ count_by is_refused outcomes.now }
-{
-    outcomes
-        .iter()
-        .filter(|outcome| matches!(outcome, Outcome::Refused(_)))
-        .count()
+    let mut tally = Tally {
+        applied: 0,
+        passed: 0,
+        refused: 0,
+    };
+    for outcome in outcomes {
+        match outcome {
+            Outcome::Applied => tally.applied += 1,
+            Outcome::Passed => tally.passed += 1,
+            Outcome::Refused(_) => tally.refused += 1,
+        }
+    }
+    tally
 }
 
 // Adds the line of a message, where it was refused.
@@ -71,13 +69,18 @@ pub(crate) fn put_refused_lines<A: Allocator>(
 }
 
 // Adds how many messages there are, and how many became what.
-fn put_counts<A: Allocator>(text: &mut Vec<u8, A>, outcomes: &[Outcome]) -> Result<(), AllocError>
+fn put_counts<A: Allocator>(
+    text: &mut Vec<u8, A>,
+    outcomes: &[Outcome],
+    tally: Tally,
+) -> Result<(), AllocError>
+    requires { IsTally outcomes.now tally }
     ensures { Extends text.old text.new (counts outcomes.now) result }
 {
     put_count(text, b"messages ", outcomes.len())?;
-    put_count(text, b" applied ", count_applied(outcomes))?;
-    put_count(text, b" passed ", count_passed(outcomes))?;
-    put_count(text, b" refused ", count_refused(outcomes))
+    put_count(text, b" applied ", tally.applied)?;
+    put_count(text, b" passed ", tally.passed)?;
+    put_count(text, b" refused ", tally.refused)
 }
 
 // Adds whether the file has an end marker.
@@ -95,13 +98,15 @@ fn put_mark<A: Allocator>(text: &mut Vec<u8, A>, marked: bool) -> Result<(), All
 pub(crate) fn put_summary<A: Allocator>(
     text: &mut Vec<u8, A>,
     outcomes: &[Outcome],
+    tally: Tally,
     marked: bool,
     tail_length: usize,
     event: Option<u8>,
 ) -> Result<(), AllocError>
+    requires { IsTally outcomes.now tally }
     ensures { Extends text.old text.new (summary_line outcomes.now marked tail_length event) result }
 {
-    put_counts(text, outcomes)?;
+    put_counts(text, outcomes, tally)?;
     put_mark(text, marked)?;
     put_count(text, b" tail ", tail_length)?;
     text.extend_from_slice(b" event ")?;

@@ -1,6 +1,8 @@
-use Rattle.std.proofs.Common.{◌≡◌, ℕ, ◌-◌, ◌^◌, ◌<◌, List, [], length, take, drop, Bool, ap, subst, ◌∙◌, arith}
+use Rattle.std.proofs.Common.{◌≡◌, ℕ, ◌-◌, ◌^◌, ◌<◌, Err, List, [], length, take, drop, Bool, ap, subst, sym, ◌∙◌, arith}
 use Rattle.std.proofs.lemmas.List.{take_rest}
+use Rattle.std.proofs.lemmas.Result.{err_from_is_err_and}
 use Rattle.byte_strings.specs.Bytes.{AreBytes}
+use Rattle.binaryfile.specs.declared.load.LoadFault.TheVariants.{TooManyMessages}
 use Rattle.binaryfile.specs.Entries.{Contents}
 use Rattle.binaryfile.specs.Scanned.{contents_of}
 use Rattle.binaryfile.specs.Index.{payloads_of, offset, IsIndex, IsDay}
@@ -24,32 +26,34 @@ is_day bytes items starts n end marked same are all few is mark places =
 
 pub begins_with_marker-marked-requires : goal.begins_with_marker-marked-requires
 begins_with_marker-marked-requires g c =
-    let e = c.entries_extent-entries.ensures in
-    none_after _ _ _ e.are e.end e.count
+    let e = c.in_ok-extent.ensures in
+    none_after _ _ _ c.entries_within.ensures.are e.end e.count
 
-pub returns-then-entries-messages-clause-too_many_messages : goal.returns-then-entries-messages-clause-too_many_messages
-returns-then-entries-messages-clause-too_many_messages g c = λ _.
+pub returns-in_err-extent-clause-too_many_messages : goal.returns-in_err-extent-clause-too_many_messages
+returns-in_err-extent-clause-too_many_messages g c = λ too_many.
     let bytes = c.args.bytes.items in
-    let e = c.entries_extent-entries.ensures in
-    let are : AreBytes bytes = subst AreBytes c.as_slice-whole.ensures.value e.are in
+    let are : AreBytes bytes = subst AreBytes c.as_slice-whole.ensures.value c.entries_within.ensures.are in
+    let same = err_from_is_err_and c.from_residual.result c.from_residual.ensures.1 in
+    let told = rw same.1 at too_many in
+    let is : same.0 ≡ TooManyMessages = cc in
     let seen : length (payloads_of c.as_slice-whole.result.now) ≡ length (payloads_of bytes) = ap (λ (x : List ℕ). length (payloads_of x)) c.as_slice-whole.ensures.value in
     record {
       are = are;
       contents = contents_of bytes;
       split = contents_splits bytes are;
-      more = omega (arith, seen, e.count, c.if-entries-messages.true);
+      more = omega (arith, seen, c.in_err-extent.ensures.too_many (ap Err (sym same.2 ∙ is)));
     }
 
 pub invariant_of-result : goal.invariant_of-result
 invariant_of-result g c =
-    let e = c.entries_extent-entries.ensures in
-    is_day _ _ _ _ _ _ c.as_slice-whole.ensures.value e.are e.count (omega arith) e.end c.begins_with_marker-marked.ensures c.in_ok-starts.ensures
+    let e = c.in_ok-extent.ensures in
+    is_day _ _ _ _ _ _ c.as_slice-whole.ensures.value c.entries_within.ensures.are e.count (omega arith) e.end c.begins_with_marker-marked.ensures e.index
 
 pub returns-clause-split : goal.returns-clause-split
-returns-clause-split g c = contents_splits c.args.bytes.items (subst AreBytes c.as_slice-whole.ensures.value c.entries_extent-entries.ensures.are)
+returns-clause-split g c = contents_splits c.args.bytes.items (subst AreBytes c.as_slice-whole.ensures.value c.entries_within.ensures.are)
 
 pub returns-clause-within : goal.returns-clause-within
 returns-clause-within g c =
-    let e = c.entries_extent-entries.ensures in
+    let e = c.in_ok-extent.ensures in
     let seen : length (payloads_of c.as_slice-whole.result.now) ≡ length (payloads_of c.args.bytes.items) = ap (λ (x : List ℕ). length (payloads_of x)) c.as_slice-whole.ensures.value in
-    omega (arith, seen, e.count, c.if-entries-messages.false)
+    omega (arith, seen, e.count, e.limit)

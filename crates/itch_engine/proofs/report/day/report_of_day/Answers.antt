@@ -6,15 +6,15 @@ use Rattle.day_core.specs.Splitting.{Split}
 use Rattle.itch_engine.specs.Report.{is_refused}
 use Rattle.itch_engine.proofs.report.day.report_of_day.Goals as goal
 
-pub overflow_cast-refused : goal.overflow_cast-refused
-overflow_cast-refused g c =
+pub overflow_cast-result : goal.overflow_cast-result
+overflow_cast-result g c =
     let day = c.args.day.now.payloads in
     let made = c.in_ok-replayed.replayed in
     let all = subst (λ (s : Split). IsReplayed s.day made.outcomes.items made.stocks.items made.event) (c.in_ok-parts.ensures {u = tt}) (c.in_ok-replayed.ensures {u = tt}) in
     record {
       fits = omega (
         arith,
-        c.count_refused-refused.ensures,
+        c.tally_of-tally.ensures.refused,
         ap length (c.deref.ensures.value ∙ all.outcomes_are),
         count_by-le-length is_refused c.deref.result.now,
         length-outcomes_until day (length day),
