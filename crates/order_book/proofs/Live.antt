@@ -1,7 +1,7 @@
 -- Orders that live, and what becomes of one that shares come off.
 use Rattle.std.proofs.Common.{◌≡◌, ℕ, ◌-◌, ◌==◌, Bool, true, false, Option, Some, None, cond, refl, ap, ◌∙◌, arith}
 use Rattle.std.specs.Prelude.{if◌then◌else◌}
-use Rattle.std.specs.Option.{option_map, IsSome, IsSomeAnd}
+use Rattle.std.specs.Option.{option_map, IsSome}
 use Rattle.std.specs.Ordering.{eq_by_cmp, nat_cmp}
 use Rattle.std.specs.Cmp.{nat_cmp_total}
 use Rattle.std.specs.FinMap as maps
@@ -21,10 +21,6 @@ none_of f (Some x) none = absurd (some_none none)
   where
     some_none : Some (f x) ≡ None → ⊥
     some_none e = cc
-
-pub and_of : {X Y : Type 0} (f : X → Y) (o : Option X) (P : Y → Type 0) → IsSomeAnd (option_map f o) P → IsSomeAnd o (λ x. P (f x))
-and_of f None P some = some
-and_of f (Some x) P some = some
 
 module _ (orders : Orders) (reference : ℕ) (row : OrderRow) (shares : ℕ) where
   reduced_if : (b : Bool) → (row.shares == shares) ≡ b → reduced_by orders reference row shares
