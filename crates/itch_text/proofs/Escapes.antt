@@ -1,5 +1,5 @@
 -- One byte of an escaped text.
-use Rattle.std.proofs.Common.{◌≡◌, ◌≢◌, ℕ, ◌+◌, ◌<◌, ◌≤◌, true, false, List, [], ◌∷◌, length, drop, take, replicate, get_or, length-append, length-take-le, take-add, append-nil, append_assoc, ◌-◌, ◌++◌, Option, Some, None, Result, Ok, Err, ◌*◌, refl, sym, ap, ◌∙◌, arith, ne_eqb, leb, le-leb}
+use Rattle.std.proofs.Common.{◌≡◌, ◌≢◌, ℕ, ◌+◌, ◌<◌, ◌≤◌, true, false, List, [], ◌∷◌, length, drop, take, replicate, get_or, length-take-le, take-add, append-nil, ◌-◌, ◌++◌, Option, Some, None, Result, Ok, Err, ◌*◌, refl, sym, ap, ◌∙◌, arith, ne_eqb, le-leb}
 use Rattle.std.specs.Prelude.{MatchResult, is_ok}
 use Rattle.hex.specs.Hex.{hex_digit_value, digit_or_error, ◌>>=◌, decode_sized, decode_pairs}
 use Rattle.hex.specs.declared.error.FromHexError.{FromHexError}
@@ -8,7 +8,6 @@ use Rattle.itch_text.specs.Parsing.{padded_within}
 use Rattle.itch_text.specs.Fields.{extended}
 use Rattle.itch_layouts.specs.Layouts.{Bytes}
 use Rattle.std.proofs.lemmas.Bool.{true≢false}
-use Rattle.std.proofs.lemmas.Bool.Decides.{nat_tests}
 use Rattle.std.proofs.lemmas.List.{take-replicate}
 use Rattle.itch_text.proofs.HexLines.{written, failed}
 
@@ -85,17 +84,6 @@ plain_first (b ∷ bs) l h = itself_first b bs h
 pub ruleset escapes = (plain_first, escaped_byte, short_text, no_escape, no_digits)
 
 -- ---- the bytes so far, and those of the rest
-pub extended_more : (prefix : List ℕ) (b : ℕ) (o : Option (List ℕ)) → extended prefix (with_first (Some b) o) ≡ extended (prefix ++ b ∷ []) o
-extended_more prefix b None = refl
-extended_more prefix b (Some rest) = ap Some (sym (append_assoc prefix (b ∷ []) rest))
-
-not_le : (m n : ℕ) → n < m → leb m n ≡ false
-not_le m n h = grind (arith, nat_tests)
-
-pub too_long : (width : ℕ) (prefix : List ℕ) (b : ℕ) (o : Option (List ℕ)) → width ≡ length prefix → padded_within width (extended prefix (with_first (Some b) o)) ≡ None
-too_long width prefix b None h = refl
-too_long width prefix b (Some rest) h = rw (not_le (length (prefix ++ b ∷ rest)) width (omega (arith, length-append prefix (b ∷ rest)))) refl
-
 pub all_read : (width n : ℕ) (bytes : List ℕ) → n ≤ width → width ≤ 8 → length bytes ≡ 8 → drop n bytes ≡ replicate (8 - n) 32 → padded width (take n bytes) ≡ take width bytes
 all_read width n bytes h k l e =
     let short : length (take n bytes) ≡ n = length-take-le n bytes (omega arith) in

@@ -11,12 +11,11 @@ use Rattle.itch_text.specs.Faults.{Name, name_of, kind_of_name, IsWrong, IsWrong
 use Rattle.itch_text.specs.Parsing.{item_in}
 use Rattle.itch_text.specs.Fields.{extended, Puts}
 use Rattle.itch_text.specs.Steps.{LineTaken, TakesLine, fault_at}
-use Rattle.itch_text.specs.Blames.{Blames, DenotesNothing}
+use Rattle.itch_text.specs.Blames.{DenotesNothing}
 use Rattle.itch_text.specs.declared.assembler.AsmFault.TheVariants.{Memory as MemoryRefused}
 use Rattle.itch_text.specs.declared.place.Place.{Place}
 use Rattle.itch_text.specs.declared.place.Place.TheVariants.{Entries}
 use Rattle.itch_text.specs.declared.fault.LineFault.{LineFault}
-use Rattle.itch_text.specs.declared.fault.LineFault.TheVariants.{Mnemonic, Field, AfterEnd}
 use Rattle.itch_text.specs.declared.fault.LineError.{LineError}
 use Rattle.itch_text.specs.declared.fault.LineError.TheVariants.{Memory, Wrong}
 use Rattle.itch_text.proofs.ItemParsing.{item_complete, item_sound}
@@ -117,12 +116,6 @@ left_shorter f text line None h = omega arith
 left_shorter f text line (Some r) h = omega (arith, h.1)
 
 -- ---- a line that wasn't taken
-pub fault_blames : (text bytes new : List ℕ) (place : Place) (number : ℕ) (line : List ℕ) (left : List (List ℕ)) (error : LineError) → Taken text bytes place number (line ∷ left) → TakesLine bytes new place line (Err error) → Blames text (fault_at (number + 1) error)
-fault_blames text bytes new place number line left Memory t h = tt
-fault_blames text bytes new place number line left (Wrong Mnemonic) t h = first_fault text bytes place number line left Mnemonic t h
-fault_blames text bytes new place number line left (Wrong Field) t h = first_fault text bytes place number line left Field t h
-fault_blames text bytes new place number line left (Wrong AfterEnd) t h = first_fault text bytes place number line left AfterEnd t h
-
 pub fault_denotes_nothing : (text bytes new : List ℕ) (place : Place) (number : ℕ) (line : List ℕ) (left : List (List ℕ)) (error : LineError) → Taken text bytes place number (line ∷ left) → TakesLine bytes new place line (Err error) → fault_at (number + 1) error ≢ MemoryRefused → DenotesNothing text
 fault_denotes_nothing text bytes new place number line left Memory t h n = absurd (n refl)
 fault_denotes_nothing text bytes new place number line left (Wrong fault) t h n = nothing_denoted text (number + 1) fault (first_fault text bytes place number line left fault t h)
