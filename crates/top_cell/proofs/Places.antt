@@ -78,9 +78,6 @@ one_table board i j own other all on there same = ap (λ (c : CellId). c.table) 
 
 -- ---- new boards
 
-pub none_new : (day : List (List ℕ)) → AreNew day [] [] []
-none_new day = record { stocks = refl; cells = refl; long = refl; each = λ k w e. absurd (cc) }
-
 module _ (day : List (List ℕ)) (locates : List ℕ) (board : List CellId) (writers : List WriterAt) (locate : ℕ) (table : TableId) (new : AreNew day locates board writers) where
   abbrev cell : CellId
   cell = cell_id locate table

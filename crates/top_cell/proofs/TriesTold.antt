@@ -3,7 +3,6 @@ use Rattle.std.proofs.Common.{◌≡◌, ◌≢◌, ℕ, ◌+◌, ◌%◌, ◌<�
 use Rattle.top_cell.specs.Rule.{ShowsOf, IsIdle, IsScreen, stock_of, number_in, number_of, change_of, sight_of, sight}
 use Rattle.top_cell.specs.WriterBegins.{WriterBegun}
 use Rattle.top_cell.specs.WriterPuts.{WriterHasPut}
-use Rattle.top_cell.specs.WriterEnds.{WriterEnded}
 use Rattle.top_cell.specs.ReaderBegins.{ReaderBegun}
 use Rattle.top_cell.specs.ReaderEnds.{ReaderEnded}
 use Rattle.top_cell.specs.Tries.{CountsRise, Got, Lost}
@@ -80,8 +79,3 @@ pub put_now : (a b : View) → a ≡ Writing (stock_of a) (change_of a) → Writ
 put_now a b is load =
     let t = subst (λ u. WriterHasPut u b) is load in
     subst (λ u. (u ≡ Writing (stock_of u) (change_of u)) × (stock_of u ≡ stock_of a) × ((change_of u).put ≡ (change_of a).put + 1) × ((change_of u).new ≡ (change_of a).new) × (number_of u ≡ number_of a)) (sym t) (refl, refl, refl, refl, sym (ap number_of is))
-
-pub ended_now : (a b : View) → a ≡ Writing (stock_of a) (change_of a) → WriterEnded a b → IsIdle b × (stock_of b ≡ stock_of a) × (number_of b ≡ number_in (change_of a).new)
-ended_now a b is load =
-    let t = subst (λ u. WriterEnded u b) is load in
-    subst (λ u. IsIdle u × (stock_of u ≡ stock_of a) × (number_of u ≡ number_in (change_of a).new)) (sym t.1) (refl, refl, refl)
