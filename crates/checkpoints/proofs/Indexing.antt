@@ -11,7 +11,7 @@ use Rattle.itch_table.specs.Projection.{is_locate}
 use Rattle.day_core.specs.Owners.{of_stock, part_at}
 use Rattle.day_core.proofs.Kept.{kept_more}
 use Rattle.checkpoints.specs.Copies.{IsIndex, listed, numbers_of}
-use Rattle.checkpoints.proofs.Reading.{IsReading, read_all, read_more, read_none, read_payload}
+use Rattle.checkpoints.proofs.Reading.{IsReading, read_all, read_more, read_payload}
 
 -- an empty list more
 pub listed_more : (lists : List (List ℕ)) (code : ℕ) → listed (lists ++ [] ∷ []) code ≡ listed lists code
@@ -34,12 +34,6 @@ module _ {X : Type 0} (items : X → List ℕ) (lists : List X) (own : ℕ) (the
 pub record IsIndexing (day left : List (List ℕ)) (n : ℕ) (lists : List (List ℕ)) : Type 0 where
   pub reading : IsReading day left n
   pub kept : (code : ℕ) → listed lists code ≡ of_stock day code (range_with_len 1 n)
-
-pub index_none : (day left : List (List ℕ)) (lists : List (List ℕ)) → left ≡ day → lists ≡ [] → IsIndexing day left 0 lists
-index_none day left lists is none = record {
-  reading = read_none day left is;
-  kept = λ code. ap (λ (xs : List (List ℕ)). listed xs code) none;
-}
 
 pub index_all : (day left : List (List ℕ)) (n : ℕ) (lists : List (List ℕ)) → IsIndexing day left n lists → left ≡ [] → IsIndex day lists
 unfolding numbers_of
