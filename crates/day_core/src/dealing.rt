@@ -8,6 +8,7 @@ ghost use Rattle.day_core.specs.Stretches.{IsChunk, IsStretch, cut};
 use crate::merging::Piece;
 use crate::ordering::{empty_lists, give};
 use crate::seeing::{LOCATES, mark, none_seen};
+use crate::worker_count::WorkerCount;
 use binaryfile::Day;
 use itch_layouts::{Msg, Shape, read_msg};
 use itch_table::{Part, part};
@@ -48,18 +49,18 @@ pub fn event_after(payload: &[u8], before: Option<u8>) -> Option<u8>
 fn deal_between<A: Allocator + Copy>(
     alloc: A,
     day: &Day<A>,
-    workers: u32,
+    workers: WorkerCount,
     from: u32,
     to: u32,
 ) -> Result<Stretch<A>, AllocError>
-    requires some { 0 < workers }
     requires order { from ≤ to }
     requires within { to ≤ length day.now.payloads }
     ensures { IfOk result (λ made. IsStretch day.now.payloads workers from to made.seen.items
         (map (λ list. list.items) made.own.items) made.fixed.items made.event) }
 {
+    let count = workers.get();
     let mut seen = none_seen(alloc, LOCATES)?;
-    let mut own = empty_lists(alloc, workers)?;
+    let mut own = empty_lists(alloc, count)?;
     let mut fixed = Vec::new(alloc);
     let mut event = None;
     let mut payloads = day.payloads_after(from);
@@ -68,7 +69,7 @@ fn deal_between<A: Allocator + Copy>(
         match part(payload) {
             Part::Locate(locate) => {
                 seen[usize::from(locate)] = true;
-                give(&mut own, u32::from(locate) % workers, before + 1)?;
+                give(&mut own, u32::from(locate) % count, before + 1)?;
             }
             Part::Nowhere(outcome) => {
                 let message = before + 1;
@@ -86,14 +87,17 @@ fn deal_between<A: Allocator + Copy>(
 }
 
 // A stretch without messages.
-fn no_messages<A: Allocator + Copy>(alloc: A, workers: u32) -> Result<Stretch<A>, AllocError>
+fn no_messages<A: Allocator + Copy>(
+    alloc: A,
+    workers: WorkerCount,
+) -> Result<Stretch<A>, AllocError>
     ensures { IfOk result (λ made. (day : List (List ℕ)) (from : ℕ)
         → IsStretch day workers from from made.seen.items
         (map (λ list. list.items) made.own.items) made.fixed.items made.event) }
 {
     Ok(Stretch {
         seen: none_seen(alloc, LOCATES)?,
-        own: empty_lists(alloc, workers)?,
+        own: empty_lists(alloc, workers.get())?,
         fixed: Vec::new(alloc),
         event: None,
     })
@@ -148,9 +152,8 @@ fn deal_chunks<R: Threads + Sync, A: Allocator + Copy + Send + Sync>(
     rt: &R,
     alloc: A,
     day: &Day<A>,
-    workers: u32,
+    workers: WorkerCount,
 ) -> Result<Vec<Result<Stretch<A>, AllocError>, A>, AllocError>
-    requires { 0 < workers }
     ensures { IfOk result (λ chunks. AllZip
         (λ chunk found. IfOk found (λ made. IsChunk day.now.payloads workers chunk made.seen.items
         (map (λ list. list.items) made.own.items) made.fixed.items made.event))
@@ -161,7 +164,7 @@ fn deal_chunks<R: Threads + Sync, A: Allocator + Copy + Send + Sync>(
         .with_min_len(1)
         .map(
             |chunk: u32| -> Result<Stretch<A>, AllocError>
-                requires { (chunk < 16) × (0 < workers) }
+                requires { chunk < 16 }
                 ensures { IfOk result (λ made. IsChunk day.entry.now.payloads workers chunk made.seen.items
                     (map (λ list. list.items) made.own.items) made.fixed.items made.event) }
             {
@@ -183,9 +186,8 @@ pub(crate) fn deal<R: Threads + Sync, A: Allocator + Copy + Send + Sync>(
     rt: &R,
     alloc: A,
     day: &Day<A>,
-    workers: u32,
+    workers: WorkerCount,
 ) -> Result<Stretch<A>, AllocError>
-    requires { 0 < workers }
     ensures dealt { IfOk result (λ made.
         IsStretch day.now.payloads workers 0 (length day.now.payloads) made.seen.items
         (map (λ list. list.items) made.own.items) made.fixed.items made.event) }

@@ -36,7 +36,7 @@ pub fn parts_of<'d, R: Threads + Sync, A: Allocator + Copy + Send + Sync>(
 ) -> Result<Parts<'d, A>, AllocError>
     ensures { IfOk result (λ parts. parts ≡ record { day = day.now.payloads; workers = workers }) }
 {
-    let dealt = deal(rt, alloc, day, workers.get())?;
+    let dealt = deal(rt, alloc, day, workers)?;
     let locates = locates_seen(alloc, &dealt.seen)?;
     Ok(Parts {
         workers,

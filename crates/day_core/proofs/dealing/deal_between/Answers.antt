@@ -25,7 +25,7 @@ loop-before-preserved g c =
     elim c.match-part.branch [
       | in-Locate+in_ok-give-in-Locate w ↦
           rw (w.seen-is, w.own-is, w.fixed-is, w.event-is, w.in_ok-give-in-Locate.ensures, w.from.ensures, w.from-in-Locate.ensures)
-          (dealt_own _ _ _ _ _ _ _ _ _ _ c.loop-before.invariant _ steps w.in-Locate.locate w.in-Locate.ensures c.requires.some)
+          (dealt_own _ _ _ _ _ _ _ _ _ _ c.loop-before.invariant _ steps w.in-Locate.locate w.in-Locate.ensures c.get-count.ensures.some)
       | in-Nowhere+in_ok-push-in-Nowhere w ↦
           rw (w.seen-is, w.own-is, w.fixed-is, w.event-is, w.in_ok-push-in-Nowhere.ensures.items, w.event_after-event.ensures)
           (dealt_fixed _ _ _ _ _ _ _ _ _ _ c.loop-before.invariant _ steps w.in-Nowhere.outcome w.in-Nowhere.ensures)
@@ -34,5 +34,5 @@ loop-before-preserved g c =
 pub returns : goal.returns
 returns g c =
     let all : c.loop-before.before ≡ c.args.to = omega (arith, c.loop-before-test.false, c.loop-before.auto, c.requires.order) in
-    subst (λ (n : ℕ). IsStretch c.args.day.now.payloads c.args.workers c.args.from n c.loop-before.seen.items (map (λ list. list.items) c.loop-before.own.items) c.loop-before.fixed.items c.loop-before.event)
-    all c.loop-before.invariant.dealt
+    rw (← c.get-count.ensures.value) (subst (λ (n : ℕ). IsStretch c.args.day.now.payloads c.get-count.result c.args.from n c.loop-before.seen.items (map (λ list. list.items) c.loop-before.own.items) c.loop-before.fixed.items c.loop-before.event)
+    all c.loop-before.invariant.dealt)

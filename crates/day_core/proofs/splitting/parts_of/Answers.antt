@@ -1,4 +1,4 @@
-use Rattle.std.proofs.Common.{List, Bool, length, subst, sym}
+use Rattle.std.proofs.Common.{List, Bool, length, subst, sym, rules}
 use Rattle.day_core.specs.Stretches.{AreSeen}
 use Rattle.day_core.proofs.StocksSeen.{locates_are}
 use Rattle.day_core.proofs.Dealt.{dealt_all}
@@ -10,9 +10,9 @@ invariant_of-result g c =
     let dealt = c.in_ok-dealt.ensures.dealt in
     let seen = subst (λ (s : List Bool). AreSeen day 0 (length day) s) (sym c.deref.ensures.value) dealt.seen_are in
     let locates = locates_are day c.deref.result.now c.in_ok-locates.locates.items seen c.in_ok-locates.ensures in
-    rw (← c.get.ensures.value) (record {
-      some = c.get.ensures.some;
+    record {
+      some = search rules;
       few = c.in_ok-dealt.ensures.few;
       locates_are = locates;
       dealt = dealt_all _ _ _ _ _ _ dealt;
-    })
+    }
