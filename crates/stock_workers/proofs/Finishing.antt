@@ -7,7 +7,7 @@ use Rattle.day_core.specs.declared.merging.Piece.{Piece}
 use Rattle.day_core.specs.Owners.{last_message}
 use Rattle.day_core.specs.Splitting.{Split}
 use Rattle.day_core.specs.Workers.{WorkerState, first_state, machine_at, worker_locates}
-use Rattle.day_core.proofs.StocksByWorker.{HasDone, does_more, does_none, outcomes_through, stocks_through}
+use Rattle.day_core.proofs.StocksByWorker.{HasDone, does_more, outcomes_through, stocks_through}
 use Rattle.top_cell.specs.Boards.{CellId, IsOn, Place, WriterAt}
 use Rattle.stock_workers.specs.Running.{IsFinished, at_last}
 use Rattle.stock_workers.specs.Working.{PublishesTurn, Working, WriterState, WritersAt, WritersStand, writer_state}
@@ -21,11 +21,6 @@ waiting split worker writers = record { state = first_state split worker; places
 pub record IsUnderWay (first now : Working) (outs : List Outcome) : Type 0 where
   pub way : HasDone first.state now.state outs
   pub same_places : now.places ≡ first.places
-
-pub under_way_first : (first now : Working) (outs : List Outcome) → first.state.done ≡ 0 → now ≡ first → outs ≡ [] → IsUnderWay first now outs
-under_way_first first now outs none same empty =
-    subst (λ (w : Working). IsUnderWay first w outs) (sym same)
-    (record { way = does_none first.state outs none empty; same_places = refl })
 
 pub under_way_more : (first now after : Working) (piece : Piece) (outs more : List Outcome) → IsUnderWay first now outs → PublishesTurn now after (Some piece) → more ≡ outs ++ piece.outcome ∷ [] → IsUnderWay first after more
 under_way_more first now after piece outs more under turn pushed = record {
