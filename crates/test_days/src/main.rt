@@ -1,81 +1,13 @@
-//! Leads each day file that is named, and for the word `random` days at random, through the plain machine, through a
-//! machine for each of their stocks, through the parts of several numbers of workers, one after another and in threads,
-//! through the tracks of their stocks, and through a debugger, and compares what they say. It prints a line for each
-//! file and some for the days at random, and ends with status 1 where two differ.
+//! Compares the machines over each day file that is named, and for the word `random` over days at random. It prints a
+//! line for each file and some for the days at random, and ends with status 1 where two differ.
 #![tactic(auto)]
 
-mod comparing;
-mod day;
-mod meaning;
-mod places;
-mod random;
-mod random_days;
-mod stops;
-mod tally;
-mod texts;
-mod tracks;
-mod workers;
-
-use binaryfile::{Day, Feed, Limits};
-use std::alloc::Allocator;
+use std::env;
 use std::rt::Runtime;
 use std::sync::Wait;
 use std::test::Fail;
 use std::thread::Threads;
-use std::{env, fs};
-
-// No example is larger.
-const LIMITS: Limits = Limits {
-    bytes: 1 << 20,
-    messages: 1 << 16,
-};
-
-// Compares the machines over a day, and returns how many stocks have messages.
-fn compare_day<R: Threads + Wait + Sync, A: Allocator + Copy + Send + Sync>(
-    rt: &R,
-    alloc: A,
-    day: &Day<A>,
-) -> Result<usize, Fail> {
-    let stocks = day::compare(alloc, day)?;
-    workers::compare_workers(rt, alloc, day)?;
-    places::compare_places(alloc, day)?;
-    tracks::compare_tracks(alloc, day)?;
-    Ok(stocks)
-}
-
-// Compares the machines over one file, and prints how many messages and stocks it has.
-fn compare_file<R: Runtime + AllocGlobal + Threads + Wait + Sync>(
-    rt: &R,
-    path: &str,
-) -> Result<(), Fail> {
-    let Ok(file) = fs::open(rt, path) else {
-        return Err(Fail::new("the file can't be opened"));
-    };
-    let Ok(day) = Day::load(rt.alloc(), &mut Feed::new(file), LIMITS) else {
-        return Err(Fail::new("the file can't be loaded"));
-    };
-    let stocks = compare_day(rt, rt.alloc(), &day)?;
-    match println!(rt; "{path}: {} messages, {stocks} stocks", day.len()) {
-        Ok(()) => Ok(()),
-        Err(_) => Err(Fail::new("a line can't be printed")),
-    }
-}
-
-// Compares the machines over days at random, and prints how many there are, how often each outcome occurs, how many
-// changed texts denote a file, and how many stocks a wide day has.
-fn compare_random<R: Runtime + AllocGlobal + Threads + Wait + Sync>(rt: &R) -> Result<(), Fail> {
-    let (tally, assembled) = random_days::compare_random_days(rt, rt.alloc())?;
-    let stocks = random_days::compare_wide_day(rt, rt.alloc())?;
-    match println!(rt;
-        "at random: {} days, {} messages each\n{tally}\nchanged texts that denote a file {assembled}\n\
-        a day at random of {stocks} stocks",
-        random_days::DAYS,
-        random_days::MESSAGES
-    ) {
-        Ok(()) => Ok(()),
-        Err(_) => Err(Fail::new("a line can't be printed")),
-    }
-}
+use test_machines::{compare_file, compare_random};
 
 // Does what each argument asks for, up to the first difference.
 fn run<R: Runtime + AllocGlobal + Threads + Wait + Sync>(rt: &R) -> Result<(), Fail> {
