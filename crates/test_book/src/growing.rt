@@ -1,6 +1,6 @@
 //! Growths that are refused in turn: a call that is refused memory changes nothing, and some calls take none.
 use crate::calls::{Call, ask, bid, level, make, make_all, same_books, same_results};
-use itch_table::{Order, Side, Top};
+use itch_table::{Level, Order, Side, Top};
 use order_book::Book;
 use std::alloc::{AllocError, Allocator, Global};
 use std::test::Fail;
@@ -79,6 +79,57 @@ fn a_call_without_memory_changes_nothing(rt: HostRuntime) -> Result<(), Fail> {
         )?;
     }
     Ok(())
+}
+
+// Orders that fill the list of a new book, so that a replacement asks for memory.
+fn without_room() -> [Call; 5] {
+    [
+        bid(1, 100, 10),
+        bid(2, 50, 10),
+        ask(3, 5, 20),
+        ask(4, 5, 20),
+        Call::Reduce(1, 40),
+    ]
+}
+
+// A book shows these bids, and whether orders 2 and 5 live.
+fn shows_bids<A: Allocator + Copy>(
+    alloc: A,
+    book: &Book<A>,
+    bids: &[Level],
+    live: (bool, bool),
+) -> Result<(), Fail> {
+    same_list("the bids", &book.levels(alloc, Side::Buy)?, bids)?;
+    same(
+        "whether the original lives, and the new order",
+        &(book.order(2).is_some(), book.order(5).is_some()),
+        &live,
+    )
+}
+
+// Replaces order 2 under a refusal. Where that is refused, the order and the levels stay, and it is replaced with memory.
+fn replace_under(heap: &Refusing<Global>, refusal: Refusal) -> Result<Tried, Fail> {
+    let replacement = Call::Replace(2, 5, 50, 11);
+    let mut book = Book::new(heap);
+    make_all(&mut book, &without_room())?;
+    heap.restart(refusal);
+    let returned = make(&mut book, replacement)?;
+    let tried = heap.tried(returned.is_err());
+    if tried.refused {
+        shows_bids(heap, &book, &[level(10, 110)], (true, false))?;
+        make_all(&mut book, &[replacement])?;
+    }
+    shows_bids(heap, &book, &[level(11, 50), level(10, 60)], (false, true))?;
+    Ok(tried)
+}
+
+#[test]
+fn a_refused_replacement_leaves_order_and_levels(rt: HostRuntime) -> Result<(), Fail> {
+    let heap = Refusing::new(rt.alloc(), Refusal::Never);
+    let growths = refuse_each(|refusal: Refusal| -> Result<Tried, Fail> {
+        replace_under(&heap, refusal)
+    })?;
+    same("that it asks for memory", &(growths > 0), &true)
 }
 
 // Orders of both sides, at three prices, one of which comes after one with a higher reference.

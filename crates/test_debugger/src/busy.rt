@@ -13,13 +13,18 @@ const ORDERS: u64 = 30_000;
 // the first and of the last order are spent.
 type Place = (u32, u32, u64, bool, bool);
 
-// After the directory message each even message adds an order, and each odd one deletes it.
-const SHOWN: [Place; 5] = [
+// After the directory message each even message adds an order, and each odd one deletes it. A copy of the stock is kept
+// after message 30,000 and after message 60,000.
+const SHOWN: [Place; 9] = [
     (0, 0, 0, false, false),
     (1, 1, 0, false, false),
     (2, 2, 10, true, false),
     (30_001, 30_001, 0, true, false),
     (60_000, 60_000, 10, true, true),
+    (29_999, 29_999, 0, true, false),
+    (30_000, 30_000, 10, true, false),
+    (59_999, 59_999, 0, true, false),
+    (60_001, 60_001, 0, true, true),
 ];
 
 // The bytes of the day.
@@ -55,10 +60,11 @@ fn shown_at<A: Allocator + Copy>(
 fn shown_along<A: Allocator + Copy>(
     alloc: A,
     debugger: &mut Debugger<'_, A>,
+    places: &[Place],
 ) -> Result<Vec<Place, A>, DebugFault> {
     let mut list = Vec::new(alloc);
-    for (place, _, _, _, _) in SHOWN {
-        let shown = shown_at(alloc, debugger, place)?;
+    for (place, _, _, _, _) in places {
+        let shown = shown_at(alloc, debugger, *place)?;
         if list.push(shown).is_err() {
             return Err(DebugFault::Memory);
         }
@@ -66,27 +72,32 @@ fn shown_along<A: Allocator + Copy>(
     Ok(list)
 }
 
-// Compares what a new debugger shows along the day.
-fn go_along<A: Allocator + Copy>(alloc: A, day: &Day<A>) -> Result<Result<(), Fail>, DebugFault> {
+// Compares what a new debugger shows at these places, one after another.
+fn go_along<A: Allocator + Copy>(
+    alloc: A,
+    day: &Day<A>,
+    places: &[Place],
+) -> Result<Result<(), Fail>, DebugFault> {
     let mut debugger = Debugger::new(alloc, day, 30_000)?;
-    let list = shown_along(alloc, &mut debugger)?;
-    Ok(same_list("the stock along the day", &list, &SHOWN))
+    let list = shown_along(alloc, &mut debugger, places)?;
+    Ok(same_list("the stock along the day", &list, places))
 }
 
-// Goes along the day under a refusal, and with memory where it is refused.
+// Goes to the first five places under a refusal, and with memory where it is refused.
 fn go_under<'h>(
     heap: &'h Refusing<Global>,
     day: &Day<&'h Refusing<Global>>,
     refusal: Refusal,
 ) -> Result<Tried, Fail> {
+    let places = &SHOWN[..5];
     heap.restart(refusal);
-    let along = go_along(heap, day);
+    let along = go_along(heap, day, places);
     let tried = heap.tried(along.is_err());
     match along {
         Ok(compared) => compared?,
         Err(fault) => {
             same("a refused growth", &fault, &DebugFault::Memory)?;
-            go_along(heap, day)??;
+            go_along(heap, day, places)??;
         }
     }
     Ok(tried)
@@ -94,6 +105,12 @@ fn go_under<'h>(
 
 #[test]
 fn a_busy_stock_is_shown_at_each_place(rt: HostRuntime) -> Result<(), Fail> {
+    let day = day_of(rt.alloc(), busy_file(rt.alloc())?)?;
+    go_along(rt.alloc(), &day, &SHOWN)?
+}
+
+#[test]
+fn a_busy_stock_is_shown_after_a_refused_growth(rt: HostRuntime) -> Result<(), Fail> {
     let file = busy_file(rt.alloc())?;
     let heap = Refusing::new(rt.alloc(), Refusal::Never);
     let growths = refuse_each(|refusal: Refusal| -> Result<Tried, Fail> {
