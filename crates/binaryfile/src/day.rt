@@ -103,13 +103,13 @@ impl<A: Allocator + Copy> Day<A> {
         ensures not_bytes { result ≢ Err LoadFault.TooManyBytes }
     {
         let whole = bytes.as_slice();
-        let IndexedEntries { extent, starts } = entries_within(alloc, whole, messages)?;
-        let marked = begins_with_marker(&whole[extent.end..]);
+        let IndexedEntries { count, end, starts } = entries_within(alloc, whole, messages)?;
+        let marked = begins_with_marker(&whole[end..]);
         Ok(Day {
             bytes,
             starts,
-            count: extent.count as u32,
-            end: extent.end,
+            count: count as u32,
+            end,
             marked,
         })
     }

@@ -8,17 +8,11 @@ ghost use Rattle.binaryfile.specs.Scanned.{contents_of};
 use crate::{LoadFault, STRIDE};
 use std::alloc::{AllocError, Allocator};
 
-/// How many entries there are, and the place where they end.
-#[derive(Clone, Copy)]
-pub(crate) struct Extent {
-    pub(crate) count: usize,
-    pub(crate) end: usize,
-}
-
-/// How far the entries go, with their index.
+/// How many entries there are, the place where they end, and their index.
 #[derive(Drop)]
 pub(crate) struct IndexedEntries<A: Allocator> {
-    pub(crate) extent: Extent,
+    pub(crate) count: usize,
+    pub(crate) end: usize,
     pub(crate) starts: Vec<u64, A>,
 }
 
@@ -62,12 +56,9 @@ fn first_payload(bytes: &[u8]) -> Option<&[u8]>
     Some(payload)
 }
 
-// How far the entries go.
-fn entries_extent(bytes: &[u8]) -> Extent
-    ensures count { result.count ≡ length (payloads_of bytes.now) }
-    ensures end { result.end ≡ offset (payloads_of bytes.now) result.count }
-    ensures within { result.end ≤ length bytes.now }
-    ensures are { AreBytes bytes.now }
+// How many entries there are.
+fn entry_count(bytes: &[u8]) -> usize
+    ensures { result ≡ length (payloads_of bytes.now) }
 {
     let mut count = 0;
     let mut end = 0;
@@ -75,7 +66,7 @@ fn entries_extent(bytes: &[u8]) -> Extent
         end += 2 + payload.len();
         count += 1;
     }
-    Extent { count, end }
+    count
 }
 
 // The place of the entry of this number, counted from 0, by that of an earlier one.
@@ -105,29 +96,12 @@ fn entry_place(bytes: &[u8], starts: &[u64], number: usize) -> usize
     place_from(bytes, entry * STRIDE, starts[entry] as usize, number)
 }
 
-// The places of the entries whose number from 0 is a multiple of `STRIDE`, in one block.
-fn index<A: Allocator>(alloc: A, bytes: &[u8], count: usize) -> Result<Vec<u64, A>, AllocError>
-    requires { count ≡ length (payloads_of bytes.now) }
-    ensures { IfOk result (λ starts. IsIndex starts.items bytes.now) }
-{
-    let mut starts = Vec::with_capacity(alloc, count.div_ceil(STRIDE))?;
-    let mut at = 0;
-    for number in 0..count {
-        if number % STRIDE == 0 {
-            starts.push(at as u64)?;
-        }
-        let payload = first_payload(&bytes[at..]).unwrap();
-        at += 2 + payload.len();
-    }
-    Ok(starts)
-}
-
-// How far the entries go, with the index that `index` makes, in one pass.
-fn index_to_end<A: Allocator>(alloc: A, bytes: &[u8]) -> Result<IndexedEntries<A>, AllocError>
-    ensures count { IfOk result (λ made. made.extent.count ≡ length (payloads_of bytes.now)) }
-    ensures end { IfOk result (λ made. made.extent.end ≡ offset (payloads_of bytes.now) made.extent.count) }
-    ensures within { IfOk result (λ made. made.extent.end ≤ length bytes.now) }
-    ensures few { IfOk result (λ made. 2 * made.extent.count ≤ length bytes.now) }
+// The entries, with the place of each whose number from 0 is a multiple of `STRIDE`.
+fn index_entries<A: Allocator>(alloc: A, bytes: &[u8]) -> Result<IndexedEntries<A>, AllocError>
+    ensures count { IfOk result (λ made. made.count ≡ length (payloads_of bytes.now)) }
+    ensures end { IfOk result (λ made. made.end ≡ offset (payloads_of bytes.now) made.count) }
+    ensures within { IfOk result (λ made. made.end ≤ length bytes.now) }
+    ensures few { IfOk result (λ made. 2 * made.count ≤ length bytes.now) }
     ensures index { IfOk result (λ made. IsIndex made.starts.items bytes.now) }
 {
     let mut starts = Vec::new(alloc);
@@ -140,23 +114,20 @@ fn index_to_end<A: Allocator>(alloc: A, bytes: &[u8]) -> Result<IndexedEntries<A
         end += 2 + payload.len();
         count += 1;
     }
-    Ok(IndexedEntries {
-        extent: Extent { count, end },
-        starts,
-    })
+    Ok(IndexedEntries { count, end, starts })
 }
 
-/// How far the entries go, and their index, where there are no more payloads than a limit. Of bytes that are too few for
-/// more, both are found in one pass; of others the payloads are counted first, before any memory is asked for.
+/// The entries, where there are no more payloads than a limit. Bytes that may have more are counted first, before any
+/// memory is asked for.
 pub(crate) fn entries_within<A: Allocator>(
     alloc: A,
     bytes: &[u8],
     messages: u32,
 ) -> Result<IndexedEntries<A>, LoadFault>
-    ensures count { IfOk result (λ made. made.extent.count ≡ length (payloads_of bytes.now)) }
-    ensures end { IfOk result (λ made. made.extent.end ≡ offset (payloads_of bytes.now) made.extent.count) }
-    ensures within { IfOk result (λ made. made.extent.end ≤ length bytes.now) }
-    ensures limit { IfOk result (λ made. made.extent.count ≤ messages) }
+    ensures count { IfOk result (λ made. made.count ≡ length (payloads_of bytes.now)) }
+    ensures end { IfOk result (λ made. made.end ≡ offset (payloads_of bytes.now) made.count) }
+    ensures within { IfOk result (λ made. made.end ≤ length bytes.now) }
+    ensures limit { IfOk result (λ made. made.count ≤ messages) }
     ensures index { IfOk result (λ made. IsIndex made.starts.items bytes.now) }
     ensures too_many { IsErrOf result LoadFault.TooManyMessages → messages < length (payloads_of bytes.now) }
     ensures not_read { result ≢ Err LoadFault.Read }
@@ -164,15 +135,11 @@ pub(crate) fn entries_within<A: Allocator>(
     ensures are { AreBytes bytes.now }
 {
     // An entry has two bytes and more.
-    if bytes.len() as u64 / 2 <= u64::from(messages) {
-        return Ok(index_to_end(alloc, bytes)?);
-    }
-    let extent = entries_extent(bytes);
-    if extent.count > messages as usize {
+    let may_have_more = bytes.len() as u64 / 2 > u64::from(messages);
+    if may_have_more && entry_count(bytes) > messages as usize {
         return Err(LoadFault::TooManyMessages);
     }
-    let starts = index(alloc, bytes, extent.count)?;
-    Ok(IndexedEntries { extent, starts })
+    Ok(index_entries(alloc, bytes)?)
 }
 
 /// The bytes from the entry of this number on, counted from 0.

@@ -26,11 +26,11 @@ is_day bytes items starts n end marked same are all few is mark places =
 
 pub begins_with_marker-marked-requires : goal.begins_with_marker-marked-requires
 begins_with_marker-marked-requires g c =
-    let e = c.in_ok-extent.ensures in
+    let e = c.in_ok-count.ensures in
     none_after _ _ _ c.entries_within.ensures.are e.end e.count
 
-pub returns-in_err-extent-clause-too_many_messages : goal.returns-in_err-extent-clause-too_many_messages
-returns-in_err-extent-clause-too_many_messages g c = λ too_many.
+pub returns-in_err-count-clause-too_many_messages : goal.returns-in_err-count-clause-too_many_messages
+returns-in_err-count-clause-too_many_messages g c = λ too_many.
     let bytes = c.args.bytes.items in
     let are : AreBytes bytes = subst AreBytes c.as_slice-whole.ensures.value c.entries_within.ensures.are in
     let same = err_from_is_err_and c.from_residual.result c.from_residual.ensures.1 in
@@ -41,12 +41,12 @@ returns-in_err-extent-clause-too_many_messages g c = λ too_many.
       are = are;
       contents = contents_of bytes;
       split = contents_splits bytes are;
-      more = omega (arith, seen, c.in_err-extent.ensures.too_many (ap Err (sym same.2 ∙ is)));
+      more = omega (arith, seen, c.in_err-count.ensures.too_many (ap Err (sym same.2 ∙ is)));
     }
 
 pub invariant_of-result : goal.invariant_of-result
 invariant_of-result g c =
-    let e = c.in_ok-extent.ensures in
+    let e = c.in_ok-count.ensures in
     is_day _ _ _ _ _ _ c.as_slice-whole.ensures.value c.entries_within.ensures.are e.count (omega arith) e.end c.begins_with_marker-marked.ensures e.index
 
 pub returns-clause-split : goal.returns-clause-split
@@ -54,6 +54,6 @@ returns-clause-split g c = contents_splits c.args.bytes.items (subst AreBytes c.
 
 pub returns-clause-within : goal.returns-clause-within
 returns-clause-within g c =
-    let e = c.in_ok-extent.ensures in
+    let e = c.in_ok-count.ensures in
     let seen : length (payloads_of c.as_slice-whole.result.now) ≡ length (payloads_of c.args.bytes.items) = ap (λ (x : List ℕ). length (payloads_of x)) c.as_slice-whole.ensures.value in
     omega (arith, seen, e.count, e.limit)

@@ -2,8 +2,8 @@ use Rattle.std.proofs.Common.{◌≡◌, ◌<◌, length, refl, arith}
 use Rattle.binaryfile.specs.Index.{payloads_of}
 use Rattle.binaryfile.proofs.ByteRanges.{bytes_are}
 use Rattle.binaryfile.proofs.Offsets.{indexed_none, indexed_push, indexed_stay, steps, stops}
-use Rattle.binaryfile.proofs.scan.index_to_end.Goals as goal
-use Rattle.binaryfile.proofs.scan.index_to_end.Goals.{then-count-eq0+in_ok-push, else-count-eq0}
+use Rattle.binaryfile.proofs.scan.index_entries.Goals as goal
+use Rattle.binaryfile.proofs.scan.index_entries.Goals.{then-count-eq0+in_ok-push, else-count-eq0}
 
 pub loop-payload-init : goal.loop-payload-init
 loop-payload-init g c = record {

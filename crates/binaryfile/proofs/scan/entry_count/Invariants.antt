@@ -1,6 +1,6 @@
 use Rattle.std.proofs.Common.{◌≡◌, ◌-◌, ◌≤◌, length}
 use Rattle.binaryfile.specs.Index.{offset, payloads_of}
-use Rattle.binaryfile.proofs.scan.entries_extent.Given as goal
+use Rattle.binaryfile.proofs.scan.entry_count.Given as goal
 
 abbrev pub invariant-loop-payload : goal.invariant-loop-payload
 invariant-loop-payload l = record {
