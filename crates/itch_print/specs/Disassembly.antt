@@ -53,7 +53,8 @@ ended line = line ++ codes "\n"
 
 -- the text of a file with these contents
 unfoldable pub text_of : Contents → List ℕ
-text_of contents = flat_map ended (map payload_line contents.payloads ++ end_lines contents.marked contents.tail)
+text_of contents =
+    flat_map ended (map payload_line contents.payloads ++ end_lines contents.marked contents.tail)
 
 -- the lines of the messages of a file with these contents from number first to number last, as its text has them
 unfoldable pub lines_between : Contents → ℕ → ℕ → List ℕ
@@ -63,4 +64,5 @@ lines_between contents first last =
 -- the text that is written for a file denotes the file's bytes, whatever they are
 abbrev pub DisassemblyDenotes : Type 0
 DisassemblyDenotes =
-    (bytes : List ℕ) (contents : Contents) → AreBytes bytes → Splits bytes contents → Text (text_of contents) bytes
+    (bytes : List ℕ) (contents : Contents) → AreBytes bytes → Splits bytes contents
+    → Text (text_of contents) bytes

@@ -10,18 +10,21 @@
 //! ```
 //!
 //! The second call makes the lines of messages 3 to 7 alone. [`quote`] and [`put_quoted`] give the quoted form of a
-//! field. [`reassembled`] disassembles a day and assembles that text, which gives the bytes that were loaded.
+//! field, and [`put_number`] a number's digits. [`reassembled`] disassembles a day and assembles that text, which gives
+//! the bytes that were loaded.
 #![tactic(auto)]
 
 mod disassembling;
 mod hex_digits;
 mod laws;
 mod lines;
+mod numbers;
 mod printing;
 mod quoting;
 mod reassembling;
 
 pub use disassembling::{disassemble, disassemble_between};
 pub use laws::disassembly_denotes;
+pub use numbers::put_number;
 pub use quoting::{put_quoted, quote};
 pub use reassembling::reassembled;

@@ -1,5 +1,5 @@
 //! The fields of a message, as text.
-ghost use Rattle.std.specs.Prelude.{◌++◌, codes, decimal, map};
+ghost use Rattle.std.specs.Prelude.{◌++◌, codes, map};
 ghost use Rattle.byte_strings.specs.Extending.{Extends};
 ghost use Rattle.std.specs.List.{All};
 ghost use Rattle.itch_layouts.specs.Layouts.{value_at};
@@ -7,17 +7,10 @@ ghost use Rattle.itch_layouts.specs.StaticFields.{as_field};
 ghost use Rattle.itch_print.specs.Printing.{HasField};
 ghost use Rattle.itch_print.specs.Disassembly.{value_text, field_text, field_texts};
 
+use crate::numbers::put_number;
 use crate::quoting::put_quoted;
 use itch_layouts::{Field, Form};
 use std::alloc::{AllocError, Allocator};
-
-// Adds a number in decimal digits.
-fn put_number<A: Allocator>(text: &mut Vec<u8, A>, number: u64) -> Result<(), AllocError>
-    ensures { Extends text.old text.new (decimal number) result }
-{
-    let mut buffer = itoa::Buffer::new();
-    text.extend_from_slice(buffer.format(number).as_bytes())
-}
 
 // Adds what stands in a field.
 fn put_value<A: Allocator>(

@@ -2,18 +2,8 @@
 ghost use Rattle.std.specs.Prelude.{◌≡◌, ◌++◌, OnOk};
 ghost use Rattle.byte_strings.specs.Extending.{Extends};
 
+use itch_print::put_number;
 use std::alloc::{AllocError, Allocator};
-
-// Adds a number in decimal digits.
-fn put_number<N: itoa::Integer, A: Allocator>(
-    text: &mut Vec<u8, A>,
-    number: N,
-) -> Result<(), AllocError>
-    ensures { Extends text.old text.new (N.text number) result }
-{
-    let mut buffer = itoa::Buffer::new();
-    text.extend_from_slice(buffer.format(number).as_bytes())
-}
 
 /// Adds a word, with the spaces that belong to it, followed by a number in decimal digits. The form is of this project.
 ///
