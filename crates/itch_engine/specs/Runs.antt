@@ -72,7 +72,8 @@ Ends engine traffic (Err fault) = Stops engine traffic fault
 
 -- What came in and went out, where `left` reads off a reader the bytes that it has left, and `taken` off a writer those
 -- that it has taken.
-abbrev pub traffic_of : {R W : Type 0} → (R → Option (List ℕ)) → (W → Option (List ℕ)) → Device R → Device R → Device W → Device W → Traffic
+abbrev pub traffic_of : {R W : Type 0} → (R → Option (List ℕ)) → (W → Option (List ℕ))
+    → Device R → Device R → Device W → Device W → Traffic
 traffic_of left taken feed fed sink sent = record {
   left = left feed.device;
   left_after = left fed.device;
@@ -81,7 +82,8 @@ traffic_of left taken feed fed sink sent = record {
 }
 
 -- A run of the engine, from its feed and its sink as they were to what they are after it.
-pub record Runs {A R W : Type 0} (engine : Engine A) (left : R → Option (List ℕ)) (taken : W → Option (List ℕ))
+pub record Runs {A R W : Type 0} (engine : Engine A)
+    (left : R → Option (List ℕ)) (taken : W → Option (List ℕ))
     (feed fed : Device R) (sink sent : Device W) (result : Result A ProgFault) : Type 0 where
   pub ends : Ends engine (traffic_of left taken feed fed sink sent) result
   -- Whatever the result, no more is taken from the reader than the limit and one byte.

@@ -7,7 +7,8 @@ use Rattle.itch_layouts.specs.declared.layout_table.StaticLayout.{StaticLayout}
 
 -- the layout that a layout of the program is
 abbrev pub as_layout : Layout → layouts.Layout
-as_layout layout = layouts.make_layout layout.kind layout.mnemonic.now layout.size (map as_field layout.body.now)
+as_layout layout =
+    layouts.make_layout layout.kind layout.mnemonic.now layout.size (map as_field layout.body.now)
 
 -- the layout that an item of the program's table is
 abbrev pub as_static_layout : StaticLayout → layouts.Layout

@@ -18,4 +18,5 @@ ListsSplit =
 
 -- the first messages of a day are such payloads, in the world before the day
 abbrev pub DaysAreLists : Type 0
-DaysAreLists = (day : List (List ℕ)) (n : ℕ) → n ≤ length day → after day n ≡ after_all empty_world (take n day)
+DaysAreLists =
+    (day : List (List ℕ)) (n : ℕ) → n ≤ length day → after day n ≡ after_all empty_world (take n day)

@@ -16,10 +16,12 @@ use Rattle.itch_table.specs.declared.trades.TradeRow.{TradeRow}
 -- a world as the tuple of its fields
 abbrev pub coded_world : Coded World
 coded_world =
-    code_by (FinMap key_cmp OrderRow × (KeySet key_cmp × (List (ℕ × TradeRow) × (FinMap nat_cmp StockRow × Option ℕ))))
+    code_by (FinMap key_cmp OrderRow
+        × (KeySet key_cmp × (List (ℕ × TradeRow) × (FinMap nat_cmp StockRow × Option ℕ))))
     (coded× (maps.code coded_key order_row.the_row.coded)
     (coded× (coded_keys coded_key)
     (coded× (coded_list (coded× coded_ℕ trade_row.the_row.coded))
     (coded× (maps.code coded_ℕ stock_row.the_row.coded) (coded_option coded_ℕ)))))
     (λ w. (w.orders, (w.spent, (w.trades, (w.stocks, w.event)))))
-    (λ p. record { orders = p.0; spent = p.1.0; trades = p.1.1.0; stocks = p.1.1.1.0; event = p.1.1.1.1 }) (λ _. refl)
+    (λ p. record { orders = p.0; spent = p.1.0; trades = p.1.1.0; stocks = p.1.1.1.0; event = p.1.1.1.1 })
+    (λ _. refl)

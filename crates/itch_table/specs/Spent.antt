@@ -15,7 +15,8 @@ StepsKeepSpent =
 -- what is spent after some messages of a day is spent after any further ones
 abbrev pub SpentStays : Type 0
 SpentStays =
-    (day : List (List ℕ)) (locate reference m n : ℕ) → m ≤ n → IsTrue (is_spent (after day m) locate reference)
+    (day : List (List ℕ)) (locate reference m n : ℕ) → m ≤ n
+    → IsTrue (is_spent (after day m) locate reference)
     → IsTrue (is_spent (after day n) locate reference)
 
 -- after any number of messages of a day each live order's reference is spent

@@ -56,7 +56,8 @@ IsWrongWhereItStands (Some next) line fault = (fault ≡ Field) × ((item : Item
 -- the fault of a line by the name that it begins with, if it has one
 abbrev pub IsWrongByName : Place → Option Name → List (List ℕ) → LineFault → Type 0
 IsWrongByName place None line fault = fault ≡ Mnemonic
-IsWrongByName place (Some name) line fault = IsWrongWhereItStands (next_place place (kind_of_name name)) line fault
+IsWrongByName place (Some name) line fault =
+    IsWrongWhereItStands (next_place place (kind_of_name name)) line fault
 
 -- the fault of a line at a place: it has no name; else it may not stand there; else it denotes nothing
 abbrev pub IsWrong : Place → List (List ℕ) → LineFault → Type 0
@@ -80,4 +81,5 @@ pub record IsFirstFault (text : List ℕ) (number : ℕ) (fault : LineFault) : T
 -- a text has at most one first faulty line, and that line has one fault
 abbrev pub HasOneFirstFault : Type 0
 HasOneFirstFault =
-    (text : List ℕ) (m n : ℕ) (f g : LineFault) → IsFirstFault text m f → IsFirstFault text n g → (m ≡ n) × (f ≡ g)
+    (text : List ℕ) (m n : ℕ) (f g : LineFault)
+    → IsFirstFault text m f → IsFirstFault text n g → (m ≡ n) × (f ≡ g)

@@ -42,7 +42,8 @@ Puts old new bytes (Err (Wrong fault)) = (fault ≡ WrongField) × (bytes ≡ No
 
 -- The same for fields that others may follow: what was there, followed by the bytes of all, is what is there now,
 -- followed by the bytes of the others.
-abbrev pub PutsFields : List ℕ → List ℕ → List Field → List (List ℕ) → Result (Bor (List ℕ)) LineError → Type 0
+abbrev pub PutsFields : List ℕ → List ℕ → List Field → List (List ℕ)
+    → Result (Bor (List ℕ)) LineError → Type 0
 PutsFields old new fs ws (Ok rest) =
     (others : List Field)
     → extended old (fields_bytes (fs ++ others) ws) ≡ extended new (fields_bytes others (words rest.now))

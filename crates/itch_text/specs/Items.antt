@@ -48,7 +48,8 @@ pub record IsMessage (line : List (List ℕ)) (payload : List ℕ) : Type 0 wher
 -- what the words of a line denote
 abbrev pub Denotes : List (List ℕ) → Item → Type 0
 Denotes line Nothing = (line ≡ []) ⊎ IsComment line
-Denotes line (Entry payload) = IsMessage line payload ⊎ (IsHexLine (codes "raw") line payload × IsPayload payload)
+Denotes line (Entry payload) =
+    IsMessage line payload ⊎ (IsHexLine (codes "raw") line payload × IsPayload payload)
 Denotes line End = line ≡ codes "end" ∷ []
 Denotes line (Cut bytes) = IsHexLine (codes "cut") line bytes × IsPartial bytes
 Denotes line (Rest bytes) = IsHexLine (codes "rest") line bytes

@@ -32,4 +32,5 @@ place_after place (Rest bytes) = next_place place RestKind
 -- where the line after items stands, if they may stand in this order from this place on
 abbrev pub place_after_all : Place → List Item → Option Place
 place_after_all place [] = Some place
-place_after_all place (item ∷ items) = option_and_then (λ next. place_after_all next items) (place_after place item)
+place_after_all place (item ∷ items) =
+    option_and_then (λ next. place_after_all next items) (place_after place item)

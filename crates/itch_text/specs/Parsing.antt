@@ -28,7 +28,8 @@ number_in text =
 -- what stands between the quotes that a text begins and ends with
 unfoldable pub between_quotes : List ℕ → Option (List ℕ)
 between_quotes text =
-    if nat_le 2 (length text) && (slice_index text 0 == quote_mark && slice_index text (length text - 1) == quote_mark)
+    if nat_le 2 (length text)
+        && (slice_index text 0 == quote_mark && slice_index text (length text - 1) == quote_mark)
     then Some (take (length text - 2) (drop 1 text)) else None
 
 -- the number, if it fits a field of this width
@@ -39,7 +40,8 @@ fitting width (Some n) = if nat_lt n (256 ^ width) then Some (Number n) else Non
 -- the bytes filled up to a width, if they are no more than that
 abbrev pub padded_within : ℕ → Option (List ℕ) → Option Value
 padded_within width None = None
-padded_within width (Some short) = if nat_le (length short) width then Some (Bytes (padded width short)) else None
+padded_within width (Some short) =
+    if nat_le (length short) width then Some (Bytes (padded width short)) else None
 
 -- the value of what stands between quotes
 abbrev pub alpha_in : ℕ → Option (List ℕ) → Option Value

@@ -8,7 +8,8 @@ use Rattle.itch_text.specs.Characters.{space, quote_mark, backslash, small_x, ti
 
 -- a byte from the space to the tilde that is neither the quote nor the backslash denotes itself
 abbrev pub denotes_itself : ℕ → Bool
-denotes_itself byte = nat_le space byte && nat_le byte tilde && not (byte == quote_mark) && not (byte == backslash)
+denotes_itself byte =
+    nat_le space byte && nat_le byte tilde && not (byte == quote_mark) && not (byte == backslash)
 
 -- the byte of two hexadecimal digits
 abbrev pub byte_of : Option ℕ → Option ℕ → Option ℕ

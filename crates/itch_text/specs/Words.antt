@@ -11,7 +11,8 @@ is_no_space b = not (b == space)
 unfoldable pub pieces : Bool → List ℕ → List (List ℕ)
 pieces quoted [] = [] ∷ []
 pieces true (b ∷ bs) = onto_first b (pieces (not (b == quote_mark)) bs)
-pieces false (b ∷ bs) = if b == space then [] ∷ pieces false bs else onto_first b (pieces (b == quote_mark) bs)
+pieces false (b ∷ bs) =
+    if b == space then [] ∷ pieces false bs else onto_first b (pieces (b == quote_mark) bs)
 
 -- a piece that has bytes is a word
 abbrev pub is_word : List ℕ → Bool

@@ -17,7 +17,8 @@ IsFirst first = first + 2 ^ 32 ≤ 2 ^ 64
 
 -- an order of the list, without its reference
 abbrev pub without_distance : RisenRow → OrderRow
-without_distance row = record { side = row.side; shares = row.shares; price = row.price; attribution = row.attribution }
+without_distance row =
+    record { side = row.side; shares = row.shares; price = row.price; attribution = row.attribution }
 
 -- an order of the list, where distances are from this first reference
 abbrev pub order_at : ℕ → RisenRow → Order

@@ -124,14 +124,14 @@ impl<A: Allocator + Copy> Ladder<A> {
         self.levels.len() as u64
     }
 
-    /// The levels, with the best first. An error says that memory was refused.
+    /// The levels, with the best first.
     pub fn list(&self, alloc: A) -> Result<Vec<Level, A>, AllocError>
         ensures { IfOk result (λ list. list.items ≡ shown self.now.side self.now.levels) }
     {
         self.levels.iter().rev().copied().collect(alloc)
     }
 
-    /// The same levels, in memory of `alloc`. An error says that memory was refused.
+    /// The same levels, in memory of `alloc`.
     pub fn copy(&self, alloc: A) -> Result<Ladder<A>, AllocError>
         ensures side { IfOk result (λ copy. copy.side ≡ self.now.side) }
         ensures levels { IfOk result (λ copy. copy.levels ≡ self.now.levels) }
@@ -142,7 +142,7 @@ impl<A: Allocator + Copy> Ladder<A> {
         })
     }
 
-    /// Makes room for one more level. An error says that memory was refused.
+    /// Makes room for one more level.
     pub fn reserve(&mut self) -> Result<(), AllocError>
         ensures side { self.new.side ≡ self.old.side }
         ensures levels { self.new.levels ≡ self.old.levels }

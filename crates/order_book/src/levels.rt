@@ -75,7 +75,7 @@ impl<A: Allocator + Copy> Levels<A> {
         self.bids.touch().wrapping_add(self.asks.touch())
     }
 
-    /// A side's levels, with the best first. An error says that memory was refused.
+    /// A side's levels, with the best first.
     pub fn list(&self, alloc: A, side: Side) -> Result<Vec<Level, A>, AllocError>
         ensures { IfOk result (λ list. list.items ≡ shown side (levels_on self.now side)) }
     {
@@ -85,7 +85,7 @@ impl<A: Allocator + Copy> Levels<A> {
         }
     }
 
-    /// The same levels, in memory of `alloc`. An error says that memory was refused.
+    /// The same levels, in memory of `alloc`.
     pub fn copy(&self, alloc: A) -> Result<Levels<A>, AllocError>
         ensures { IfOk result (λ copy. SameLevels self.now copy) }
     {
@@ -95,7 +95,7 @@ impl<A: Allocator + Copy> Levels<A> {
         })
     }
 
-    /// Makes room for one more level of a side. An error says that memory was refused.
+    /// Makes room for one more level of a side.
     pub fn reserve(&mut self, side: Side) -> Result<(), AllocError>
         ensures same { SameLevels self.old self.new }
         ensures room { OnOk result (1 ≤ room_on self.new side) }

@@ -11,6 +11,8 @@
 //!
 //! [`Book::find`] returns a `Found` of `itch_table`: a live order, and where it stood. [`Book::reduce_found`],
 //! [`Book::remove_found`] and [`Book::replace_found`] take it, so that the order isn't looked for a second time.
+//!
+//! All is of this project. An `AllocError` says that memory was refused.
 #![tactic(auto)]
 
 mod book;

@@ -243,8 +243,7 @@ impl<A: Allocator + Copy> RisingOrders<A> {
     }
 
     /// Adds an order that has shares, and returns true; or returns false where its reference isn't above those of all in
-    /// the list, or is too far above the first. An error says that memory was refused, and leaves the orders as they
-    /// were.
+    /// the list, or is too far above the first. An error leaves the orders as they were.
     pub fn push(&mut self, order: Order) -> Result<bool, AllocError>
         requires { 1 ≤ order.shares }
         ensures ok { IfOk result (λ rises. self.new ≡ (if rises then added self.old order else self.old)) }
@@ -303,7 +302,7 @@ impl<A: Allocator + Copy> RisingOrders<A> {
         }
     }
 
-    /// The orders, by rising reference. An error says that memory was refused.
+    /// The orders, by rising reference.
     pub fn list(&self, alloc: A) -> Result<Vec<Order, A>, AllocError>
         ensures { IfOk result (λ list. list.items ≡ orders_in self.now) }
     {
@@ -315,7 +314,7 @@ impl<A: Allocator + Copy> RisingOrders<A> {
             .collect(alloc)
     }
 
-    /// The same orders, in memory of `alloc`. An error says that memory was refused.
+    /// The same orders, in memory of `alloc`.
     pub fn copy(&self, alloc: A) -> Result<RisingOrders<A>, AllocError>
         ensures { IfOk result (λ copy. copy ≡ self.now) }
     {

@@ -151,7 +151,7 @@ impl<A: Allocator + Copy> OrderTable<A> {
         }
     }
 
-    /// The orders, by rising reference. An error says that memory was refused.
+    /// The orders, by rising reference.
     pub fn list(&self, alloc: A) -> Result<Vec<Order, A>, AllocError>
         ensures { IfOk result (λ list. list.items ≡ orders_in self.now) }
     {
@@ -164,7 +164,7 @@ impl<A: Allocator + Copy> OrderTable<A> {
         as_orders(alloc, &rows)
     }
 
-    /// The same orders, in memory of `alloc`. An error says that memory was refused.
+    /// The same orders, in memory of `alloc`.
     pub fn copy(&self, alloc: A) -> Result<OrderTable<A>, AllocError>
         ensures { IfOk result (λ copy. copy ≡ self.now) }
     {

@@ -12,7 +12,8 @@ is_unbroken_trade match_no trade = (trade.match_no == match_no) && not trade.bro
 
 -- a trade, broken where it has this match number
 abbrev pub broken_trade : ℕ → TradeRow → TradeRow
-broken_trade match_no trade = if is_unbroken_trade match_no trade then record trade { broken = true } else trade
+broken_trade match_no trade =
+    if is_unbroken_trade match_no trade then record trade { broken = true } else trade
 
 -- a trade has another match number
 abbrev pub IsOther : ℕ → TradeRow → Type 0

@@ -137,7 +137,7 @@ impl<A: Allocator + Copy> SpentReferences<A> {
         }
     }
 
-    /// Adds a reference. An error says that memory was refused, and leaves the references as they were.
+    /// Adds a reference. An error leaves the references as they were.
     pub fn insert(&mut self, reference: u64) -> Result<(), AllocError>
         ensures ok { OnOk result (self.new ≡ with_key self.old reference) }
         ensures err { OnErr result (self.new ≡ self.old) }
@@ -162,7 +162,7 @@ impl<A: Allocator + Copy> SpentReferences<A> {
         self.others.remove(&reference);
     }
 
-    /// The same references, in memory of `alloc`. An error says that memory was refused.
+    /// The same references, in memory of `alloc`.
     pub fn copy(&self, alloc: A) -> Result<SpentReferences<A>, AllocError>
         ensures { IfOk result (λ copy. copy ≡ self.now) }
     {

@@ -103,7 +103,7 @@ impl<A: Allocator> Trades<A> {
         }
     }
 
-    /// The same trades, in memory of `alloc`. An error says that memory was refused.
+    /// The same trades, in memory of `alloc`.
     pub fn copy(&self, alloc: A) -> Result<Trades<A>, AllocError>
         ensures { IfOk result (λ trades. trades ≡ self.now) }
     {

@@ -63,7 +63,8 @@ IsOn board own = slice_get board own.index ≡ Some own.cell
 -- a board has one cell for each of its stocks
 abbrev pub AreApart : List CellId → Type 0
 AreApart board =
-    (i j : ℕ) (c d : CellId) → slice_get board i ≡ Some c → slice_get board j ≡ Some d → c.locate ≡ d.locate → c ≡ d
+    (i j : ℕ) (c d : CellId) → slice_get board i ≡ Some c → slice_get board j ≡ Some d
+    → c.locate ≡ d.locate → c ≡ d
 
 -- a screen that stands at a message and has made no loads, at a seat
 abbrev pub new_screen : Place → ℕ → ℕ → ScreenAt

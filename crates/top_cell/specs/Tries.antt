@@ -43,7 +43,8 @@ Got before words after =
 -- this many tries were lost: the count was loaded that often or more often, and no try was won
 abbrev pub AreLost : View → ℕ → View → Type 0
 AreLost before tries after =
-    ((sight_of before).looks + tries ≤ (sight_of after).looks) × ((sight_of after).wins ≡ (sight_of before).wins)
+    ((sight_of before).looks + tries ≤ (sight_of after).looks)
+    × ((sight_of after).wins ≡ (sight_of before).wins)
 
 -- one try was lost, by one to six loads
 abbrev pub Lost : View → ℕ → View → Type 0
