@@ -3,6 +3,7 @@ use Rattle.std.proofs.Common.{◌≡◌, ℕ, zero, suc, ◌+◌, ◌<◌, List,
 use Rattle.std.specs.List.{AllZip, range_with_len}
 use Rattle.std.proofs.lemmas.Slice.Zip.{AllZip-long}
 use Rattle.day_core.specs.Stretches.{cut}
+use Rattle.day_core.specs.declared.dealing.TheConstants.{CHUNKS}
 
 -- the item that stands beside a number of a range
 beside : {Y : Type 0} (R : ℕ → Y → Type 0) (a n : ℕ) (ys : List Y) (i : ℕ) (d : Y) → AllZip R (range_with_len a n) ys → i < length ys → R (a + i) (get_or ys i d)
@@ -19,22 +20,22 @@ module _ {V E : Type 0} (IsMade : ℕ → V → Type 0) where
   IsFound chunk found = IfOk found (IsMade chunk)
 
   abbrev AreFound : List (Result V E) → Type 0
-  AreFound chunks = AllZip IsFound (range_with_len 0 16) chunks
+  AreFound chunks = AllZip IsFound (range_with_len 0 CHUNKS) chunks
 
-  pub found_from : (chunks given : List (Result V E)) (places : List ℕ) → AllZip IsFound places given → places ≡ range_with_len 0 16 → chunks ≡ given → AreFound chunks
+  pub found_from : (chunks given : List (Result V E)) (places : List ℕ) → AllZip IsFound places given → places ≡ range_with_len 0 CHUNKS → chunks ≡ given → AreFound chunks
   found_from chunks given places found all is = subst (λ (rs : List (Result V E)). AreFound rs) (sym is) (subst (λ (ps : List ℕ). AllZip IsFound ps given) all found)
 
   -- what was made of the next chunk, as it is read from a slice of the list
   pub next_chunk : (chunks shown : List (Result V E)) (i : ℕ) (d : Result V E) (v : V) → AreFound chunks → shown ≡ chunks → i < length shown
       → d ≡ get_or shown i d → d ≡ Ok v → IsMade i v
   next_chunk chunks shown i d v found same lt here is =
-      let at = beside IsFound 0 16 shown i d (subst (λ (rs : List (Result V E)). AreFound rs) (sym same) found) lt in
+      let at = beside IsFound 0 CHUNKS shown i d (subst (λ (rs : List (Result V E)). AreFound rs) (sym same) found) lt in
       let number : 0 + i ≡ i = omega arith in
       rw (number, ← here, is) at at
 
   -- as many chunks as there are make the day
   pub chunks_all : (messages : ℕ) (chunks shown : List (Result V E)) (i : ℕ) → AreFound chunks → shown ≡ chunks → i ≡ length shown → cut messages i ≡ messages
   chunks_all messages chunks shown i found same is =
-      let long = AllZip-long IsFound (range_with_len 0 16) chunks found in
-      let all : i ≡ 16 = is ∙ ap length same ∙ long in
+      let long = AllZip-long IsFound (range_with_len 0 CHUNKS) chunks found in
+      let all : i ≡ CHUNKS = is ∙ ap length same ∙ long in
       rw all (omega arith)

@@ -255,7 +255,7 @@ module _ (s : WorkerState) (own locates : List ℕ) (stocks : List StockMachine)
       stocks_are = stocks_after place m listed own_part stepped;
     }
 
-    pub turned_is : (o : Outcome) → o ≡ outcome s.day n → IsTurned s (record { piece = record { message = n; outcome = o }; place = place })
+    pub turned_is : (o : Outcome) → o ≡ outcome s.day n → IsTurned s (record { piece = record { message = n; outcome = o }; index = place })
     turned_is o gave = record {
       more = within_own;
       piece = ap (λ (u : Outcome). let p : Piece = record { message = n; outcome = u } in p) gave ∙ ap (piece_of s.day) next_is;
@@ -292,17 +292,17 @@ module _ (old new : WorkerState) (t : Turned) (turn : TakesTurn old new (Some t)
 
   pub reached : (locate : ℕ) → part_at old.day named ≡ Locate locate → progress new.day new.workers locate new.done ≡ named
   reached locate mine =
-      let same : locate ≡ get_or (worker_locates old) t.place 0 = same_code (sym mine ∙ turn.0.stock) in
+      let same : locate ≡ get_or (worker_locates old) t.index 0 = same_code (sym mine ∙ turn.0.stock) in
       reaches locate ∙ ap (λ (l : ℕ). progress old.day old.workers l (old.done + 1)) same
-      ∙ progress_here old named t.place turn.0.more named_next turn.0.within turn.0.stock
+      ∙ progress_here old named t.index turn.0.more named_next turn.0.within turn.0.stock
 
   pub stayed : (locate : ℕ) → Contains (worker_locates old) locate → (part_at old.day named ≡ Locate locate → ⊥)
       → progress new.day new.workers locate new.done ≡ progress old.day old.workers locate old.done
   stayed locate has other =
       let code : get_or (worker_locates old) has.0 0 ≡ locate = get_or_default (worker_locates old) has.0 0 locate has.1 ∙ has.2 in
-      let apart : has.0 ≢ t.place = λ same. other (turn.0.stock ∙ ap (λ (k : ℕ). Locate (get_or (worker_locates old) k 0)) (sym same) ∙ ap Locate code) in
+      let apart : has.0 ≢ t.index = λ same. other (turn.0.stock ∙ ap (λ (k : ℕ). Locate (get_or (worker_locates old) k 0)) (sym same) ∙ ap Locate code) in
       reaches locate ∙ ap (λ (l : ℕ). progress old.day old.workers l (old.done + 1)) (sym code)
-      ∙ progress_there old named t.place turn.0.more named_next turn.0.within turn.0.stock has.0 has.1 apart
+      ∙ progress_there old named t.index turn.0.more named_next turn.0.within turn.0.stock has.0 has.1 apart
       ∙ ap (λ (l : ℕ). progress old.day old.workers l old.done) code
 
 -- ---- a worker that has done nothing yet

@@ -25,19 +25,19 @@ top_is day locate n m is = ap (λ (k : StockMachine). top (orders_of k.world k.l
 
 -- a turn sets the cell of its stock
 pub cells_turned : (s new : WorkerState) (t : Turned) (cells : List (List ℕ)) (m : StockMachine) (best : Top) (words : List ℕ) → IsTurned s t → new ≡ record s { done = s.done + 1 } → CellsShow s cells
-    → m ≡ machine_at new (get_or (worker_locates new) t.place 0) → best ≡ top (orders_of m.world m.locate) → words ≡ words_of t.piece.message best
-    → CellsShow new (set cells t.place words)
+    → m ≡ machine_at new (get_or (worker_locates new) t.index 0) → best ≡ top (orders_of m.world m.locate) → words ≡ words_of t.piece.message best
+    → CellsShow new (set cells t.index words)
 cells_turned s new t cells m best words turned moved show stock is made =
     let n = t.piece.message in
-    let locate = get_or (worker_locates s) t.place 0 in
+    let locate = get_or (worker_locates s) t.index 0 in
     let next : n ≡ get_or (worker_messages s) s.done 0 = ap (λ (p : Piece). p.message) turned.piece in
-    let far = progress_here s n t.place turned.more next turned.within turned.stock in
+    let far = progress_here s n t.index turned.more next turned.within turned.stock in
     let stands : m ≡ machine_of s.day locate n =
-    stock ∙ ap (λ (z : WorkerState). machine_at z (get_or (worker_locates z) t.place 0)) moved ∙ ap (machine_of s.day locate) far
+    stock ∙ ap (λ (z : WorkerState). machine_at z (get_or (worker_locates z) t.index 0)) moved ∙ ap (machine_of s.day locate) far
     in
     let shows : words ≡ words_at s.day locate n = made ∙ ap (words_of n) (is ∙ top_is s.day locate n m stands) in
-    subst (λ (z : WorkerState). CellsShow z (set cells t.place words)) (sym moved)
-    (values_after s n t.place turned.more next turned.within turned.stock (words_at s.day) cells words show shows)
+    subst (λ (z : WorkerState). CellsShow z (set cells t.index words)) (sym moved)
+    (values_after s n t.index turned.more next turned.within turned.stock (words_at s.day) cells words show shows)
 
 -- ---- a look
 

@@ -56,7 +56,8 @@ IsNotBack earlier later = earlier.locate ≡ later.locate → message_seen earli
 -- no look of a schedule shows an earlier message than one before it
 abbrev pub SeenNeverGoesBack : Type 0
 SeenNeverGoesBack =
-    (day : List (List ℕ)) (workers : ℕ) (events : List Event) → AllPairs IsNotBack (seen_by day workers events)
+    (day : List (List ℕ)) (workers : ℕ) (events : List Event)
+    → AllPairs IsNotBack (seen_by day workers events)
 
 -- ---- one event
 

@@ -5,6 +5,7 @@ use Rattle.std.specs.Option.{option_or}
 use Rattle.itch_table.specs.After.{after}
 use Rattle.itch_table.specs.Projection.{is_of_stock}
 use Rattle.day_core.specs.Owners.{fixed_until, own_until}
+use Rattle.day_core.specs.declared.dealing.TheConstants.{CHUNKS}
 use Rattle.day_core.specs.declared.merging.Piece.{Piece}
 
 -- whether a stock has a message among the first of a day
@@ -29,9 +30,9 @@ pub record IsStretch (day : List (List ℕ)) (workers from to : ℕ) (seen : Lis
   pub fixed_are : fixed_until day from ++ fixed ≡ fixed_until day to
   pub event_is : option_or event (after day from).event ≡ (after day to).event
 
--- where a chunk of a day begins, by its number from 0, of 16 that make the day
+-- where a chunk of a day begins, by its number from 0
 abbrev pub cut : ℕ → ℕ → ℕ
-cut messages chunk = min (chunk * (messages / 16 + 1)) messages
+cut messages chunk = min (chunk * (messages / CHUNKS + 1)) messages
 
 -- the chunk of a day with this number is dealt
 abbrev pub IsChunk : List (List ℕ) → ℕ → ℕ → List Bool → List (List ℕ) → List Piece → Option ℕ → Type 0

@@ -1,5 +1,5 @@
 -- Where a worker stands in a day: how many of its own messages it has done says all. Of this project.
-use Rattle.std.specs.Prelude.{◌≡◌, ◌+◌, ◌<◌, ◌≤◌, ℕ, IsTrue, List, Option, Some, None, length, map, slice_index}
+use Rattle.std.specs.Prelude.{◌≡◌, ◌+◌, ◌<◌, ◌≤◌, ℕ, true, IsTrue, List, Option, Some, None, length, map, slice_index}
 use Rattle.itch_layouts.specs.Shapes.{shape_of}
 use Rattle.itch_table.specs.declared.outcome.Outcome.TheVariants.{Applied}
 use Rattle.itch_table.specs.declared.outcome.Part.TheVariants.{Locate}
@@ -8,7 +8,7 @@ use Rattle.itch_table.specs.Machine.{shape_adds_row}
 use Rattle.itch_table.specs.Projection.{payload_at}
 use Rattle.itch_table.specs.World.{empty_world}
 use Rattle.stock_machine.specs.StockRows.{StockMachine}
-use Rattle.day_core.specs.Owners.{machine_of, own_locates, own_of, part_at, piece_of, progress}
+use Rattle.day_core.specs.Owners.{is_own, machine_of, own_locates, own_of, part_at, piece_of, progress}
 use Rattle.day_core.specs.Splitting.{Split}
 use Rattle.day_core.specs.declared.runner.Turned.{Turned}
 
@@ -57,8 +57,8 @@ new_machine locate = record { locate = locate; world = empty_world; steps = 0 }
 pub record IsTurned (s : WorkerState) (turned : Turned) : Type 0 where
   pub more : s.done < length (worker_messages s)
   pub piece : turned.piece ≡ piece_of s.day (next_message s)
-  pub within : turned.place < length (worker_locates s)
-  pub stock : part_at s.day turned.piece.message ≡ Locate (slice_index (worker_locates s) turned.place)
+  pub within : turned.index < length (worker_locates s)
+  pub stock : part_at s.day turned.piece.message ≡ Locate (slice_index (worker_locates s) turned.index)
 
 -- a turn does the worker's next message, or nothing exactly where the worker has done all of them
 abbrev pub TakesTurn : WorkerState → WorkerState → Option Turned → Type 0
@@ -72,12 +72,19 @@ pub record MayGrowNext (s : WorkerState) : Type 0 where
   pub adds : (locate : ℕ) → part_at s.day (next_message s) ≡ Locate locate
       → IsTrue (shape_adds_row (Some locate) (shape_of (payload_at s.day (next_message s))))
 
+-- the number of a message of a day that is of one of these stocks, which are all that a worker has
+pub record IsOwnMessage (day : List (List ℕ)) (locates : List ℕ) (message : ℕ) : Type 0 where
+  pub first : 1 ≤ message
+  pub last : message ≤ length day
+  pub own : (workers : ℕ) × (worker : ℕ) × (locates ≡ own_locates workers worker day)
+      × (is_own workers worker (part_at day message) ≡ true)
+
 -- a message of a day as it was found: its payload, and which of these stocks it is of
-pub record IsFound (day : List (List ℕ)) (locates : List ℕ) (message : ℕ) (payload : List ℕ) (place : ℕ)
+pub record IsFound (day : List (List ℕ)) (locates : List ℕ) (message : ℕ) (payload : List ℕ) (index : ℕ)
     : Type 0 where
-  pub within : place < length locates
+  pub within : index < length locates
   pub payload_is : payload ≡ payload_at day message
-  pub stock_is : part_at day message ≡ Locate (slice_index locates place)
+  pub stock_is : part_at day message ≡ Locate (slice_index locates index)
 
 -- what a runner keeps: its stocks' locate codes, and their machines as far as it has come
 pub record IsRunner (s : WorkerState) (locates : List ℕ) (stocks : List StockMachine) : Type 0 where

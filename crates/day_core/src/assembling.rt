@@ -86,7 +86,8 @@ pub fn assemble<A: Allocator + Copy>(
     outcomes: Vec<Vec<Outcome, A>, A>,
     stocks: Vec<Vec<Stock<A>, A>, A>,
 ) -> Result<ReplayedDay<A>, AllocError>
-    requires outcomes { map (λ own. own.items) outcomes.items ≡ each_worker (outcomes_by parts.now) parts.now }
+    requires outcomes { map (λ own. own.items) outcomes.items
+        ≡ each_worker (outcomes_by parts.now) parts.now }
     requires stocks { map (λ own. own.items) stocks.items
         ≡ each_worker (for_own_stocks (last_machine parts.now.day) parts.now) parts.now }
     ensures { IfOk result (λ replayed. IsReplayed parts.now.day

@@ -4,6 +4,7 @@ ghost use Rattle.std.specs.List.{AllZip, range_with_len};
 ghost use Rattle.itch_layouts.specs.Shapes.{shape_of};
 ghost use Rattle.itch_table.specs.Projection.{event_with};
 ghost use Rattle.day_core.specs.Stretches.{IsChunk, IsStretch, cut};
+ghost use Rattle.day_core.specs.declared.dealing.TheConstants.{CHUNKS};
 
 use crate::merging::Piece;
 use crate::ordering::{empty_lists, give};
@@ -157,14 +158,14 @@ fn deal_chunks<R: Threads + Sync, A: Allocator + Copy + Send + Sync>(
     ensures { IfOk result (λ chunks. AllZip
         (λ chunk found. IfOk found (λ made. IsChunk day.now.payloads workers chunk made.seen.items
         (map (λ list. list.items) made.own.items) made.fixed.items made.event))
-        (range_with_len 0 16) chunks.items) }
+        (range_with_len 0 CHUNKS) chunks.items) }
 {
     (0..CHUNKS)
         .into_par_iter()
         .with_min_len(1)
         .map(
             |chunk: u32| -> Result<Stretch<A>, AllocError>
-                requires { chunk < 16 }
+                requires { chunk < CHUNKS }
                 ensures { IfOk result (λ made. IsChunk day.entry.now.payloads workers chunk made.seen.items
                     (map (λ list. list.items) made.own.items) made.fixed.items made.event) }
             {
@@ -181,7 +182,7 @@ fn deal_chunks<R: Threads + Sync, A: Allocator + Copy + Send + Sync>(
         .collect(rt, alloc)
 }
 
-/// Deals all messages of a day. An error says that memory was refused.
+/// Deals all messages of a day.
 pub(crate) fn deal<R: Threads + Sync, A: Allocator + Copy + Send + Sync>(
     rt: &R,
     alloc: A,

@@ -41,7 +41,7 @@ pub use ordering::{by_worker, in_order};
 pub use parts::Parts;
 pub use playing::{Event, Seen, play};
 pub use replaying::replay_parts;
-pub use runner::{Runner, Turned};
+pub use runner::{AHEAD, Runner, Turned};
 pub use seeing::locates;
 pub use splitting::{SplitFault, parts_of, split};
 pub use turns::Turns;

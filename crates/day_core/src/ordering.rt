@@ -54,8 +54,8 @@ pub fn by_worker<T: Drop, A: Allocator + Copy>(
     let workers = parts.workers();
     let locates = parts.locates();
     let mut lists = empty_lists(alloc, workers)?;
-    for (place, value) in values.into_iter().enumerate() {
-        give(&mut lists, u32::from(locates[place]) % workers, value)?;
+    for (index, value) in values.into_iter().enumerate() {
+        give(&mut lists, u32::from(locates[index]) % workers, value)?;
     }
     Ok(lists)
 }

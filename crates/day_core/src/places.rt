@@ -33,14 +33,14 @@ fn zeros<A: Allocator + Copy>(alloc: A, len: usize) -> Result<Vec<u16, A>, Alloc
 }
 
 impl<A: Allocator + Copy> Places<A> {
-    /// The places of these codes. An error says that memory was refused.
+    /// The places of these codes.
     pub fn new(alloc: A, locates: Vec<u16, A>) -> Result<Places<A>, AllocError>
         requires { IsStrictlyIncreasing locates.items }
         ensures { IfOk result (λ places. places ≡ locates.items) }
     {
         let mut table = zeros(alloc, 0x1_0000)?;
-        for (place, locate) in locates.iter().enumerate() {
-            table[usize::from(*locate)] = place as u16;
+        for (index, locate) in locates.iter().enumerate() {
+            table[usize::from(*locate)] = index as u16;
         }
         Ok(Places { locates, table })
     }
@@ -48,13 +48,13 @@ impl<A: Allocator + Copy> Places<A> {
 
 impl<A: Allocator> Places<A> {
     /// Where a locate code stands in the list; none where it isn't in it.
-    pub fn place_of(&self, locate: u16) -> Option<usize>
+    pub fn index_of(&self, locate: u16) -> Option<usize>
         ensures { MatchOption result (¬ Contains self.now locate)
-            (λ place. (place < length self.now) × (slice_index self.now place ≡ locate)) }
+            (λ index. (index < length self.now) × (slice_index self.now index ≡ locate)) }
     {
-        let place = usize::from(self.table[usize::from(locate)]);
-        if place < self.locates.len() && self.locates[place] == locate {
-            Some(place)
+        let index = usize::from(self.table[usize::from(locate)]);
+        if index < self.locates.len() && self.locates[index] == locate {
+            Some(index)
         } else {
             None
         }

@@ -1,9 +1,9 @@
 //! One worker without threads.
-ghost use Rattle.std.specs.Prelude.{◌≡◌, ◌<◌, ◌≤◌, ℕ, true, All, IfOk, IfSome, MatchOption, OnErr, length, map, slice_get, slice_index};
+ghost use Rattle.std.specs.Prelude.{◌≡◌, ◌<◌, All, IfOk, IfSome, MatchOption, OnErr, length, map, slice_get, slice_index};
 ghost use Rattle.std.specs.List.{Contains};
 ghost use Rattle.binaryfile.specs.Index.{IsPlace};
-ghost use Rattle.day_core.specs.Owners.{is_own, own_locates, part_at};
-ghost use Rattle.day_core.specs.Workers.{IsFound, MayGrowNext, TakesTurn, first_state, machine_at, new_machine, worker_locates, worker_messages};
+ghost use Rattle.day_core.specs.Owners.{own_locates};
+ghost use Rattle.day_core.specs.Workers.{IsFound, IsOwnMessage, MayGrowNext, TakesTurn, first_state, machine_at, new_machine, worker_locates, worker_messages};
 
 use crate::merging::Piece;
 use crate::parts::Parts;
@@ -20,18 +20,18 @@ pub struct Turned {
     /// The message, with what became of it.
     pub piece: Piece,
     /// Which of the worker's stocks it is of, counted from 0 by rising locate code.
-    pub place: usize,
+    pub index: usize,
 }
 
-// How many messages a worker finds ahead of their turns at once.
-const AHEAD: usize = 16;
+/// How many messages a worker finds ahead of their turns at once, at most.
+pub const AHEAD: usize = 16;
 
 // A worker's message that was found: its payload, and which of the worker's stocks it is of.
 #[derive(Clone, Copy)]
 struct FoundMessage<'d> {
     message: u32,
     payload: &'d [u8],
-    place: usize,
+    index: usize,
 }
 
 /// One worker of a day that is split: the machines of its stocks, and how many of its messages it has done. It borrows
@@ -64,7 +64,7 @@ impl<'p, A: Allocator> Model for Runner<'p, A> {
 
     ghost invariant = { λ r. IsRunner (state_in r.parts.now r.worker r.done) r.places r.stocks.items
         × IsPlace r.parts.now.day r.near
-        × All (λ f. IsFound r.parts.now.day r.places f.message f.payload.now f.place) r.ahead.items };
+        × All (λ f. IsFound r.parts.now.day r.places f.message f.payload.now f.index) r.ahead.items };
 }
 
 // The locate codes of a worker's stocks.
@@ -107,24 +107,21 @@ fn find_message<'d, A: Allocator>(
     places: &Places<A>,
     message: u32,
 ) -> FoundMessage<'d>
-    requires first { 1 ≤ message }
-    requires last { message ≤ length day.now.payloads }
-    requires own { (workers worker : ℕ) × (places.now ≡ own_locates workers worker day.now.payloads)
-        × (is_own workers worker (part_at day.now.payloads message) ≡ true) }
+    requires own { IsOwnMessage day.now.payloads places.now message }
     requires near { IsPlace day.now.payloads near.old }
     ensures near { IsPlace day.now.payloads near.new }
     ensures message { result.message ≡ message }
-    ensures found { IsFound day.now.payloads places.now message result.payload.now result.place }
+    ensures found { IsFound day.now.payloads places.now message result.payload.now result.index }
 {
     let payload = day.payload_near(near, message);
     let Part::Locate(locate) = part(payload) else {
         unreachable!()
     };
-    let place = places.place_of(locate).unwrap();
+    let index = places.index_of(locate).unwrap();
     FoundMessage {
         message,
         payload,
-        place,
+        index,
     }
 }
 
@@ -137,15 +134,13 @@ fn next_message<'d, A: Allocator>(
     index: usize,
     message: u32,
 ) -> FoundMessage<'d>
-    requires first { 1 ≤ message }
-    requires last { message ≤ length day.now.payloads }
-    requires own { (workers worker : ℕ) × (places.now ≡ own_locates workers worker day.now.payloads)
-        × (is_own workers worker (part_at day.now.payloads message) ≡ true) }
+    requires own { IsOwnMessage day.now.payloads places.now message }
     requires near { IsPlace day.now.payloads near.old }
-    requires ahead { All (λ f. IsFound day.now.payloads places.now f.message f.payload.now f.place) ahead.now }
+    requires ahead { All (λ f. IsFound day.now.payloads places.now f.message f.payload.now f.index)
+        ahead.now }
     ensures near { IsPlace day.now.payloads near.new }
     ensures message { result.message ≡ message }
-    ensures found { IsFound day.now.payloads places.now message result.payload.now result.place }
+    ensures found { IsFound day.now.payloads places.now message result.payload.now result.index }
 {
     match ahead.get(index) {
         Some(found) if found.message == message => *found,
@@ -179,7 +174,7 @@ impl<'p, A: Allocator + Copy> Runner<'p, A> {
     ///
     /// An error comes only where a message is left that would be applied and may need a new order or trade. It leaves
     /// the worker as it was, so that its next turn tries the same message. The stock's best bid and ask after the
-    /// message are those of its machine: `stock_at(turned.place)`.
+    /// message are those of its machine: `stock_at(turned.index)`.
     pub fn turn(&mut self) -> Result<Option<Turned>, AllocError>
         ensures turned { IfOk result (TakesTurn self.old self.new) }
         ensures err { OnErr result (self.new ≡ self.old) }
@@ -199,18 +194,18 @@ impl<'p, A: Allocator + Copy> Runner<'p, A> {
             self.turns_since,
             message,
         );
-        let outcome = self.stocks[found.place].step(found.payload)?;
+        let outcome = self.stocks[found.index].step(found.payload)?;
         self.done += 1;
         self.turns_since = self.turns_since.saturating_add(1);
         Ok(Some(Turned {
             piece: Piece { message, outcome },
-            place: found.place,
+            index: found.index,
         }))
     }
 }
 
 impl<'p, A: Allocator + Copy> Runner<'p, A> {
-    /// Finds the worker's next messages, of which it takes 16 at most, so that their turns find them at hand. No
+    /// Finds the worker's next messages, of which it takes [`AHEAD`] at most, so that their turns find them at hand. No
     /// contract says what was found: a turn looks for its message where it isn't there.
     pub fn look_ahead(&mut self)
         ensures { self.new ≡ self.old }
@@ -235,7 +230,7 @@ impl<'p, A: Allocator + Copy> Runner<'p, A> {
         requires { IsPlace self.now.day near.old }
         ensures near { IsPlace self.now.day near.new }
         ensures found { IfSome result (λ f. IsFound self.now.day (worker_locates self.now) f.message
-            f.payload.now f.place) }
+            f.payload.now f.index) }
     {
         let index = self.done.saturating_add(after);
         let own = self.parts.own(self.worker);
@@ -249,10 +244,10 @@ impl<'p, A: Allocator + Copy> Runner<'p, A> {
     /// Which of the worker's stocks the message is of that was found ahead at this index, in the order of the messages;
     /// none where fewer were found.
     pub fn stock_ahead(&self, index: usize) -> Option<usize>
-        ensures { IfSome result (λ place. place < length (worker_locates self.now)) }
+        ensures { IfSome result (λ index. index < length (worker_locates self.now)) }
     {
         let found = self.ahead.get(index)?;
-        Some(found.place)
+        Some(found.index)
     }
 
     /// Reads what the messages that were found ahead are likely to need of their stocks' machines, so that the
@@ -261,7 +256,7 @@ impl<'p, A: Allocator + Copy> Runner<'p, A> {
     pub fn touch_ahead(&self) -> u64 {
         let mut sum: u64 = 0;
         for found in &self.ahead {
-            sum = sum.wrapping_add(self.stocks[found.place].touch(found.payload));
+            sum = sum.wrapping_add(self.stocks[found.index].touch(found.payload));
         }
         sum
     }
@@ -270,7 +265,7 @@ impl<'p, A: Allocator + Copy> Runner<'p, A> {
     pub fn touch_rows_ahead(&self) -> u64 {
         let mut sum: u64 = 0;
         for found in &self.ahead {
-            sum = sum.wrapping_add(self.stocks[found.place].touch_rows(found.payload));
+            sum = sum.wrapping_add(self.stocks[found.index].touch_rows(found.payload));
         }
         sum
     }
@@ -307,20 +302,20 @@ impl<'p, A: Allocator> Runner<'p, A> {
 
     /// The machine of one of the worker's stocks, by its index among them. The caller passes an index below the number
     /// of its stocks.
-    pub fn stock_at(&self, place: usize) -> &Stock<A>
-        requires { place < length (worker_locates self.now) }
-        ensures { result.now ≡ machine_at self.now (slice_index (worker_locates self.now) place) }
+    pub fn stock_at(&self, index: usize) -> &Stock<A>
+        requires { index < length (worker_locates self.now) }
+        ensures { result.now ≡ machine_at self.now (slice_index (worker_locates self.now) index) }
     {
-        &self.stocks[place]
+        &self.stocks[index]
     }
 
     /// The index of a stock among the worker's; none where it isn't one of them.
-    pub fn place_of(&self, locate: u16) -> Option<usize>
-        ensures { MatchOption result (¬ Contains (worker_locates self.now) locate) (λ place.
-            (place < length (worker_locates self.now))
-            × (slice_index (worker_locates self.now) place ≡ locate)) }
+    pub fn index_of(&self, locate: u16) -> Option<usize>
+        ensures { MatchOption result (¬ Contains (worker_locates self.now) locate) (λ index.
+            (index < length (worker_locates self.now))
+            × (slice_index (worker_locates self.now) index ≡ locate)) }
     {
-        self.places.place_of(locate)
+        self.places.index_of(locate)
     }
 
     /// The machines of the worker's stocks, by rising locate code.

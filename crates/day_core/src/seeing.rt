@@ -28,9 +28,9 @@ pub(crate) fn mark<A: Allocator + Copy>(seen: &mut Vec<bool, A>, more: &[bool])
     ensures both { (k : ℕ) → k < length more.now → slice_index_or seen.new.items k false
         ≡ (slice_index_or seen.old.items k false || slice_index_or more.now k false) }
 {
-    for (place, also) in more.iter().enumerate() {
+    for (index, also) in more.iter().enumerate() {
         if *also {
-            seen[place] = true;
+            seen[index] = true;
         }
     }
 }

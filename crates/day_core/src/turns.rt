@@ -69,11 +69,11 @@ impl<'d, A: Allocator + Copy> Turns<'d, A> {
         ensures err { OnErr result (self.new ≡ self.old) }
         ensures grows { OnErr result (MayGrowAt self.old worker) }
     {
-        let place = worker as usize;
-        if place >= self.workers.len() {
+        let index = worker as usize;
+        if index >= self.workers.len() {
             return Ok(None);
         }
-        let Some(turned) = self.workers[place].turn()? else {
+        let Some(turned) = self.workers[index].turn()? else {
             return Ok(None);
         };
         Ok(Some(turned.piece))

@@ -30,7 +30,7 @@ impl<'p, A: Allocator> Model for WorkerCells<'p, A> {
 }
 
 impl<'p, A: Allocator + Copy> WorkerCells<'p, A> {
-    /// A worker that has done nothing yet. An error says that memory was refused.
+    /// A worker that has done nothing yet.
     pub fn new(
         alloc: A,
         parts: &'p Parts<'p, A>,
@@ -44,8 +44,7 @@ impl<'p, A: Allocator + Copy> WorkerCells<'p, A> {
     }
 
     /// Does the worker's next message, sets the cell of its stock, and returns what became of it; none, with nothing
-    /// changed, exactly where the worker has done all of them. An error says that memory was refused, and leaves all
-    /// as it was.
+    /// changed, exactly where the worker has done all of them. An error leaves all as it was.
     pub fn turn(&mut self) -> Result<Option<Turned>, AllocError>
         ensures turned { IfOk result (TakesTurn self.old self.new) }
         ensures err { OnErr result (self.new ≡ self.old) }
@@ -54,8 +53,8 @@ impl<'p, A: Allocator + Copy> WorkerCells<'p, A> {
         let Some(turned) = self.runner.turn()? else {
             return Ok(None);
         };
-        let best = self.runner.stock_at(turned.place).top();
-        self.cells[turned.place] = best.to_words(turned.piece.message);
+        let best = self.runner.stock_at(turned.index).top();
+        self.cells[turned.index] = best.to_words(turned.piece.message);
         Ok(Some(turned))
     }
 
@@ -64,8 +63,8 @@ impl<'p, A: Allocator + Copy> WorkerCells<'p, A> {
         requires { locate % self.now.workers ≡ self.now.worker }
         ensures { result ≡ shown self.now.day self.now.workers locate self.now.done }
     {
-        match self.runner.place_of(locate) {
-            Some(place) => self.cells[place],
+        match self.runner.index_of(locate) {
+            Some(index) => self.cells[index],
             None => [0; 4],
         }
     }
@@ -75,8 +74,8 @@ impl<'p, A: Allocator + Copy> WorkerCells<'p, A> {
         ensures { MatchOption result (¬ Contains (worker_locates self.now) locate)
             (λ stock. stock.now ≡ machine_at self.now locate) }
     {
-        match self.runner.place_of(locate) {
-            Some(place) => Some(self.runner.stock_at(place)),
+        match self.runner.index_of(locate) {
+            Some(index) => Some(self.runner.stock_at(index)),
             None => None,
         }
     }

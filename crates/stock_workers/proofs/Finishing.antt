@@ -24,7 +24,7 @@ pub record IsUnderWay (first now : Working) (outs : List Outcome) : Type 0 where
 
 pub under_way_more : (first now after : Working) (piece : Piece) (outs more : List Outcome) → IsUnderWay first now outs → PublishesTurn now after (Some piece) → more ≡ outs ++ piece.outcome ∷ [] → IsUnderWay first after more
 under_way_more first now after piece outs more under turn pushed = record {
-  way = does_more first.state now.state after.state (record { piece = piece; place = turn.0 }) outs more under.way turn.1 pushed;
+  way = does_more first.state now.state after.state (record { piece = piece; index = turn.0 }) outs more under.way turn.1 pushed;
   same_places = turn.2 ∙ under.same_places;
 }
 

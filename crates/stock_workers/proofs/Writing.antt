@@ -39,15 +39,15 @@ stands_at s writers place w locate stand listed code is =
     ∙ ap (stands s) code
 
 -- one message later
-module _ (s : WorkerState) (t : Turned) (turned : IsTurned s t) (writers : List WriterAt) (old : WriterAt) (stand : WritersStand s writers) (is : old ≡ get_or writers t.place old) where
+module _ (s : WorkerState) (t : Turned) (turned : IsTurned s t) (writers : List WriterAt) (old : WriterAt) (stand : WritersStand s writers) (is : old ≡ get_or writers t.index old) where
   abbrev n : ℕ
   n = t.piece.message
 
   abbrev locate : ℕ
-  locate = get_or (worker_locates s) t.place 0
+  locate = get_or (worker_locates s) t.index 0
 
   here : writer_state old ≡ stands s locate
-  here = stands_at s writers t.place old locate stand turned.within refl is
+  here = stands_at s writers t.index old locate stand turned.within refl is
 
   same_day : old.place.day ≡ s.day
   same_day = ap (λ (w : WriterState). w.day) here
@@ -59,9 +59,9 @@ module _ (s : WorkerState) (t : Turned) (turned : IsTurned s t) (writers : List 
   next = ap (λ (p : Piece). p.message) turned.piece
 
   far : progress s.day s.workers locate (s.done + 1) ≡ n
-  far = progress_here s n t.place turned.more next turned.within turned.stock
+  far = progress_here s n t.index turned.more next turned.within turned.stock
 
-  pub room : t.place < length writers
+  pub room : t.index < length writers
   room =
       let long : length writers ≡ length (worker_locates s) = sym (length-map writers writer_state) ∙ ap length stand ∙ length-map (worker_locates s) (stands s) in
       omega (arith, turned.within, long)
@@ -76,28 +76,28 @@ module _ (s : WorkerState) (t : Turned) (turned : IsTurned s t) (writers : List 
       let within = (own_within s.workers s.worker s.day s.done 0 turned.more).1 in
       omega (arith, next, within, ap length same_day)
 
-  pub top_there : (after : WorkerState) (m : StockMachine) (best : Top) → after ≡ record s { done = s.done + 1 } → m ≡ machine_at after (get_or (worker_locates after) t.place 0) → best ≡ top (orders_of m.world m.locate)
+  pub top_there : (after : WorkerState) (m : StockMachine) (best : Top) → after ≡ record s { done = s.done + 1 } → m ≡ machine_at after (get_or (worker_locates after) t.index 0) → best ≡ top (orders_of m.world m.locate)
       → best ≡ top_after old.place.day old.place.locate n
   top_there after m best moved stock shown =
       let stepped : m ≡ machine_of s.day locate n =
-      stock ∙ ap (λ (z : WorkerState). machine_at z (get_or (worker_locates z) t.place 0)) moved ∙ ap (machine_of s.day locate) far
+      stock ∙ ap (λ (z : WorkerState). machine_at z (get_or (worker_locates z) t.index 0)) moved ∙ ap (machine_of s.day locate) far
       in
       shown ∙ top_is s.day locate n m stepped
       ∙ ap₂ (λ (d : List (List ℕ)) (l : ℕ). top_after d l n) (sym same_day) (sym same_stock)
 
-  pub stand_turned : (after : WorkerState) (w : WriterAt) → after ≡ record s { done = s.done + 1 } → w ≡ record old { message = n } → WritersStand after (set writers t.place w)
+  pub stand_turned : (after : WorkerState) (w : WriterAt) → after ≡ record s { done = s.done + 1 } → w ≡ record old { message = n } → WritersStand after (set writers t.index w)
   stand_turned after w moved published =
       let state : writer_state w ≡ stock_at s locate n =
       ap writer_state published
       ∙ ap₂ (λ (d : List (List ℕ)) (l : ℕ). let z : WriterState = record { day = d; locate = l; message = n } in z) same_day same_stock
       in
-      subst (λ (z : WorkerState). WritersStand z (set writers t.place w)) (sym moved)
-      (map-set writer_state writers t.place w
-      ∙ values_after s n t.place turned.more next turned.within turned.stock (stock_at s) (map writer_state writers) (writer_state w) stand state)
+      subst (λ (z : WorkerState). WritersStand z (set writers t.index w)) (sym moved)
+      (map-set writer_state writers t.index w
+      ∙ values_after s n t.index turned.more next turned.within turned.stock (stock_at s) (map writer_state writers) (writer_state w) stand state)
 
-  pub places_stay : (w : WriterAt) → w ≡ record old { message = n } → map (λ (x : WriterAt). x.place) (set writers t.place w) ≡ map (λ (x : WriterAt). x.place) writers
+  pub places_stay : (w : WriterAt) → w ≡ record old { message = n } → map (λ (x : WriterAt). x.place) (set writers t.index w) ≡ map (λ (x : WriterAt). x.place) writers
   places_stay w published =
-      map-set_same (λ (x : WriterAt). x.place) writers t.place w old (ap (λ (x : WriterAt). x.place) (published ∙ ap (λ (x : WriterAt). let z : WriterAt = record x { message = n } in z) is))
+      map-set_same (λ (x : WriterAt). x.place) writers t.index w old (ap (λ (x : WriterAt). x.place) (published ∙ ap (λ (x : WriterAt). let z : WriterAt = record x { message = n } in z) is))
 
 -- what the turn has done of the message, and left of the worker's other stocks
 pub shows_turn : (old new : WorkerState) (t : Turned) → TakesTurn old new (Some t) → ShowsTurn old new t.piece

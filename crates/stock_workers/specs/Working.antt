@@ -55,5 +55,5 @@ pub record ShowsTurn (old new : WorkerState) (piece : Piece) : Type 0 where
 abbrev pub PublishesTurn : Working → Working → Option Piece → Type 0
 PublishesTurn old new None = TakesTurn old.state new.state None × (new.places ≡ old.places)
 PublishesTurn old new (Some piece) =
-    (place : ℕ) × TakesTurn old.state new.state (Some (record { piece = piece; place = place }))
+    (index : ℕ) × TakesTurn old.state new.state (Some (record { piece = piece; index = index }))
     × (new.places ≡ old.places)

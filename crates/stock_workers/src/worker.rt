@@ -8,7 +8,7 @@ ghost use Rattle.top_cell.specs.Boards.{IsOn};
 ghost use Rattle.stock_workers.specs.Working.{PublishesTurn, ShowsTurn, WritersAt, WritersStand, stands, writer_state};
 
 use crate::gate::Gate;
-use day_core::{Parts, Piece, Runner};
+use day_core::{AHEAD, Parts, Piece, Runner};
 use itch_table::Top;
 use std::alloc::{AllocError, Allocator};
 use std::marker::Model;
@@ -16,9 +16,6 @@ use std::sync::Wait;
 use std::thread::Threads;
 use stock_machine::Stock;
 use top_cell::{Board, TopWriter};
-
-// How many turns a worker takes until it looks ahead again.
-const AHEAD: usize = 16;
 
 // How many stocks a worker has at least to look ahead. Those of fewer stay in the processor's caches by themselves.
 const MANY_STOCKS: usize = 512;
@@ -100,8 +97,8 @@ impl<'p, A: Allocator + Copy> Worker<'p, A> {
         let Some(turned) = self.runner.turn()? else {
             return Ok(None);
         };
-        let best = self.runner.stock_at(turned.place).top();
-        show(&mut self.writers[turned.place], board, turned.piece, best);
+        let best = self.runner.stock_at(turned.index).top();
+        show(&mut self.writers[turned.index], board, turned.piece, best);
         Ok(Some(turned.piece))
     }
 }
@@ -140,10 +137,10 @@ impl<'p, A: Allocator + Copy> Worker<'p, A> {
     {
         let mut sum: u64 = 0;
         for index in 0..AHEAD {
-            if let Some(place) = self.runner.stock_ahead(index)
-                && place < self.writers.len()
+            if let Some(stock) = self.runner.stock_ahead(index)
+                && stock < self.writers.len()
             {
-                sum = sum.wrapping_add(self.writers[place].touch(board));
+                sum = sum.wrapping_add(self.writers[stock].touch(board));
             }
         }
         sum
@@ -157,8 +154,8 @@ impl<'p, A: Allocator> Worker<'p, A> {
         ensures { MatchOption result (¬ Contains (worker_locates self.now.state) locate)
             (λ stock. stock.now ≡ machine_at self.now.state locate) }
     {
-        match self.runner.place_of(locate) {
-            Some(place) => Some(self.runner.stock_at(place)),
+        match self.runner.index_of(locate) {
+            Some(index) => Some(self.runner.stock_at(index)),
             None => None,
         }
     }
@@ -170,8 +167,8 @@ impl<'p, A: Allocator> Worker<'p, A> {
             (λ writer. (writer_state writer.now ≡ stands self.now.state locate)
             × Contains self.now.places writer.now.place) }
     {
-        match self.runner.place_of(locate) {
-            Some(place) => Some(&self.writers[place]),
+        match self.runner.index_of(locate) {
+            Some(index) => Some(&self.writers[index]),
             None => None,
         }
     }

@@ -36,23 +36,11 @@ const BID: Top = Top {
     ask_shares: 0,
 };
 
-// A worker that has done nothing yet.
-fn runner_of<'p, A: Allocator + Copy>(
-    alloc: A,
-    parts: &'p Parts<'p, A>,
-    worker: u32,
-) -> Result<Runner<'p, A>, Fail> {
-    if worker >= parts.workers() {
-        return Err(Fail::new("no such worker"));
-    }
-    Ok(Runner::new(alloc, parts, worker)?)
-}
-
 // What a turn returns.
-fn turned(message: u32, outcome: Outcome, place: usize) -> Option<Turned> {
+fn turned(message: u32, outcome: Outcome, index: usize) -> Option<Turned> {
     Some(Turned {
         piece: Piece { message, outcome },
-        place,
+        index,
     })
 }
 
@@ -87,11 +75,11 @@ fn do_messages<A: Allocator + Copy>(runner: &mut Runner<'_, A>) -> Result<(), Fa
 fn a_worker_does_its_messages_in_order(rt: HostRuntime) -> Result<(), Fail> {
     let day = two_stocks(rt.alloc())?;
     let parts = parts_of(&rt, rt.alloc(), &day, 2)?;
-    let mut runner = runner_of(rt.alloc(), &parts, 1)?;
+    let mut runner = Runner::new(rt.alloc(), &parts, 1)?;
     do_messages(&mut runner)?;
-    let places = (runner.place_of(1), runner.place_of(3));
-    same("its stocks", &places, &(Some(0), Some(1)))?;
-    let others = (runner.place_of(2), runner.place_of(5));
+    let indices = (runner.index_of(1), runner.index_of(3));
+    same("its stocks", &indices, &(Some(0), Some(1)))?;
+    let others = (runner.index_of(2), runner.index_of(5));
     same(
         "a stock of another worker, and one of no message",
         &others,
@@ -165,8 +153,8 @@ fn shown_at<A: Allocator + Copy>(
     runner: &Runner<'_, A>,
     locate: u16,
 ) -> Result<Option<Shown>, Fail> {
-    match runner.place_of(locate) {
-        Some(place) => Ok(Some(shown_by(alloc, runner.stock_at(place))?)),
+    match runner.index_of(locate) {
+        Some(index) => Ok(Some(shown_by(alloc, runner.stock_at(index))?)),
         None => Ok(None),
     }
 }
@@ -278,7 +266,7 @@ fn try_turn<R: Threads + Sync>(
     };
     let day = two_stocks(heap)?;
     let parts = parts_of(rt, heap, &day, 1)?;
-    let mut runner = runner_of(heap, &parts, 0)?;
+    let mut runner = Runner::new(heap, &parts, 0)?;
     turn_under(heap, &mut runner, earlier, *wanted, refusal)
 }
 

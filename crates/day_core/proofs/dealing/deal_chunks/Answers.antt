@@ -3,13 +3,14 @@ use Rattle.rayon.specs.Numbers.{nat_range}
 use Rattle.rayon.proofs.ListFacts.{IfOk-then}
 use Rattle.rayon.proofs.ToStd.{nat_range-All}
 use Rattle.day_core.specs.Stretches.{IsChunk}
+use Rattle.day_core.specs.declared.dealing.TheConstants.{CHUNKS}
 use Rattle.day_core.proofs.Chunks.{found_from}
 use Rattle.day_core.proofs.dealing.deal_chunks.Goals as goal
 
 pub collect-requires-clause-ready : goal.collect-requires-clause-ready
 collect-requires-clause-ready g c κs within =
     let ends = c.into_par_iter.ensures in
-    let inside = nat_range-All (λ i. i < 16) 0 16 (λ i low high. high) in
+    let inside = nat_range-All (λ i. i < CHUNKS) 0 CHUNKS (λ i low high. high) in
     rw (c.map.ensures.base, c.map.ensures.f, c.with_min_len.ensures.base, ends.0, ends.1) (λ k d lt. (inside k d lt, λ y p. tt))
 
 pub returns : goal.returns

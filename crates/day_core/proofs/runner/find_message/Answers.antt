@@ -9,23 +9,23 @@ use Rattle.day_core.proofs.runner.find_message.Goals as goal
 
 pub unreachable-requires : goal.unreachable-requires
 unreachable-requires g c =
-    let own = c.requires.own in
-    let here = payload_is c.args.day.now.payloads c.args.message _ c.requires.first c.requires.last c.payload_near-payload.ensures.payload in
+    let own = c.requires.own.own in
+    let here = payload_is c.args.day.now.payloads c.args.message _ c.requires.own.first c.requires.own.last c.payload_near-payload.ensures.payload in
     false≢true (ap (is_own own.0 own.1) (c.in_default.ensures ∙ ap part here) ∙ own.3)
 
-pub unwrap-place-requires : goal.unwrap-place-requires
-unwrap-place-requires g c =
-    let own = c.requires.own in
+pub unwrap-index-requires : goal.unwrap-index-requires
+unwrap-index-requires g c =
+    let own = c.requires.own.own in
     let day = c.args.day.now.payloads in
-    let here = payload_is day c.args.message _ c.requires.first c.requires.last c.payload_near-payload.ensures.payload in
+    let here = payload_is day c.args.message _ c.requires.own.first c.requires.own.last c.payload_near-payload.ensures.payload in
     let mine = c.in-Locate.ensures ∙ ap part here in
-    let there = code_there own.0 own.1 day c.args.message c.in-Locate.locate (omega arith) (omega arith) (omega arith) (sym mine) (ap (is_own own.0 own.1) mine ∙ own.3) in
-    some_since _ _ _ c.place_of.ensures (λ none. none (subst (λ (ls : List ℕ). Contains ls c.in-Locate.locate) (sym own.2) there))
+    let there = code_there own.0 own.1 day c.args.message c.in-Locate.locate (omega arith) (omega (arith, c.requires.own.first)) (omega (arith, c.requires.own.last)) (sym mine) (ap (is_own own.0 own.1) mine ∙ own.3) in
+    some_since _ _ _ c.index_of.ensures (λ none. none (subst (λ (ls : List ℕ). Contains ls c.in-Locate.locate) (sym own.2) there))
 
 pub returns-clause-found : goal.returns-clause-found
 returns-clause-found g c =
-    let here = payload_is c.args.day.now.payloads c.args.message _ c.requires.first c.requires.last c.payload_near-payload.ensures.payload in
-    let there = rw c.unwrap-place.ensures at c.place_of.ensures in
+    let here = payload_is c.args.day.now.payloads c.args.message _ c.requires.own.first c.requires.own.last c.payload_near-payload.ensures.payload in
+    let there = rw c.unwrap-index.ensures at c.index_of.ensures in
     record {
       within = there.0;
       payload_is = here;

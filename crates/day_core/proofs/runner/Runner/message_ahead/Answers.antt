@@ -5,28 +5,23 @@ use Rattle.day_core.specs.Workers.{WorkerState, state_in}
 use Rattle.day_core.proofs.Running.{own_is_own, own_is_within}
 use Rattle.day_core.proofs.runner.Runner.message_ahead.Goals as goal
 
-pub find_message-requires-clause-first : goal.find_message-requires-clause-first
-find_message-requires-clause-first g c =
-    let state = state_in c.self.inside.parts.now c.self.inside.worker c.self.inside.done in
-    (own_is_within state _ c.own-own.ensures _ c.saturating_add-index.result (omega arith) refl).0
-
-pub find_message-requires-clause-last : goal.find_message-requires-clause-last
-find_message-requires-clause-last g c =
-    let state = state_in c.self.inside.parts.now c.self.inside.worker c.self.inside.done in
-    let within = own_is_within state _ c.own-own.ensures _ c.saturating_add-index.result (omega arith) refl in
-    omega (arith, within, ap length c.day.ensures)
-
 pub find_message-requires-clause-own : goal.find_message-requires-clause-own
 find_message-requires-clause-own g c =
     let inside = c.self.inside in
     let state = state_in inside.parts.now inside.worker inside.done in
     let same = c.day.ensures in
-    let own = own_is_own state _ c.own-own.ensures _ c.saturating_add-index.result (omega arith) refl in (
-      inside.parts.now.workers,
-      inside.worker,
-      c.self.invariant.0.locates_are ∙ ap (own_locates inside.parts.now.workers inside.worker) (sym same),
-      subst (λ (day : List (List ℕ)). is_own inside.parts.now.workers inside.worker (part_at day (get_or c.own-own.result.now c.saturating_add-index.result 0)) ≡ true) (sym same) own,
-    )
+    let within = own_is_within state _ c.own-own.ensures _ c.saturating_add-index.result (omega arith) refl in
+    let own = own_is_own state _ c.own-own.ensures _ c.saturating_add-index.result (omega arith) refl in
+    record {
+      first = within.0;
+      last = omega (arith, within, ap length same);
+      own = (
+        inside.parts.now.workers,
+        inside.worker,
+        c.self.invariant.0.locates_are ∙ ap (own_locates inside.parts.now.workers inside.worker) (sym same),
+        subst (λ (day : List (List ℕ)). is_own inside.parts.now.workers inside.worker (part_at day (get_or c.own-own.result.now c.saturating_add-index.result 0)) ≡ true) (sym same) own,
+      );
+    }
 
 pub find_message-requires-clause-near : goal.find_message-requires-clause-near
 find_message-requires-clause-near g c =

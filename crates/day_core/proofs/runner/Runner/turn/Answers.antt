@@ -7,24 +7,22 @@ use Rattle.day_core.specs.Workers.{IsRunner, IsTurned, MayGrowNext, WorkerState,
 use Rattle.day_core.proofs.Running.{grows, next_own, next_within, on_err, runner_after, step_few, step_own, stock_stepped, turned_is}
 use Rattle.day_core.proofs.runner.Runner.turn.Goals as goal
 
-pub next_message-found-requires-clause-first : goal.next_message-found-requires-clause-first
-next_message-found-requires-clause-first g c = (next_within _ _ _ _ c.own-own.ensures c.self.invariant.0 _ (omega (arith, ap length c.own-own.ensures)) refl).0
-
-pub next_message-found-requires-clause-last : goal.next_message-found-requires-clause-last
-next_message-found-requires-clause-last g c =
-    let within = next_within _ _ _ _ c.own-own.ensures c.self.invariant.0 _ (omega (arith, ap length c.own-own.ensures)) refl in
-    omega (arith, within, ap length c.day-day.ensures)
-
 pub next_message-found-requires-clause-own : goal.next_message-found-requires-clause-own
 next_message-found-requires-clause-own g c =
     let inside = c.self.inside in
     let same = c.day-day.ensures in
-    let own = next_own _ _ _ _ c.own-own.ensures c.self.invariant.0 _ (omega (arith, ap length c.own-own.ensures)) refl in (
-      inside.parts.now.workers,
-      inside.worker,
-      c.self.invariant.0.locates_are ∙ ap (own_locates inside.parts.now.workers inside.worker) (sym same),
-      subst (λ (day : List (List ℕ)). is_own inside.parts.now.workers inside.worker (part_at day (get_or c.own-own.result.now inside.done 0)) ≡ true) (sym same) own,
-    )
+    let within = next_within _ _ _ _ c.own-own.ensures c.self.invariant.0 _ (omega (arith, ap length c.own-own.ensures)) refl in
+    let own = next_own _ _ _ _ c.own-own.ensures c.self.invariant.0 _ (omega (arith, ap length c.own-own.ensures)) refl in
+    record {
+      first = within.0;
+      last = omega (arith, within, ap length same);
+      own = (
+        inside.parts.now.workers,
+        inside.worker,
+        c.self.invariant.0.locates_are ∙ ap (own_locates inside.parts.now.workers inside.worker) (sym same),
+        subst (λ (day : List (List ℕ)). is_own inside.parts.now.workers inside.worker (part_at day (get_or c.own-own.result.now inside.done 0)) ≡ true) (sym same) own,
+      );
+    }
 
 pub next_message-found-requires-clause-near : goal.next_message-found-requires-clause-near
 next_message-found-requires-clause-near g c =
@@ -53,7 +51,7 @@ step-requires-clause-few g c =
 pub invariant_of-self : goal.invariant_of-self
 invariant_of-self g c =
     let inside = c.self.inside in
-    let place = c.next_message-found.result.place in
+    let place = c.next_message-found.result.index in
     let same : set inside.stocks.items place c.step.new.self ≡ inside.stocks.items =
     ap (set inside.stocks.items place) (c.in_err-outcome.ensures.err ∙ c.index_mut.ensures.value) ∙ set-get_or inside.stocks.items place c.index_mut.result.now in
     (subst (λ (stocks : List StockMachine). IsRunner (state_in inside.parts.now inside.worker inside.done) inside.places stocks) (sym same) c.self.invariant.0, subst (λ (day : List (List ℕ)). IsPlace day c.next_message-found.new.near) c.day-day.ensures c.next_message-found.ensures.near, c.self.invariant.2)
@@ -73,7 +71,7 @@ returns-clause-turned g c =
     let left = c.in_ok-outcome.ensures in
     let stepped = stock_stepped _ _ _ _ c.own-own.ensures c.self.invariant.0 _ (omega (arith, ap length c.own-own.ensures)) refl _ same _ c.index_mut.result.now found.within found.stock_is c.index_mut.ensures.value c.step.new.self c.in_ok-outcome.outcome _ found.payload_is c.step.ensures.locate left.steps left.ok in
     let turned = turned_is _ _ _ _ c.own-own.ensures c.self.invariant.0 _ (omega (arith, ap length c.own-own.ensures)) refl _ same _ c.index_mut.result.now found.within found.stock_is c.index_mut.ensures.value c.in_ok-outcome.outcome stepped.1 in (
-      subst (λ (s : WorkerState). IsTurned s (record { piece = record { message = get_or c.own-own.result.now c.self.inside.done 0; outcome = c.in_ok-outcome.outcome }; place = c.next_message-found.result.place })) c.self.view_is turned,
+      subst (λ (s : WorkerState). IsTurned s (record { piece = record { message = get_or c.own-own.result.now c.self.inside.done 0; outcome = c.in_ok-outcome.outcome }; index = c.next_message-found.result.index })) c.self.view_is turned,
       ap (λ (s : WorkerState). let next : WorkerState = record s { done = s.done + 1 } in next) c.self.view_is,
     )
 

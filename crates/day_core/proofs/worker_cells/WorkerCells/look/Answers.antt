@@ -7,7 +7,7 @@ use Rattle.day_core.proofs.worker_cells.WorkerCells.look.Goals as goal
 pub returns-in-Some : goal.returns-in-Some
 returns-in-Some g c =
     let found = c.in-Some.ensures in
-    looks_there c.self.inside.runner c.self.inside.cells.items c.args.locate c.in-Some.place c.index.result.now c.index.result.now c.self.invariant found.0 found.1 c.index.ensures
+    looks_there c.self.inside.runner c.self.inside.cells.items c.args.locate c.in-Some.index c.index.result.now c.index.result.now c.self.invariant found.0 found.1 c.index.ensures
     ∙ ap (λ (s : WorkerState). shown s.day s.workers c.args.locate s.done) c.self.view_is
 
 pub returns-in-None : goal.returns-in-None

@@ -10,7 +10,7 @@ pub show-requires-clause-own : goal.show-requires-clause-own
 show-requires-clause-own g c =
     let turned = rw c.in-Some-2.is at c.in_ok-turned.ensures.turned in
     let writers = c.self.inside.writers.items in
-    let at = c.in-Some-2.turned.place in
+    let at = c.in-Some-2.turned.index in
     let here = c.index_mut.result.now in
     let on = subst (λ (w : Working). All (IsOn c.args.board.now) w.places) (sym c.self.view_is) c.requires in
     let inside = room c.self.inside.runner c.in-Some-2.turned turned.0 writers here c.self.invariant c.index_mut.ensures.value in
@@ -44,7 +44,7 @@ returns-clause-turned g c =
     let turned = rw c.in-Some-2.is at c.in_ok-turned.ensures.turned in
     let state = ap (λ (w : Working). w.state) c.self.view_is in
     let stay = places_stay c.self.inside.runner c.in-Some-2.turned turned.0 c.self.inside.writers.items c.index_mut.result.now c.self.invariant c.index_mut.ensures.value c.show.new.writer c.show.ensures in (
-      c.in-Some-2.turned.place,
+      c.in-Some-2.turned.index,
       subst (λ (s : WorkerState). TakesTurn s c.turn.new.self (Some c.in-Some-2.turned)) state turned,
       stay ∙ ap (λ (w : Working). w.places) c.self.view_is,
     )

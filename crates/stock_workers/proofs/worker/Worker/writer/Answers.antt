@@ -23,8 +23,8 @@ returns-in-Some g c =
     let long : length writers ≡ length (worker_locates runner) =
     sym (length-map writers writer_state) ∙ ap length c.self.invariant ∙ length-map (worker_locates runner) (stands runner)
     in (
-      stands_at runner writers c.in-Some.place c.index.result.now c.args.locate c.self.invariant found.0 found.1 c.index.ensures
+      stands_at runner writers c.in-Some.index c.index.result.now c.args.locate c.self.invariant found.0 found.1 c.index.ensures
           ∙ ap (λ (w : Working). stands w.state c.args.locate) c.self.view_is,
       subst (λ (w : Working). Contains w.places c.index.result.now.place) c.self.view_is
-          (listed writers c.in-Some.place c.index.result.now (omega (arith, found.0, long)) c.index.ensures),
+          (listed writers c.in-Some.index c.index.result.now (omega (arith, found.0, long)) c.index.ensures),
     )
