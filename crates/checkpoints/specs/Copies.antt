@@ -2,12 +2,14 @@
 -- project.
 use Rattle.std.specs.Prelude.{◌≡◌, ◌<◌, ◌+◌, ◌*◌, ◌/◌, [], ℕ, List, length, map, slice_index_or, take}
 use Rattle.std.specs.List.{range_with_len}
-use Rattle.day_core.specs.Owners.{last_or, machine_of, of_stock}
+use Rattle.itch_table.specs.Projection.{is_of_stock}
+use Rattle.day_core.specs.Owners.{last_or, machine_of}
+use Rattle.checkpoints.specs.Filtering.{numbers_where}
 use Rattle.stock_machine.specs.StockRows.{StockMachine}
 
 -- the numbers of a stock's messages in a day, rising
 unfoldable pub numbers_of : List (List ℕ) → ℕ → List ℕ
-numbers_of day locate = of_stock day locate (range_with_len 1 (length day))
+numbers_of day locate = numbers_where day (is_of_stock locate)
 
 -- a stock's machine after the first count of its own messages
 unfoldable pub machine_after_own : List (List ℕ) → ℕ → ℕ → StockMachine

@@ -36,9 +36,9 @@ impl<'d, A: Allocator> Model for Breakpoints<'d, A> {
 }
 
 // The index of a breakpoint.
-fn place_of(breaks: &[Break], breakpoint: &Break) -> Option<usize>
-    ensures found { IfSome result (λ place. slice_get breaks.now place ≡ Some breakpoint.now) }
-    ensures first { IfSome result (λ place. (earlier : ℕ) → earlier < place →
+fn index_of(breaks: &[Break], breakpoint: &Break) -> Option<usize>
+    ensures found { IfSome result (λ index. slice_get breaks.now index ≡ Some breakpoint.now) }
+    ensures first { IfSome result (λ index. (earlier : ℕ) → earlier < index →
         slice_get breaks.now earlier ≢ Some breakpoint.now) }
     ensures there { IfSome result (λ _. Contains breaks.now breakpoint.now) }
     ensures none { IfNone result (¬ Contains breaks.now breakpoint.now) }
@@ -99,9 +99,9 @@ fn first_hit<A: Allocator>(
     requires within { at ≤ length day.now.payloads }
     ensures { result ≡ hit breaks.now day.now.payloads at }
 {
-    for (place, list) in stops.iter().enumerate() {
+    for (index, list) in stops.iter().enumerate() {
         if latest_until(list, at) == Some(at) {
-            return Some(place);
+            return Some(index);
         }
     }
     None
@@ -122,8 +122,8 @@ impl<'d, A: Allocator + Copy> Breakpoints<'d, A> {
     // Adds a breakpoint that isn't there as the last, and returns its index.
     fn add_new(&mut self, alloc: A, breakpoint: Break) -> Result<usize, AllocError>
         requires { ¬ Contains self.old.breaks breakpoint }
-        ensures place { IfOk result (λ place. slice_get self.new.breaks place ≡ Some breakpoint) }
-        ensures first { IfOk result (λ place. (earlier : ℕ) → earlier < place →
+        ensures index { IfOk result (λ index. slice_get self.new.breaks index ≡ Some breakpoint) }
+        ensures first { IfOk result (λ index. (earlier : ℕ) → earlier < index →
             slice_get self.new.breaks earlier ≢ Some breakpoint) }
         ensures added { OnOk result (self.new.breaks ≡ self.old.breaks ++ breakpoint ∷ []) }
         ensures day { self.new.day ≡ self.old.day }
@@ -131,16 +131,16 @@ impl<'d, A: Allocator + Copy> Breakpoints<'d, A> {
     {
         let list = stops_of(alloc, self.day, &breakpoint)?;
         self.stops.reserve(1)?;
-        let (place, _) = self.breaks.insert_full(breakpoint)?;
+        let (index, _) = self.breaks.insert_full(breakpoint)?;
         self.stops.push(list).unwrap();
-        Ok(place)
+        Ok(index)
     }
 
     /// Adds a breakpoint as the last, and returns its index; one that is there keeps its index. An error says that
     /// memory was refused, and leaves all as it was.
     pub fn add(&mut self, alloc: A, breakpoint: Break) -> Result<usize, AllocError>
-        ensures place { IfOk result (λ place. slice_get self.new.breaks place ≡ Some breakpoint) }
-        ensures first { IfOk result (λ place. (earlier : ℕ) → earlier < place →
+        ensures index { IfOk result (λ index. slice_get self.new.breaks index ≡ Some breakpoint) }
+        ensures first { IfOk result (λ index. (earlier : ℕ) → earlier < index →
             slice_get self.new.breaks earlier ≢ Some breakpoint) }
         ensures there { OnOk result (Contains self.old.breaks breakpoint → self.new ≡ self.old) }
         ensures new { OnOk result (¬ Contains self.old.breaks breakpoint →
@@ -148,8 +148,8 @@ impl<'d, A: Allocator + Copy> Breakpoints<'d, A> {
         ensures day { self.new.day ≡ self.old.day }
         ensures err { OnErr result (self.new ≡ self.old) }
     {
-        match place_of(self.breaks.as_slice(), &breakpoint) {
-            Some(place) => Ok(place),
+        match index_of(self.breaks.as_slice(), &breakpoint) {
+            Some(index) => Ok(index),
             None => self.add_new(alloc, breakpoint),
         }
     }
@@ -164,24 +164,24 @@ impl<'d, A: Allocator> Breakpoints<'d, A> {
     }
 
     /// The breakpoint at an index, counted from 0.
-    pub fn at(&self, place: usize) -> Option<Break>
-        ensures { result ≡ slice_get self.now.breaks place }
+    pub fn at(&self, index: usize) -> Option<Break>
+        ensures { result ≡ slice_get self.now.breaks index }
     {
-        self.breaks.get_index(place).copied()
+        self.breaks.get_index(index).copied()
     }
 
     /// Removes the breakpoint at an index, and returns it. Those after it close up.
-    pub fn remove(&mut self, place: usize) -> Option<Break>
-        ensures removed { result ≡ slice_get self.old.breaks place }
+    pub fn remove(&mut self, index: usize) -> Option<Break>
+        ensures removed { result ≡ slice_get self.old.breaks index }
         ensures none { IfNone result (self.new ≡ self.old) }
-        ensures left { IfSome result (λ _. self.new.breaks ≡ remove self.old.breaks place) }
+        ensures left { IfSome result (λ _. self.new.breaks ≡ remove self.old.breaks index) }
         ensures day { self.new.day ≡ self.old.day }
     {
-        if place >= self.stops.len() {
+        if index >= self.stops.len() {
             return None;
         }
-        self.stops.remove(place);
-        self.breaks.shift_remove_index(place)
+        self.stops.remove(index);
+        self.breaks.shift_remove_index(index)
     }
 
     /// The least message after `from` at which a breakpoint stops, or where there is none the last one. The caller

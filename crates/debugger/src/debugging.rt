@@ -204,8 +204,8 @@ impl<'d, A: Allocator + Copy> Debugger<'d, A> {
     /// It goes over the day once and keeps four bytes for each message at which the breakpoint stops, so that moves
     /// look for a stop by halves.
     pub fn add_break(&mut self, alloc: A, breakpoint: Break) -> Result<usize, AllocError>
-        ensures place { IfOk result (λ place. slice_get self.new.breaks place ≡ Some breakpoint) }
-        ensures first { IfOk result (λ place. (earlier : ℕ) → earlier < place →
+        ensures index { IfOk result (λ index. slice_get self.new.breaks index ≡ Some breakpoint) }
+        ensures first { IfOk result (λ index. (earlier : ℕ) → earlier < index →
             slice_get self.new.breaks earlier ≢ Some breakpoint) }
         ensures there { OnOk result (Contains self.old.breaks breakpoint → self.new ≡ self.old) }
         ensures new { OnOk result (¬ Contains self.old.breaks breakpoint →
@@ -262,19 +262,19 @@ impl<'d, A: Allocator> Debugger<'d, A> {
     }
 
     /// The breakpoint at an index, counted from 0.
-    pub fn break_at(&self, place: usize) -> Option<Break>
-        ensures { result ≡ slice_get self.now.breaks place }
+    pub fn break_at(&self, index: usize) -> Option<Break>
+        ensures { result ≡ slice_get self.now.breaks index }
     {
-        self.breakpoints.at(place)
+        self.breakpoints.at(index)
     }
 
     /// Removes the breakpoint at an index, and returns it; none, with nothing changed, where there is none. Those
     /// after it close up.
-    pub fn remove_break(&mut self, place: usize) -> Option<Break>
-        ensures removed { result ≡ slice_get self.old.breaks place }
+    pub fn remove_break(&mut self, index: usize) -> Option<Break>
+        ensures removed { result ≡ slice_get self.old.breaks index }
         ensures none { IfNone result (self.new ≡ self.old) }
-        ensures left { IfSome result (λ _. self.new ≡ without_break self.old place) }
+        ensures left { IfSome result (λ _. self.new ≡ without_break self.old index) }
     {
-        self.breakpoints.remove(place)
+        self.breakpoints.remove(index)
     }
 }

@@ -18,7 +18,7 @@ fn is_system(payload: &[u8]) -> bool
     matches!(read_msg(payload), Shape::Known(Msg::System(_, _)))
 }
 
-/// The system event messages of a day, by their numbers, rising. An error says that memory was refused.
+/// The system event messages of a day, by their numbers, rising.
 pub fn systems_of<A: Allocator + Copy>(alloc: A, day: &Day<A>) -> Result<Vec<u32, A>, AllocError>
     ensures { IfOk result (λ systems. systems.items ≡ systems_of day.now.payloads) }
 {

@@ -12,10 +12,10 @@ fn count_until(numbers: &[u32], n: u32) -> usize
 }
 
 // The number at an index.
-fn number_at(numbers: &[u32], place: usize) -> Option<u32>
-    ensures { result ≡ slice_get numbers.now place }
+fn number_at(numbers: &[u32], index: usize) -> Option<u32>
+    ensures { result ≡ slice_get numbers.now index }
 {
-    numbers.get(place).copied()
+    numbers.get(index).copied()
 }
 
 /// The first of these rising numbers above `from`.

@@ -14,7 +14,7 @@
 //! where that would make more than 48: with fewer messages between two copies moves are faster, and more memory is
 //! used.
 //!
-//! All is of this project.
+//! All is of this project. An `AllocError` says that memory was refused.
 #![tactic(auto)]
 
 mod breakpoint;

@@ -8,7 +8,7 @@ use itch_table::{Outcome, Part, part};
 use std::alloc::{AllocError, Allocator};
 
 /// What became of message `n` of a day, none where it is 0: by the machine of the message's stock just before it, or
-/// where the message is of no stock as in every day. An error says that memory was refused.
+/// where the message is of no stock as in every day.
 pub fn outcome_at<A: Allocator + Copy>(
     alloc: A,
     day: &Day<A>,

@@ -115,7 +115,7 @@ fn price_stops<A: Allocator + Copy>(
 }
 
 /// The messages of a day at which a breakpoint stops, by their numbers, rising: one pass over the day, and four bytes
-/// for each of them. An error says that memory was refused.
+/// for each of them.
 pub fn stops_of<A: Allocator + Copy>(
     alloc: A,
     day: &Day<A>,

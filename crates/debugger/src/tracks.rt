@@ -3,6 +3,7 @@ ghost use Rattle.std.specs.Prelude.{◌≡◌, ◌<◌, ◌≤◌, ◌/◌, IfOk
 ghost use Rattle.std.specs.List.{All};
 ghost use Rattle.checkpoints.specs.Copies.{Tracked};
 ghost use Rattle.debugger.specs.Sessions.{IsOf, distance_of};
+ghost use Rattle.debugger.specs.declared.tracks.TheConstants.{MOST_COPIES};
 ghost use Rattle.day_core.specs.Owners.{machine_of};
 
 use binaryfile::Day;
@@ -23,8 +24,8 @@ const BUSY_MESSAGES: u32 = 60_000;
 // And more than one in this many of the day's.
 const BUSY_SHARE: u32 = 200;
 
-/// Tracks of the busy stocks, and of the stocks that were asked for last, at most 64 of them, seen as the day that they
-/// are of and the fewest messages of a stock from one copy to the next.
+/// Tracks of the busy stocks, and of the stocks that were asked for last, at most `MOST_TRACKS` of them. They are
+/// seen as the day that they are of and the fewest messages of a stock from one copy to the next.
 #[derive(Drop)]
 pub struct Tracks<'d, A: Allocator> {
     index: StockIndex<'d, A>,
@@ -46,10 +47,10 @@ impl<'d, A: Allocator> Model for Tracks<'d, A> {
 }
 
 // The index of a stock's track.
-fn place_of<A: Allocator>(tracks: &[Track<'_, A>], locate: u16) -> Option<usize>
-    ensures within { IfSome result (λ place. place < length tracks.now) }
-    ensures found { IfSome result (λ place. (track : Tracked) →
-        (slice_index_or tracks.now place track).locate ≡ locate) }
+fn index_of<A: Allocator>(tracks: &[Track<'_, A>], locate: u16) -> Option<usize>
+    ensures within { IfSome result (λ index. index < length tracks.now) }
+    ensures found { IfSome result (λ index. (track : Tracked) →
+        (slice_index_or tracks.now index track).locate ≡ locate) }
 {
     tracks.iter().position(|track| track.locate() == locate)
 }
@@ -57,7 +58,7 @@ fn place_of<A: Allocator>(tracks: &[Track<'_, A>], locate: u16) -> Option<usize>
 // How many messages of a stock that has this many lie from one copy of its machine to the next.
 fn distance_of(every: u32, messages: usize) -> usize
     ensures distance { result ≡ distance_of every messages }
-    ensures few { messages / result < 48 }
+    ensures few { messages / result < MOST_COPIES }
 {
     (every as usize).max(messages / MOST_COPIES + 1)
 }
@@ -116,7 +117,7 @@ fn busy_tracks<'d, A: Allocator + Copy>(
 
 impl<'d, A: Allocator + Copy> Tracks<'d, A> {
     /// The tracks of the busy stocks. Each track keeps copies of its stock's machine `every` of the stock's messages
-    /// apart, or further apart where that would make more than 48. An error says that memory was refused.
+    /// apart, or further apart where that would make more than 48.
     pub fn new(alloc: A, day: &'d Day<A>, every: u32) -> Result<Tracks<'d, A>, AllocError>
         requires { 0 < every }
         ensures { IfOk result (λ tracks. tracks ≡ record { day = day.now.payloads; every = every }) }
@@ -138,8 +139,8 @@ impl<'d, A: Allocator + Copy> Tracks<'d, A> {
         ensures locate { IfOk result (λ track. track.locate ≡ locate) }
         ensures unchanged { self.new ≡ self.old }
     {
-        match place_of(&self.recent, locate) {
-            Some(place) => Ok(self.recent.remove(place)),
+        match index_of(&self.recent, locate) {
+            Some(index) => Ok(self.recent.remove(index)),
             None => track_of(alloc, &self.index, locate, self.every),
         }
     }
@@ -156,14 +157,14 @@ impl<'d, A: Allocator + Copy> Tracks<'d, A> {
     }
 
     /// A stock's machine after the first `n` messages of the day, which has at least `n`, by its track, which is
-    /// made where there is none. An error says that memory was refused.
+    /// made where there is none.
     pub fn stock_at(&mut self, alloc: A, locate: u16, n: u32) -> Result<Stock<A>, AllocError>
         requires { n ≤ length self.old.day }
         ensures stock { IfOk result (λ stock. stock ≡ machine_of self.old.day locate n) }
         ensures unchanged { self.new ≡ self.old }
     {
-        if let Some(place) = place_of(&self.busy, locate) {
-            return self.busy[place].at(alloc, n);
+        if let Some(index) = index_of(&self.busy, locate) {
+            return self.busy[index].at(alloc, n);
         }
         let track = self.take(alloc, locate)?;
         let stock = track.at(alloc, n)?;

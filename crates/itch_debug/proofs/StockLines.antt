@@ -27,17 +27,6 @@ break_more bs i b text whole at h =
     append_assoc text (numbered_break (i + 1) b) (break_lines (i + 1 + 1) (drop (i + 1) bs))
     ∙ ap (λ (xs : List Break). text ++ break_lines (i + 1) xs) (sym cut) ∙ h
 
-pub all_breaks : (bs : List Break) → 0 < length bs → breaks_text bs ≡ break_lines 1 bs
-all_breaks [] h = absurd (omega arith)
-all_breaks (b ∷ bs) h = refl
-
-pub breaks_end : (bs : List Break) (i : ℕ) (text whole : List ℕ) → length bs ≤ i → text ++ break_lines (i + 1) (drop i bs) ≡ whole → text ≡ whole
-breaks_end bs i text whole h e = sym (append-nil text) ∙ ap (λ (xs : List Break). text ++ break_lines (i + 1) xs) (sym (drop_all i bs h)) ∙ e
-
-pub has_break : (bs : List Break) (i : ℕ) → i < length bs → slice_get bs i ≡ None → ⊥
-has_break [] i h e = omega arith
-has_break (b ∷ bs) i h e = let some = slice_get-get_or (b ∷ bs) i b h in cc
-
 -- a stock's lines are in its own rows
 sides_of-only : (w : World) (locate : ℕ) → sides_of (only locate w) locate ≡ sides_of w locate
 sides_of-only w locate = ap (λ (orders : List Order). flat_map bid_line (levels orders Buy) ++ flat_map ask_line (levels orders Sell)) (orders_of-only w locate)

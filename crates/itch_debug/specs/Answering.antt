@@ -40,7 +40,7 @@ position_text day n = codes "at " ++ decimal n ++ codes " " ++ outcome_text (out
 -- the number of the breakpoint at an index, which counts from 1
 abbrev pub hit_text : Option ℕ → List ℕ
 hit_text None = codes " no break"
-hit_text (Some place) = codes " break " ++ decimal (place + 1)
+hit_text (Some index) = codes " break " ++ decimal (index + 1)
 
 -- the line of a breakpoint's number
 abbrev pub break_line : ℕ → List ℕ
@@ -124,8 +124,8 @@ same_break (Time time) (Time time') = time == time'
 same_break one other = false
 
 -- the index of a breakpoint in a list, counted from 0, where it is there
-abbrev pub place_of : List Break → Break → Option ℕ
-place_of breaks b = position (same_break b) breaks
+abbrev pub index_of : List Break → Break → Option ℕ
+index_of breaks b = position (same_break b) breaks
 
 -- ---- answers
 
@@ -168,11 +168,11 @@ moves s n = stands (moved_to s n)
 
 -- the line of a session's position, which a search came to, with the index of the breakpoint that stops there
 abbrev pub stop_text : Session → Option ℕ → List ℕ
-stop_text s place = position_text s.day s.position ++ hit_text place ++ codes "\n"
+stop_text s index = position_text s.day s.position ++ hit_text index ++ codes "\n"
 
 -- a move to where a search came to
 abbrev pub finds : Session → ℕ → Option ℕ → Reply
-finds s n place = record { text = stop_text (moved_to s n) place; next = Some (moved_to s n) }
+finds s n index = record { text = stop_text (moved_to s n) index; next = Some (moved_to s n) }
 
 abbrev pub goto_reply : Session → ℕ → Reply
 goto_reply s n = if nat_le n (length s.day) then moves s n else past_end s
@@ -198,20 +198,20 @@ rearward_reply s =
 
 -- a breakpoint that is there at an index keeps it, another one goes last
 abbrev pub added_at : Session → Break → Option ℕ → Reply
-added_at s b (Some place) = says s (break_line (place + 1))
+added_at s b (Some index) = says s (break_line (index + 1))
 added_at s b None = record { text = break_line (length s.breaks + 1); next = Some (with_break s b) }
 
 abbrev pub add_reply : Session → Break → Reply
-add_reply s b = added_at s b (place_of s.breaks b)
+add_reply s b = added_at s b (index_of s.breaks b)
 
 abbrev pub removed_at : Session → ℕ → Option Break → Reply
-removed_at s place None = says s (codes "? no such break\n")
-removed_at s place (Some b) = record { text = codes "removed\n"; next = Some (without_break s place) }
+removed_at s index None = says s (codes "? no such break\n")
+removed_at s index (Some b) = record { text = codes "removed\n"; next = Some (without_break s index) }
 
 -- the breakpoint of a number, which counts from 1
 abbrev pub remove_reply : Session → ℕ → Reply
 remove_reply s zero = says s (codes "? no such break\n")
-remove_reply s (suc place) = removed_at s place (slice_get s.breaks place)
+remove_reply s (suc index) = removed_at s index (slice_get s.breaks index)
 
 -- the answer of a command
 abbrev pub reply_to : Session → Command → Reply

@@ -5,7 +5,7 @@ ghost use Rattle.itch_debug.specs.Answering.{IsBeforeOrAfter, Replies, add_reply
 
 use crate::command::Command;
 use crate::lines::{
-    put_breaks, put_event, put_hit, put_place, put_position, put_position_line, put_refusal,
+    put_break_number, put_breaks, put_event, put_hit, put_position, put_position_line, put_refusal,
 };
 use crate::stock::put_shown;
 use debugger::{Break, DebugFault, Debugger, Stop};
@@ -114,8 +114,8 @@ fn add_break<A: Allocator + Copy>(
     ensures reply { Replies text.old text.new (add_reply debugger.old breakpoint) (Some debugger.new) result }
     ensures err { IsBeforeOrAfter debugger.old (add_reply debugger.old breakpoint) debugger.new result }
 {
-    let place = debugger.add_break(alloc, breakpoint)?;
-    put_place(text, place)
+    let index = debugger.add_break(alloc, breakpoint)?;
+    put_break_number(text, index)
 }
 
 // Removes the breakpoint of a number, and adds the answer.

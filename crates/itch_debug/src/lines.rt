@@ -52,13 +52,13 @@ pub(crate) fn put_position_line<A: Allocator>(
 /// Adds the number of the breakpoint at an index.
 pub(crate) fn put_hit<A: Allocator>(
     text: &mut Vec<u8, A>,
-    place: Option<usize>,
+    index: Option<usize>,
 ) -> Result<(), AllocError>
-    ensures { Extends text.old text.new (hit_text place) result }
+    ensures { Extends text.old text.new (hit_text index) result }
 {
-    match place {
+    match index {
         None => text.extend_from_slice(b" no break"),
-        Some(place) => put_count(text, b" break ", place as u128 + 1),
+        Some(index) => put_count(text, b" break ", index as u128 + 1),
     }
 }
 
@@ -78,10 +78,13 @@ pub(crate) fn put_refusal<A: Allocator>(
 }
 
 /// Adds the line of the number of the breakpoint at an index.
-pub(crate) fn put_place<A: Allocator>(text: &mut Vec<u8, A>, place: usize) -> Result<(), AllocError>
-    ensures { Extends text.old text.new (break_line (place + 1)) result }
+pub(crate) fn put_break_number<A: Allocator>(
+    text: &mut Vec<u8, A>,
+    index: usize,
+) -> Result<(), AllocError>
+    ensures { Extends text.old text.new (break_line (index + 1)) result }
 {
-    put_count(text, b"break ", place as u128 + 1)?;
+    put_count(text, b"break ", index as u128 + 1)?;
     text.push(b'\n')?;
     Ok(())
 }
@@ -145,9 +148,9 @@ pub(crate) fn put_breaks<A: Allocator>(
     if count == 0 {
         return text.extend_from_slice(b"no breaks\n");
     }
-    'places: for place in 0..count {
-        let breakpoint = debugger.break_at(place).unwrap();
-        put_numbered_break(text, place as u128 + 1, breakpoint)?;
+    'breaks: for index in 0..count {
+        let breakpoint = debugger.break_at(index).unwrap();
+        put_numbered_break(text, index as u128 + 1, breakpoint)?;
     }
     Ok(())
 }

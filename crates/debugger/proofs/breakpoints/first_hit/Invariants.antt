@@ -2,5 +2,5 @@ use Rattle.std.proofs.Common.{◌≡◌, ◌<◌, ℕ, false}
 use Rattle.debugger.proofs.Nearest.{test_of}
 use Rattle.debugger.proofs.breakpoints.first_hit.Given as goal
 
-abbrev pub invariant-loop-place : goal.invariant-loop-place
-invariant-loop-place g l = (k : ℕ) → k < l.place → test_of l.breaks l.day.payloads k l.at ≡ false
+abbrev pub invariant-loop-index : goal.invariant-loop-index
+invariant-loop-index g l = (k : ℕ) → k < l.index → test_of l.breaks l.day.payloads k l.at ≡ false

@@ -5,14 +5,14 @@ use Rattle.itch_debug.proofs.answer.add_break.Goals as goal
 
 pub returns-clause-reply : goal.returns-clause-reply
 returns-clause-reply g c =
-    let place = c.in_ok-place.place in
+    let index = c.in_ok-index.index in
     let session = c.add_break.new.self in
-    replied c.put_place.result c.args.text.now.items c.put_place.new.text.items (break_line (place + 1)) _ session
-    (added c.args.debugger.now session c.args.breakpoint place c.in_ok-place.ensures.place c.in_ok-place.ensures.first c.in_ok-place.ensures.there c.in_ok-place.ensures.new) c.put_place.ensures
+    replied c.put_break_number.result c.args.text.now.items c.put_break_number.new.text.items (break_line (index + 1)) _ session
+    (added c.args.debugger.now session c.args.breakpoint index c.in_ok-index.ensures.index c.in_ok-index.ensures.first c.in_ok-index.ensures.there c.in_ok-index.ensures.new) c.put_break_number.ensures
 
 pub returns-clause-err : goal.returns-clause-err
 returns-clause-err g c =
-    let place = c.in_ok-place.place in
+    let index = c.in_ok-index.index in
     let session = c.add_break.new.self in
-    came c.put_place.result c.args.debugger.now (break_line (place + 1)) _ session
-    (added c.args.debugger.now session c.args.breakpoint place c.in_ok-place.ensures.place c.in_ok-place.ensures.first c.in_ok-place.ensures.there c.in_ok-place.ensures.new)
+    came c.put_break_number.result c.args.debugger.now (break_line (index + 1)) _ session
+    (added c.args.debugger.now session c.args.breakpoint index c.in_ok-index.ensures.index c.in_ok-index.ensures.first c.in_ok-index.ensures.there c.in_ok-index.ensures.new)

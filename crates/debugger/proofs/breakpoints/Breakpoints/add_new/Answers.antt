@@ -29,7 +29,7 @@ invariant_of-self-2 g c =
     let day = inside.day.now.payloads in
     let list = c.in_ok-list.list in
     let room = c.reserve.new.self.items in
-    let added = goes_last inside.breaks.keys _ _ c.args.breakpoint (ap (λ (m : Marked). m.breaks) c.self.view_is) c.requires c.in_ok-place.ensures.keys in
+    let added = goes_last inside.breaks.keys _ _ c.args.breakpoint (ap (λ (m : Marked). m.breaks) c.self.view_is) c.requires c.in_ok-index.ensures.keys in
     let pushed =
     c.push.ensures.items ∙ ap (λ r. if is_ok r then room ++ list ∷ [] else room) c.unwrap.ensures
     ∙ ap (λ l. l ++ list ∷ []) c.in_ok-reserve.ensures.items
@@ -41,19 +41,19 @@ invariant_of-self-2 g c =
 pub returns-clause-added : goal.returns-clause-added
 returns-clause-added g c =
     let breaks = ap (λ (m : Marked). m.breaks) c.self.view_is in
-    goes_last c.self.inside.breaks.keys _ _ c.args.breakpoint breaks c.requires c.in_ok-place.ensures.keys
+    goes_last c.self.inside.breaks.keys _ _ c.args.breakpoint breaks c.requires c.in_ok-index.ensures.keys
     ∙ ap (λ ks. ks ++ c.args.breakpoint ∷ []) breaks
 
 -- where a breakpoint that isn't there goes last, no earlier index has it
-no_earlier : (breaks new : List Break) (k : Break) → ¬ Contains breaks k → new ≡ breaks ++ k ∷ [] → (place : ℕ) → slice_get new place ≡ Some k → (earlier : ℕ) → earlier < place → slice_get new earlier ≡ Some k → ⊥
-no_earlier breaks new k absent is place at earlier less there =
-    let last : place < length (breaks ++ k ∷ []) = slice_get_within (breaks ++ k ∷ []) place k (subst (λ (ks : List Break). slice_get ks place ≡ Some k) is at) in
+no_earlier : (breaks new : List Break) (k : Break) → ¬ Contains breaks k → new ≡ breaks ++ k ∷ [] → (index : ℕ) → slice_get new index ≡ Some k → (earlier : ℕ) → earlier < index → slice_get new earlier ≡ Some k → ⊥
+no_earlier breaks new k absent is index at earlier less there =
+    let last : index < length (breaks ++ k ∷ []) = slice_get_within (breaks ++ k ∷ []) index k (subst (λ (ks : List Break). slice_get ks index ≡ Some k) is at) in
     let within : earlier < length breaks = omega (arith, last, less, length-append breaks (k ∷ [])) in
     absent (earlier, within, sym (get_or-append breaks (k ∷ []) k earlier within) ∙ get_or_from_slice_get (breaks ++ k ∷ []) earlier k k (subst (λ (ks : List Break). slice_get ks earlier ≡ Some k) is there))
 
 pub returns-clause-first : goal.returns-clause-first
 returns-clause-first g c =
     let breaks = ap (λ (m : Marked). m.breaks) c.self.view_is in
-    let added = goes_last c.self.inside.breaks.keys _ _ c.args.breakpoint breaks c.requires c.in_ok-place.ensures.keys in
+    let added = goes_last c.self.inside.breaks.keys _ _ c.args.breakpoint breaks c.requires c.in_ok-index.ensures.keys in
     let absent : ¬ Contains c.self.inside.breaks.keys c.args.breakpoint = λ there. c.requires (subst (λ (ks : List Break). Contains ks c.args.breakpoint) breaks there) in
-    no_earlier c.self.inside.breaks.keys c.insert_full.new.self.keys c.args.breakpoint absent added c.in_ok-place.place (search rules)
+    no_earlier c.self.inside.breaks.keys c.insert_full.new.self.keys c.args.breakpoint absent added c.in_ok-index.index (search rules)

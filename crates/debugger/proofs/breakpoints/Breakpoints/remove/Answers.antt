@@ -7,5 +7,5 @@ pub invariant_of-self : goal.invariant_of-self
 invariant_of-self g c =
     let day = c.self.inside.day.now.payloads in
     ap (map (λ v. v.items)) c.remove.ensures.items
-    ∙ list_removed (λ v. v.items) c.self.inside.breaks.keys day c.self.inside.stops.items c.self.invariant c.args.place
+    ∙ list_removed (λ v. v.items) c.self.inside.breaks.keys day c.self.inside.stops.items c.self.invariant c.args.index
     ∙ ap (map (stops_of day)) (sym c.shift_remove_index.ensures.keys)
