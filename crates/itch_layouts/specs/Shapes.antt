@@ -74,8 +74,10 @@ decoders =
       reserved = letter values 5;
       reason = bytes values 6;
     })) ∷
-    decoder layouts.regsho (λ values. msg.Regsho (head_from values)
-        (record { stock = bytes values 3; action = letter values 4 })) ∷
+    decoder layouts.regsho (λ values. msg.Regsho (head_from values) (record {
+      stock = bytes values 3;
+      action = letter values 4;
+    })) ∷
     decoder layouts.participant (λ values. msg.Participant (head_from values) (record {
       mpid = bytes values 3;
       stock = bytes values 4;
@@ -83,8 +85,11 @@ decoders =
       mode = letter values 6;
       state = letter values 7;
     })) ∷
-    decoder layouts.decline (λ values. msg.Decline (head_from values)
-        (record { level1 = number values 3; level2 = number values 4; level3 = number values 5 })) ∷
+    decoder layouts.decline (λ values. msg.Decline (head_from values) (record {
+      level1 = number values 3;
+      level2 = number values 4;
+      level3 = number values 5;
+    })) ∷
     decoder layouts.breach (λ values. msg.Breach (head_from values) (record { level = letter values 3 })) ∷
     decoder layouts.ipo (λ values. msg.Ipo (head_from values) (record {
       stock = bytes values 3;
@@ -99,8 +104,11 @@ decoders =
       lower = number values 6;
       extension = number values 7;
     })) ∷
-    decoder layouts.operational (λ values. msg.Operational (head_from values)
-        (record { stock = bytes values 3; market = letter values 4; action = letter values 5 })) ∷
+    decoder layouts.operational (λ values. msg.Operational (head_from values) (record {
+      stock = bytes values 3;
+      market = letter values 4;
+      action = letter values 5;
+    })) ∷
     decoder layouts.add (λ values. msg.Add (head_from values) (record {
       reference = number values 3;
       side = letter values 4;
@@ -116,8 +124,11 @@ decoders =
       price = number values 7;
       attribution = bytes values 8;
     })) ∷
-    decoder layouts.execute (λ values. msg.Execute (head_from values)
-        (record { reference = number values 3; shares = number values 4; match_no = number values 5 })) ∷
+    decoder layouts.execute (λ values. msg.Execute (head_from values) (record {
+      reference = number values 3;
+      shares = number values 4;
+      match_no = number values 5;
+    })) ∷
     decoder layouts.execute_price (λ values. msg.ExecutePrice (head_from values) (record {
       reference = number values 3;
       shares = number values 4;
@@ -125,10 +136,13 @@ decoders =
       printable = letter values 6;
       price = number values 7;
     })) ∷
-    decoder layouts.cancel (λ values. msg.Cancel (head_from values)
-        (record { reference = number values 3; shares = number values 4 })) ∷
-    decoder layouts.delete (λ values. msg.Delete (head_from values)
-        (record { reference = number values 3 })) ∷
+    decoder layouts.cancel (λ values. msg.Cancel (head_from values) (record {
+      reference = number values 3;
+      shares = number values 4;
+    })) ∷
+    decoder layouts.delete (λ values. msg.Delete (head_from values) (record {
+      reference = number values 3;
+    })) ∷
     decoder layouts.replace (λ values. msg.Replace (head_from values) (record {
       reference = number values 3;
       new_reference = number values 4;
@@ -162,8 +176,10 @@ decoders =
       cross_type = letter values 10;
       variation = letter values 11;
     })) ∷
-    decoder layouts.retail (λ values. msg.Retail (head_from values)
-        (record { stock = bytes values 3; interest = letter values 4 })) ∷
+    decoder layouts.retail (λ values. msg.Retail (head_from values) (record {
+      stock = bytes values 3;
+      interest = letter values 4;
+    })) ∷
     []
 
 -- whether a decoder is for this type

@@ -17,7 +17,7 @@ use Rattle.itch_table.specs.declared.trades.TradeRow.{TradeRow}
 abbrev pub coded_world : Coded World
 coded_world =
     code_by (FinMap key_cmp OrderRow
-        × (KeySet key_cmp × (List (ℕ × TradeRow) × (FinMap nat_cmp StockRow × Option ℕ))))
+    × (KeySet key_cmp × (List (ℕ × TradeRow) × (FinMap nat_cmp StockRow × Option ℕ))))
     (coded× (maps.code coded_key order_row.the_row.coded)
     (coded× (coded_keys coded_key)
     (coded× (coded_list (coded× coded_ℕ trade_row.the_row.coded))

@@ -29,7 +29,7 @@ number_in text =
 unfoldable pub between_quotes : List ℕ → Option (List ℕ)
 between_quotes text =
     if nat_le 2 (length text)
-        && (slice_index text 0 == quote_mark && slice_index text (length text - 1) == quote_mark)
+    && (slice_index text 0 == quote_mark && slice_index text (length text - 1) == quote_mark)
     then Some (take (length text - 2) (drop 1 text)) else None
 
 -- the number, if it fits a field of this width
