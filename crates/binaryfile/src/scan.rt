@@ -96,7 +96,7 @@ fn entry_place(bytes: &[u8], starts: &[u64], number: usize) -> usize
     place_from(bytes, entry * STRIDE, starts[entry] as usize, number)
 }
 
-// The entries, with the place of each whose number from 0 is a multiple of `STRIDE`.
+// Counts the entries and indexes them: the place of each whose number from 0 is a multiple of `STRIDE`.
 fn index_entries<A: Allocator>(alloc: A, bytes: &[u8]) -> Result<IndexedEntries<A>, AllocError>
     ensures count { IfOk result (λ made. made.count ≡ length (payloads_of bytes.now)) }
     ensures end { IfOk result (λ made. made.end ≡ offset (payloads_of bytes.now) made.count) }
@@ -117,8 +117,8 @@ fn index_entries<A: Allocator>(alloc: A, bytes: &[u8]) -> Result<IndexedEntries<
     Ok(IndexedEntries { count, end, starts })
 }
 
-/// The entries, where there are no more payloads than a limit. Bytes that may have more are counted first, before any
-/// memory is asked for.
+/// Counts the entries and indexes them, where there are no more payloads than a limit. Bytes that may have more are
+/// counted first, before any memory is asked for.
 pub(crate) fn entries_within<A: Allocator>(
     alloc: A,
     bytes: &[u8],
@@ -134,7 +134,7 @@ pub(crate) fn entries_within<A: Allocator>(
     ensures not_bytes { result ≢ Err LoadFault.TooManyBytes }
     ensures are { AreBytes bytes.now }
 {
-    // An entry has two bytes and more.
+    // An entry has at least two bytes.
     let may_have_more = bytes.len() as u64 / 2 > u64::from(messages);
     if may_have_more && entry_count(bytes) > messages as usize {
         return Err(LoadFault::TooManyMessages);

@@ -4,8 +4,8 @@ use Rattle.std.specs.Prelude.{◌≡◌, ◌<◌, ◌+◌, ◌*◌, ◌/◌, [],
 use Rattle.std.specs.List.{range_with_len}
 use Rattle.itch_table.specs.Projection.{is_of_stock}
 use Rattle.day_core.specs.Owners.{last_or, machine_of}
-use Rattle.checkpoints.specs.Filtering.{numbers_where}
 use Rattle.stock_machine.specs.StockRows.{StockMachine}
+use Rattle.checkpoints.specs.Filtering.{numbers_where}
 
 -- the numbers of a stock's messages in a day, rising
 unfoldable pub numbers_of : List (List ℕ) → ℕ → List ℕ

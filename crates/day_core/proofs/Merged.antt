@@ -95,7 +95,7 @@ first_of count before list rest fault found =
     let le : found.0 ≤ length list = omega (arith, found.1) in
     let prefix = take-append-add before (list ++ rest) found.0 ∙ ap (λ (ps : List Piece). before ++ ps) (take-append-le found.0 list rest le) in
     record {
-      place = length before + found.0;
+      index = length before + found.0;
       within = omega (arith, found.1, length-append before (list ++ rest), length-append list rest);
       sound = rw prefix found.2;
       faulty = λ d. rw (prefix, get_or-append-add before (list ++ rest) found.0 d, get_or_append_left list rest d found.0 found.1) (found.3 d);

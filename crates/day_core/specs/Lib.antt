@@ -3,7 +3,7 @@ pub mod Turns
 pub mod Stretches
 pub mod Merging
 pub mod Owners
-pub mod Placed
+pub mod Indices
 pub mod Replaying
 pub mod Schedules
 pub mod Splitting

@@ -44,10 +44,10 @@ IsFaulty messages others piece (Missing message) = ⊥
 
 -- the fault is that of the piece at an index, where all before it are sound
 pub record IsFirstFault (messages : ℕ) (pieces : List Piece) (fault : MergeFault) : Type 0 where
-  pub place : ℕ
-  pub within : place < length pieces
-  pub sound : AreSound messages (take place pieces)
-  pub faulty : (d : Piece) → IsFaulty messages (take place pieces) (slice_index_or pieces place d) fault
+  pub index : ℕ
+  pub within : index < length pieces
+  pub sound : AreSound messages (take index pieces)
+  pub faulty : (d : Piece) → IsFaulty messages (take index pieces) (slice_index_or pieces index d) fault
 
 -- the least message that no piece names, where all pieces are sound
 pub record IsLeastMissing (messages : ℕ) (pieces : List Piece) (message : ℕ) : Type 0 where
@@ -76,8 +76,8 @@ pub record Holds (pieces : List Piece) (slots : List (Option Outcome)) : Type 0 
 -- the fault is that of a piece of a list, after other pieces and those before it there, which are all sound
 abbrev pub Found : ℕ → List Piece → List Piece → MergeFault → Type 0
 Found messages others list fault =
-    (place : ℕ) × (place < length list) × AreSound messages (others ++ take place list)
-    × ((d : Piece) → IsFaulty messages (others ++ take place list) (slice_index_or list place d) fault)
+    (index : ℕ) × (index < length list) × AreSound messages (others ++ take index list)
+    × ((d : Piece) → IsFaulty messages (others ++ take index list) (slice_index_or list index d) fault)
 
 -- each slot has the outcome at its index
 abbrev pub AreFilled : List (Option Outcome) → List Outcome → Type 0

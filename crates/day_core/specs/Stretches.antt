@@ -30,7 +30,7 @@ pub record IsStretch (day : List (List ℕ)) (workers from to : ℕ) (seen : Lis
   pub fixed_are : fixed_until day from ++ fixed ≡ fixed_until day to
   pub event_is : option_or event (after day from).event ≡ (after day to).event
 
--- where a chunk of a day begins, by its number from 0
+-- where a chunk of a day begins, by its number from 0, of CHUNKS that make the day
 abbrev pub cut : ℕ → ℕ → ℕ
 cut messages chunk = min (chunk * (messages / CHUNKS + 1)) messages
 

@@ -76,7 +76,7 @@ pub record MayGrowNext (s : WorkerState) : Type 0 where
 pub record IsOwnMessage (day : List (List ℕ)) (locates : List ℕ) (message : ℕ) : Type 0 where
   pub first : 1 ≤ message
   pub last : message ≤ length day
-  pub own : (workers : ℕ) × (worker : ℕ) × (locates ≡ own_locates workers worker day)
+  pub whose : (workers : ℕ) × (worker : ℕ) × (locates ≡ own_locates workers worker day)
       × (is_own workers worker (part_at day message) ≡ true)
 
 -- a message of a day as it was found: its payload, and which of these stocks it is of

@@ -5,9 +5,9 @@ ghost use Rattle.binaryfile.specs.Index.{IsPlace};
 ghost use Rattle.day_core.specs.Owners.{own_locates};
 ghost use Rattle.day_core.specs.Workers.{IsFound, IsOwnMessage, MayGrowNext, TakesTurn, first_state, machine_at, new_machine, worker_locates, worker_messages};
 
+use crate::locate_indices::LocateIndices;
 use crate::merging::Piece;
 use crate::parts::Parts;
-use crate::places::Places;
 use binaryfile::{Day, Place};
 use itch_table::{Part, part};
 use std::alloc::{AllocError, Allocator};
@@ -23,8 +23,8 @@ pub struct Turned {
     pub index: usize,
 }
 
-/// How many messages a worker finds ahead of their turns at once, at most.
-pub const AHEAD: usize = 16;
+/// The most messages that a worker finds ahead of their turns at once.
+pub const MOST_AHEAD: usize = 16;
 
 // A worker's message that was found: its payload, and which of the worker's stocks it is of.
 #[derive(Clone, Copy)]
@@ -48,23 +48,22 @@ pub struct Runner<'p, A: Allocator> {
     // Messages that were found ahead of their turns, and how many turns were taken since.
     ahead: Vec<FoundMessage<'p>, A>,
     turns_since: usize,
-    places: Places<A>,
+    indices: LocateIndices<A>,
     stocks: Vec<Stock<A>, A>,
 }
 
 impl<'p, A: Allocator> Model for Runner<'p, A> {
     ghost use Rattle.std.specs.Prelude.{All};
     ghost use Rattle.binaryfile.specs.Index.{IsPlace};
-    ghost use Rattle.day_core.specs.Splitting.{Split};
     ghost use Rattle.day_core.specs.Workers.{IsFound, IsRunner, WorkerState, state_in};
 
     ghost Value = { WorkerState };
 
     ghost view = { λ r. state_in r.parts.now r.worker r.done };
 
-    ghost invariant = { λ r. IsRunner (state_in r.parts.now r.worker r.done) r.places r.stocks.items
+    ghost invariant = { λ r. IsRunner (state_in r.parts.now r.worker r.done) r.indices r.stocks.items
         × IsPlace r.parts.now.day r.near
-        × All (λ f. IsFound r.parts.now.day r.places f.message f.payload.now f.index) r.ahead.items };
+        × All (λ f. IsFound r.parts.now.day r.indices f.message f.payload.now f.index) r.ahead.items };
 }
 
 // The locate codes of a worker's stocks.
@@ -104,20 +103,20 @@ fn new_stocks<A: Allocator + Copy>(
 fn find_message<'d, A: Allocator>(
     day: &'d Day<A>,
     near: &mut Place,
-    places: &Places<A>,
+    indices: &LocateIndices<A>,
     message: u32,
 ) -> FoundMessage<'d>
-    requires own { IsOwnMessage day.now.payloads places.now message }
+    requires own { IsOwnMessage day.now.payloads indices.now message }
     requires near { IsPlace day.now.payloads near.old }
     ensures near { IsPlace day.now.payloads near.new }
     ensures message { result.message ≡ message }
-    ensures found { IsFound day.now.payloads places.now message result.payload.now result.index }
+    ensures found { IsFound day.now.payloads indices.now message result.payload.now result.index }
 {
     let payload = day.payload_near(near, message);
     let Part::Locate(locate) = part(payload) else {
         unreachable!()
     };
-    let index = places.index_of(locate).unwrap();
+    let index = indices.index_of(locate).unwrap();
     FoundMessage {
         message,
         payload,
@@ -125,26 +124,26 @@ fn find_message<'d, A: Allocator>(
     }
 }
 
-// The same, where the message may have been found ahead, at an index that is likely to be its own.
+// The same, where the message may have been found ahead: after as many others as turns were taken since.
 fn next_message<'d, A: Allocator>(
     day: &'d Day<A>,
     near: &mut Place,
-    places: &Places<A>,
+    indices: &LocateIndices<A>,
     ahead: &[FoundMessage<'d>],
-    index: usize,
+    turns_since: usize,
     message: u32,
 ) -> FoundMessage<'d>
-    requires own { IsOwnMessage day.now.payloads places.now message }
+    requires own { IsOwnMessage day.now.payloads indices.now message }
     requires near { IsPlace day.now.payloads near.old }
-    requires ahead { All (λ f. IsFound day.now.payloads places.now f.message f.payload.now f.index)
+    requires ahead { All (λ f. IsFound day.now.payloads indices.now f.message f.payload.now f.index)
         ahead.now }
     ensures near { IsPlace day.now.payloads near.new }
     ensures message { result.message ≡ message }
-    ensures found { IsFound day.now.payloads places.now message result.payload.now result.index }
+    ensures found { IsFound day.now.payloads indices.now message result.payload.now result.index }
 {
-    match ahead.get(index) {
+    match ahead.get(turns_since) {
         Some(found) if found.message == message => *found,
-        _ => find_message(day, near, places, message),
+        _ => find_message(day, near, indices, message),
     }
 }
 
@@ -156,15 +155,15 @@ impl<'p, A: Allocator + Copy> Runner<'p, A> {
     {
         let locates = own_codes(alloc, parts, worker)?;
         let stocks = new_stocks(alloc, &locates)?;
-        let places = Places::new(alloc, locates)?;
+        let indices = LocateIndices::new(alloc, locates)?;
         Ok(Runner {
             parts,
             worker,
             done: 0,
             near: Place::first(),
-            ahead: Vec::with_capacity(alloc, AHEAD)?,
+            ahead: Vec::with_capacity(alloc, MOST_AHEAD)?,
             turns_since: 0,
-            places,
+            indices,
             stocks,
         })
     }
@@ -189,7 +188,7 @@ impl<'p, A: Allocator + Copy> Runner<'p, A> {
         let found = next_message(
             day,
             &mut self.near,
-            &self.places,
+            &self.indices,
             &self.ahead,
             self.turns_since,
             message,
@@ -205,7 +204,7 @@ impl<'p, A: Allocator + Copy> Runner<'p, A> {
 }
 
 impl<'p, A: Allocator + Copy> Runner<'p, A> {
-    /// Finds the worker's next messages, of which it takes [`AHEAD`] at most, so that their turns find them at hand. No
+    /// Finds the worker's next messages, of which it takes [`MOST_AHEAD`] at most, so that their turns find them at hand. No
     /// contract says what was found: a turn looks for its message where it isn't there.
     pub fn look_ahead(&mut self)
         ensures { self.new ≡ self.old }
@@ -213,7 +212,7 @@ impl<'p, A: Allocator + Copy> Runner<'p, A> {
         self.ahead.clear();
         self.turns_since = 0;
         let mut near = self.near;
-        for index in 0..AHEAD {
+        for index in 0..MOST_AHEAD {
             let Some(found) = self.message_ahead(&mut near, index) else {
                 break;
             };
@@ -238,13 +237,13 @@ impl<'p, A: Allocator + Copy> Runner<'p, A> {
             return None;
         }
         let message = own[index];
-        Some(find_message(self.parts.day(), near, &self.places, message))
+        Some(find_message(self.parts.day(), near, &self.indices, message))
     }
 
     /// Which of the worker's stocks the message is of that was found ahead at this index, in the order of the messages;
     /// none where fewer were found.
     pub fn stock_ahead(&self, index: usize) -> Option<usize>
-        ensures { IfSome result (λ index. index < length (worker_locates self.now)) }
+        ensures { IfSome result (λ stock. stock < length (worker_locates self.now)) }
     {
         let found = self.ahead.get(index)?;
         Some(found.index)
@@ -315,7 +314,7 @@ impl<'p, A: Allocator> Runner<'p, A> {
             (index < length (worker_locates self.now))
             × (slice_index (worker_locates self.now) index ≡ locate)) }
     {
-        self.places.index_of(locate)
+        self.indices.index_of(locate)
     }
 
     /// The machines of the worker's stocks, by rising locate code.

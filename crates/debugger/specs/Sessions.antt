@@ -12,7 +12,6 @@ use Rattle.checkpoints.specs.Copies.{Tracked, numbers_of}
 use Rattle.checkpoints.specs.Filtering.{numbers_where}
 use Rattle.debugger.specs.Stops.{stops_at}
 use Rattle.debugger.specs.declared.breakpoint.Break.{Break}
-use Rattle.debugger.specs.declared.tracks.TheConstants.{MOST_COPIES, MOST_TRACKS}
 
 -- the day, the fewest messages of a stock from one copy of its machine to the next, the number of messages up to
 -- the position, and the breakpoints in the order in which they were added
@@ -80,10 +79,9 @@ pub record Copied : Type 0 where
   pub every : ℕ
 
 -- how many messages of a stock that has this many lie from one copy of its machine to the next: the fewest that are
--- asked for, or the least number that leaves no more copies than are kept, the first among them, where it is
--- greater
+-- asked for, or the least number that leaves at most 48 copies, the first among them, where it is greater
 abbrev pub distance_of : ℕ → ℕ → ℕ
-distance_of every messages = max every (messages / MOST_COPIES + 1)
+distance_of every messages = max every (messages / 48 + 1)
 
 -- a track of the day, with copies so far apart
 pub record IsOf (day : List (List ℕ)) (every : ℕ) (track : Tracked) : Type 0 where
@@ -95,7 +93,7 @@ pub record AreTracks (day : List (List ℕ)) (every : ℕ) (busy recent : List T
   pub some : 0 < every
   pub busy_of : All (IsOf day every) busy
   pub recent_of : All (IsOf day every) recent
-  pub few : length recent ≤ MOST_TRACKS
+  pub few : length recent ≤ 64
 
 -- what a debugger keeps beside its breakpoints, each of the same day
 pub record IsSession (day : List (List ℕ)) (position : ℕ) (outcome : Option Outcome) (systems : List ℕ)

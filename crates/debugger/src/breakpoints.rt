@@ -136,8 +136,8 @@ impl<'d, A: Allocator + Copy> Breakpoints<'d, A> {
         Ok(index)
     }
 
-    /// Adds a breakpoint as the last, and returns its index; one that is there keeps its index. An error says that
-    /// memory was refused, and leaves all as it was.
+    /// Adds a breakpoint as the last, and returns its index; one that is there keeps its index. An error
+    /// leaves all as it was.
     pub fn add(&mut self, alloc: A, breakpoint: Break) -> Result<usize, AllocError>
         ensures index { IfOk result (λ index. slice_get self.new.breaks index ≡ Some breakpoint) }
         ensures first { IfOk result (λ index. (earlier : ℕ) → earlier < index →

@@ -3,7 +3,6 @@ ghost use Rattle.std.specs.Prelude.{◌≡◌, ◌<◌, ◌≤◌, ◌/◌, IfOk
 ghost use Rattle.std.specs.List.{All};
 ghost use Rattle.checkpoints.specs.Copies.{Tracked};
 ghost use Rattle.debugger.specs.Sessions.{IsOf, distance_of};
-ghost use Rattle.debugger.specs.declared.tracks.TheConstants.{MOST_COPIES};
 ghost use Rattle.day_core.specs.Owners.{machine_of};
 
 use binaryfile::Day;
@@ -24,8 +23,8 @@ const BUSY_MESSAGES: u32 = 60_000;
 // And more than one in this many of the day's.
 const BUSY_SHARE: u32 = 200;
 
-/// Tracks of the busy stocks, and of the stocks that were asked for last, at most `MOST_TRACKS` of them. They are
-/// seen as the day that they are of and the fewest messages of a stock from one copy to the next.
+/// Tracks of the busy stocks, and of the stocks that were asked for last, at most 64 of them, seen as the day that they
+/// are of and the fewest messages of a stock from one copy to the next.
 #[derive(Drop)]
 pub struct Tracks<'d, A: Allocator> {
     index: StockIndex<'d, A>,
@@ -58,7 +57,7 @@ fn index_of<A: Allocator>(tracks: &[Track<'_, A>], locate: u16) -> Option<usize>
 // How many messages of a stock that has this many lie from one copy of its machine to the next.
 fn distance_of(every: u32, messages: usize) -> usize
     ensures distance { result ≡ distance_of every messages }
-    ensures few { messages / result < MOST_COPIES }
+    ensures few { messages / result < 48 }
 {
     (every as usize).max(messages / MOST_COPIES + 1)
 }
@@ -140,7 +139,7 @@ impl<'d, A: Allocator + Copy> Tracks<'d, A> {
         ensures unchanged { self.new ≡ self.old }
     {
         match index_of(&self.recent, locate) {
-            Some(index) => Ok(self.recent.remove(index)),
+            Some(at) => Ok(self.recent.remove(at)),
             None => track_of(alloc, &self.index, locate, self.every),
         }
     }
@@ -163,8 +162,8 @@ impl<'d, A: Allocator + Copy> Tracks<'d, A> {
         ensures stock { IfOk result (λ stock. stock ≡ machine_of self.old.day locate n) }
         ensures unchanged { self.new ≡ self.old }
     {
-        if let Some(index) = index_of(&self.busy, locate) {
-            return self.busy[index].at(alloc, n);
+        if let Some(at) = index_of(&self.busy, locate) {
+            return self.busy[at].at(alloc, n);
         }
         let track = self.take(alloc, locate)?;
         let stock = track.at(alloc, n)?;

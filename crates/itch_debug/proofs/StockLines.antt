@@ -1,8 +1,7 @@
 -- The lines of breakpoints and of stocks.
-use Rattle.std.proofs.Common.{◌≡◌, ℕ, suc, ◌+◌, ◌<◌, ◌≤◌, ◌++◌, ◌∷◌, [], List, length, drop, get_or, refl, sym, ap, ◌∙◌, arith, add-one, drop-cons, append_assoc, append-nil, Some, None}
+use Rattle.std.proofs.Common.{◌≡◌, ℕ, suc, ◌+◌, ◌<◌, ◌++◌, ◌∷◌, List, length, drop, get_or, sym, ap, ◌∙◌, add-one, drop-cons, append_assoc, Some}
 use Rattle.std.specs.Prelude.{slice_get}
-use Rattle.std.proofs.lemmas.List.{drop_all}
-use Rattle.std.proofs.lemmas.Option.{get_or_from_slice_get, slice_get_within, slice_get-get_or}
+use Rattle.std.proofs.lemmas.Option.{get_or_from_slice_get, slice_get_within}
 use Rattle.debugger.specs.declared.breakpoint.Break.{Break}
 use Rattle.itch_table.specs.Projection.{only}
 use Rattle.itch_table.specs.World.{World}
@@ -16,7 +15,7 @@ use Rattle.itch_table.specs.Levels.{levels}
 use Rattle.itch_table.specs.World.{orders_of, status, totals}
 use Rattle.itch_engine.specs.Report.{ask_line, bid_line, trades_line}
 use Rattle.stock_machine.specs.StockRows.{StockMachine}
-use Rattle.itch_debug.specs.Answering.{book_of, break_lines, breaks_text, listed_text, numbered_break, order_line, sides_of, stock_text}
+use Rattle.itch_debug.specs.Answering.{book_of, break_lines, listed_text, numbered_break, order_line, sides_of, stock_text}
 
 -- one breakpoint more
 pub break_more : (bs : List Break) (i : ℕ) (b : Break) (text whole : List ℕ) → slice_get bs i ≡ Some b → text ++ break_lines (i + 1) (drop i bs) ≡ whole → (text ++ numbered_break (i + 1) b) ++ break_lines (i + 1 + 1) (drop (i + 1) bs) ≡ whole

@@ -1,5 +1,5 @@
 //! The answers of commands.
-ghost use Rattle.std.specs.Prelude.{◌≡◌, ◌≢◌, ◌++◌, Some, None, OnOk, IfOk};
+ghost use Rattle.std.specs.Prelude.{◌≢◌, Some, None};
 ghost use Rattle.byte_strings.specs.Extending.{Extends};
 ghost use Rattle.itch_debug.specs.Answering.{IsBeforeOrAfter, Replies, add_reply, back_reply, goto_reply, onward_reply, rearward_reply, remove_reply, reply_or, reply_to, step_reply, stop_text};
 

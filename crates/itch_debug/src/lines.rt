@@ -1,5 +1,5 @@
 //! The lines of answers.
-ghost use Rattle.std.specs.Prelude.{◌≡◌, ◌≢◌, ◌+◌, ◌++◌, OnOk, codes, drop, length};
+ghost use Rattle.std.specs.Prelude.{◌≢◌, ◌+◌, ◌++◌, OnOk, codes};
 ghost use Rattle.byte_strings.specs.Extending.{Extends};
 ghost use Rattle.itch_table.specs.After.{after};
 ghost use Rattle.itch_debug.specs.Answering.{break_line, break_text, breaks_text, event_line, hit_text, numbered_break, outcome_text, position_text, refusal_text, side_text};

@@ -28,13 +28,13 @@ first_byte (b ∷ bs) = b
 
 -- the value at an index, counted from 0: a number, bytes, or a single byte
 abbrev pub number : List Value → ℕ → ℕ
-number values place = as_number (slice_get values place)
+number values index = as_number (slice_get values index)
 
 abbrev pub bytes : List Value → ℕ → List ℕ
-bytes values place = as_bytes (slice_get values place)
+bytes values index = as_bytes (slice_get values index)
 
 abbrev pub letter : List Value → ℕ → ℕ
-letter values place = first_byte (bytes values place)
+letter values index = first_byte (bytes values index)
 
 -- the head that these values make
 abbrev pub head_from : List Value → Head

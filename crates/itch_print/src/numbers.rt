@@ -1,14 +1,18 @@
 //! Numbers in a text.
+ghost use Rattle.std.specs.Prelude.{◌≡◌, OnErr};
 ghost use Rattle.byte_strings.specs.Extending.{Extends};
 
 use std::alloc::{AllocError, Allocator};
 
-/// Adds a number in decimal digits, as fields of numbers and the lines of reports have it.
+/// Adds a number in decimal digits, which fields of numbers and the lines of reports have. The form is of this project.
+///
+/// The only error is that memory was refused; the text is then as it was.
 pub fn put_number<N: itoa::Integer, A: Allocator>(
     text: &mut Vec<u8, A>,
     number: N,
 ) -> Result<(), AllocError>
-    ensures { Extends text.old text.new (N.text number) result }
+    ensures ok { Extends text.old text.new (N.text number) result }
+    ensures err { OnErr result (text.new.items ≡ text.old.items) }
 {
     let mut buffer = itoa::Buffer::new();
     text.extend_from_slice(buffer.format(number).as_bytes())

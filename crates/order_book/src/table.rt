@@ -108,8 +108,8 @@ impl<A: Allocator + Copy> OrderTable<A> {
         self.count
     }
 
-    /// Adds an order that has shares, under a reference that isn't live, to fewer than 2^32 orders. An error says that
-    /// memory was refused, and leaves the orders as they were.
+    /// Adds an order that has shares, under a reference that isn't live, to fewer than 2^32 orders. An error leaves
+    /// the orders as they were.
     pub fn insert(&mut self, order: Order) -> Result<(), AllocError>
         requires new { maps.get self.old order.reference ≡ None }
         requires some { 1 ≤ order.shares }

@@ -14,6 +14,8 @@
 //!
 //! Beside [`Stock::top`] there are `level`, `levels`, `order`, `orders`, `spent`, `totals` and `status`. `tops` of
 //! `itch_readings` is a caller to copy from.
+//!
+//! An `AllocError` says that memory was refused.
 #![tactic(auto)]
 
 mod rows;

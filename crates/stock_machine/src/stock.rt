@@ -20,7 +20,7 @@ use std::marker::Model;
 ///
 /// The effects of messages are those of Nasdaq TotalView-ITCH 5.0, "Stock Related Messages", "Add Order Message",
 /// "Modify Order Messages" and "Trade Messages"; the faults, that a reference stays spent, and that a machine is of one
-/// stock, are of this project. An error of a call says that memory was refused.
+/// stock, are of this project.
 #[derive(Drop)]
 pub struct Stock<A: Allocator> {
     steps: u32,

@@ -72,7 +72,7 @@ impl<A: Allocator> Trades<A> {
     pub fn has_unbroken(&self, match_no: u64) -> bool
         ensures { result ≡ list_any (is_unbroken_trade match_no) self.now }
     {
-        let (start, end) = places(&self.rows, self.rising, match_no);
+        let (start, end) = indices_of(&self.rows, self.rising, match_no);
         any_unbroken(&self.rows[start..end], match_no)
     }
 
@@ -93,9 +93,9 @@ impl<A: Allocator> Trades<A> {
     pub fn break_all(&mut self, match_no: u64)
         ensures { self.new ≡ map (broken_trade match_no) self.old }
     {
-        let (start, end) = places(&self.rows, self.rising, match_no);
-        for place in start..end {
-            let trade = &mut self.rows[place];
+        let (start, end) = indices_of(&self.rows, self.rising, match_no);
+        for index in start..end {
+            let trade = &mut self.rows[index];
             if is_unbroken(trade, match_no) {
                 self.totals = self.totals.without_trade(trade);
                 trade.broken = true;
@@ -142,7 +142,7 @@ fn rises_with(rows: &[TradeRow], rising: bool, trade: &TradeRow) -> bool
 }
 
 // Where trades with this match number can stand: from the first index up to the second.
-fn places(rows: &[TradeRow], rising: bool, match_no: u64) -> (usize, usize)
+fn indices_of(rows: &[TradeRow], rising: bool, match_no: u64) -> (usize, usize)
     requires { IsRising rows.now rising }
     ensures order { result.0 ≤ result.1 }
     ensures bound { result.1 ≤ length rows.now }

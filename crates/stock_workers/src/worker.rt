@@ -1,5 +1,5 @@
 //! One worker with the writers of its stocks' cells.
-ghost use Rattle.std.specs.Prelude.{◌≡◌, ◌≤◌, ℕ, All, IfOk, IfSome, MatchOption, OnErr, length, map};
+ghost use Rattle.std.specs.Prelude.{◌≡◌, ◌≤◌, All, IfOk, IfSome, MatchOption, OnErr, length, map};
 ghost use Rattle.std.specs.List.{Contains};
 ghost use Rattle.itch_table.specs.Shows.{top_after};
 ghost use Rattle.day_core.specs.Owners.{own_locates};
@@ -8,7 +8,7 @@ ghost use Rattle.top_cell.specs.Boards.{IsOn};
 ghost use Rattle.stock_workers.specs.Working.{PublishesTurn, ShowsTurn, WritersAt, WritersStand, stands, writer_state};
 
 use crate::gate::Gate;
-use day_core::{AHEAD, Parts, Piece, Runner};
+use day_core::{MOST_AHEAD, Parts, Piece, Runner};
 use itch_table::Top;
 use std::alloc::{AllocError, Allocator};
 use std::marker::Model;
@@ -118,7 +118,7 @@ impl<'p, A: Allocator + Copy> Worker<'p, A> {
             return wait - 1;
         }
         if self.runner.stock_count() < MANY_STOCKS {
-            return AHEAD - 1;
+            return MOST_AHEAD - 1;
         }
         self.runner.look_ahead();
         let machines = self.runner.touch_ahead();
@@ -127,7 +127,7 @@ impl<'p, A: Allocator + Copy> Worker<'p, A> {
         if machines.wrapping_add(cells).wrapping_add(rows) == u64::MAX {
             0
         } else {
-            AHEAD - 1
+            MOST_AHEAD - 1
         }
     }
 
@@ -136,7 +136,7 @@ impl<'p, A: Allocator + Copy> Worker<'p, A> {
         requires { All (IsOn board.now) self.now.places }
     {
         let mut sum: u64 = 0;
-        for index in 0..AHEAD {
+        for index in 0..MOST_AHEAD {
             if let Some(stock) = self.runner.stock_ahead(index)
                 && stock < self.writers.len()
             {

@@ -1,7 +1,7 @@
 //! Turns of workers, one by one and all of a day.
 use crate::days::{parts_of, two_stocks};
 use crate::showing::{Shown, bid, shown_by, stock_with};
-use day_core::{Parts, Piece, ReplayedDay, Runner, Turned, Turns, replay_parts};
+use day_core::{Piece, ReplayedDay, Runner, Turned, Turns, replay_parts};
 use itch_table::{Fault, Outcome, Top};
 use std::alloc::{AllocError, Allocator, Global};
 use std::test::Fail;

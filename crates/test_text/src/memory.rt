@@ -1,9 +1,9 @@
 //! Texts where memory is refused. A list that is refused more room than it needs may make do with less; where all
 //! growths are refused from one on, there is no value, and what was lent is as it was.
 use binaryfile::Day;
-use itch_print::{disassemble, put_quoted, quote, reassembled};
+use itch_print::{disassemble, put_number, put_quoted, quote, reassembled};
 use itch_text::{AsmFault, assemble};
-use std::alloc::{Allocator, Global};
+use std::alloc::{AllocError, Allocator, Global};
 use std::test::Fail;
 use test_refusing::{Refusal, Refusing, Tried, refuse_each};
 use test_support::{FILE, TEXT, same, same_bytes};
@@ -74,29 +74,58 @@ fn each_growth_of_a_text_may_be_refused(rt: HostRuntime) -> Result<(), Fail> {
     Ok(())
 }
 
-// Adds a quoted field to a text under a refusal. Where it is refused, the text is as it was, and the field is added
-// with memory.
-fn try_field(heap: &Refusing<Global>, refusal: Refusal) -> Result<Tried, Fail> {
+// What is added to a text.
+#[derive(Debug, Clone, Copy, PartialEq, Eq)]
+enum Added {
+    Field,
+    Number,
+}
+
+impl Added {
+    // Its bytes: the field quoted, or the digits of the greatest number.
+    fn bytes(self) -> &'static [u8] {
+        match self {
+            Added::Field => QUOTED,
+            Added::Number => b"18446744073709551615",
+        }
+    }
+
+    // Adds it.
+    fn add<A: Allocator>(self, text: &mut Vec<u8, A>) -> Result<(), AllocError> {
+        match self {
+            Added::Field => put_quoted(text, FIELD),
+            Added::Number => put_number(text, u64::MAX),
+        }
+    }
+}
+
+// Adds to a text under a refusal. Where it is refused, the text is as it was, and it is added to with memory.
+fn try_add(heap: &Refusing<Global>, added: Added, refusal: Refusal) -> Result<Tried, Fail> {
     let mut text = b"stock ".to_vec(heap)?;
     heap.restart(refusal);
-    let mut added = put_quoted(&mut text, FIELD);
-    let tried = heap.tried(added.is_err());
+    let mut returned = added.add(&mut text);
+    let tried = heap.tried(returned.is_err());
     if tried.refused {
         same_bytes("the text", &text, b"stock ")?;
-        added = put_quoted(&mut text, FIELD);
+        returned = added.add(&mut text);
     }
-    same("a field that is added", &added, &Ok(()))?;
+    same("what is returned", &(added, returned), &(added, Ok(())))?;
     same_bytes(
         "after the text",
         text.strip_prefix(b"stock ").unwrap_or(b"lost"),
-        QUOTED,
+        added.bytes(),
     )?;
     Ok(tried)
 }
 
 #[test]
-fn a_field_is_added_whole_or_not_at_all(rt: HostRuntime) -> Result<(), Fail> {
+fn a_field_or_a_number_is_added_whole_or_not_at_all(rt: HostRuntime) -> Result<(), Fail> {
     let heap = Refusing::new(rt.alloc(), Refusal::Never);
-    refuse_each(|refusal: Refusal| -> Result<Tried, Fail> { try_field(&heap, refusal) })?;
+    for (added, wanted) in [(Added::Field, 2), (Added::Number, 1)] {
+        let growths = refuse_each(|refusal: Refusal| -> Result<Tried, Fail> {
+            try_add(&heap, added, refusal)
+        })?;
+        same("growths", &(added, growths), &(added, wanted))?;
+    }
     Ok(())
 }

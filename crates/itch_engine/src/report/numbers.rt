@@ -1,5 +1,5 @@
 //! Numbers in a text.
-ghost use Rattle.std.specs.Prelude.{◌≡◌, ◌++◌, OnOk};
+ghost use Rattle.std.specs.Prelude.{◌++◌};
 ghost use Rattle.byte_strings.specs.Extending.{Extends};
 
 use itch_print::put_number;

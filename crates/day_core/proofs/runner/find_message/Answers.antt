@@ -9,13 +9,13 @@ use Rattle.day_core.proofs.runner.find_message.Goals as goal
 
 pub unreachable-requires : goal.unreachable-requires
 unreachable-requires g c =
-    let own = c.requires.own.own in
+    let own = c.requires.own.whose in
     let here = payload_is c.args.day.now.payloads c.args.message _ c.requires.own.first c.requires.own.last c.payload_near-payload.ensures.payload in
     false≢true (ap (is_own own.0 own.1) (c.in_default.ensures ∙ ap part here) ∙ own.3)
 
 pub unwrap-index-requires : goal.unwrap-index-requires
 unwrap-index-requires g c =
-    let own = c.requires.own.own in
+    let own = c.requires.own.whose in
     let day = c.args.day.now.payloads in
     let here = payload_is day c.args.message _ c.requires.own.first c.requires.own.last c.payload_near-payload.ensures.payload in
     let mine = c.in-Locate.ensures ∙ ap part here in

@@ -15,7 +15,7 @@ find_message-requires-clause-own g c =
     record {
       first = within.0;
       last = omega (arith, within, ap length same);
-      own = (
+      whose = (
         inside.parts.now.workers,
         inside.worker,
         c.self.invariant.0.locates_are ∙ ap (own_locates inside.parts.now.workers inside.worker) (sym same),

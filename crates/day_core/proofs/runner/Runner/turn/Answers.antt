@@ -16,7 +16,7 @@ next_message-found-requires-clause-own g c =
     record {
       first = within.0;
       last = omega (arith, within, ap length same);
-      own = (
+      whose = (
         inside.parts.now.workers,
         inside.worker,
         c.self.invariant.0.locates_are ∙ ap (own_locates inside.parts.now.workers inside.worker) (sym same),
@@ -33,7 +33,7 @@ pub index_mut-requires : goal.index_mut-requires
 index_mut-requires g c =
     let inside = c.self.inside in
     let runner = c.self.invariant.0 in
-    omega (arith, c.next_message-found.ensures.found.within, ap length runner.stocks_are, length-map inside.places (machine_at (state_in inside.parts.now inside.worker inside.done)))
+    omega (arith, c.next_message-found.ensures.found.within, ap length runner.stocks_are, length-map inside.indices (machine_at (state_in inside.parts.now inside.worker inside.done)))
 
 pub step-requires-clause-own : goal.step-requires-clause-own
 step-requires-clause-own g c =
@@ -54,7 +54,7 @@ invariant_of-self g c =
     let place = c.next_message-found.result.index in
     let same : set inside.stocks.items place c.step.new.self ≡ inside.stocks.items =
     ap (set inside.stocks.items place) (c.in_err-outcome.ensures.err ∙ c.index_mut.ensures.value) ∙ set-get_or inside.stocks.items place c.index_mut.result.now in
-    (subst (λ (stocks : List StockMachine). IsRunner (state_in inside.parts.now inside.worker inside.done) inside.places stocks) (sym same) c.self.invariant.0, subst (λ (day : List (List ℕ)). IsPlace day c.next_message-found.new.near) c.day-day.ensures c.next_message-found.ensures.near, c.self.invariant.2)
+    (subst (λ (stocks : List StockMachine). IsRunner (state_in inside.parts.now inside.worker inside.done) inside.indices stocks) (sym same) c.self.invariant.0, subst (λ (day : List (List ℕ)). IsPlace day c.next_message-found.new.near) c.day-day.ensures c.next_message-found.ensures.near, c.self.invariant.2)
 
 pub invariant_of-self-2 : goal.invariant_of-self-2
 invariant_of-self-2 g c =

@@ -7,5 +7,5 @@ use Rattle.debugger.proofs.tracks.Tracks.take.Goals as goal
 pub invariant_of-self : goal.invariant_of-self
 invariant_of-self g c =
     let inside = c.self.inside in
-    let removed = tracks_removed inside.index inside.every inside.busy.items inside.recent.items c.self.invariant c.in-Some.index (omega (arith, c.in-Some.ensures.within, ap length c.deref.ensures.value)) in
+    let removed = tracks_removed inside.index inside.every inside.busy.items inside.recent.items c.self.invariant c.in-Some.at (omega (arith, c.in-Some.ensures.within, ap length c.deref.ensures.value)) in
     subst (λ (ts : List Tracked). AreTracks inside.index inside.every inside.busy.items ts) (sym c.remove.ensures.items) removed

@@ -1,4 +1,4 @@
-//! The places of locate codes in a list: the index of each.
+//! Locate codes, with the index of each in their list.
 ghost use Rattle.std.specs.Prelude.{◌≡◌, ◌<◌, IfOk, MatchOption, length, slice_index};
 ghost use Rattle.std.specs.List.{Contains};
 ghost use Rattle.std.specs.List.Sorted.{IsStrictlyIncreasing};
@@ -8,21 +8,21 @@ use std::marker::Model;
 
 /// Locate codes, rising, with a table of their indices. It is seen as the list of the codes.
 #[derive(Drop)]
-pub(crate) struct Places<A: Allocator> {
+pub(crate) struct LocateIndices<A: Allocator> {
     locates: Vec<u16, A>,
     // At each locate code of the list its index there.
     table: Vec<u16, A>,
 }
 
-impl<A: Allocator> Model for Places<A> {
+impl<A: Allocator> Model for LocateIndices<A> {
     ghost use Rattle.std.specs.Prelude.{List, ℕ};
-    ghost use Rattle.day_core.specs.Placed.{ArePlaces};
+    ghost use Rattle.day_core.specs.Indices.{AreIndices};
 
     ghost Value = { List ℕ };
 
     ghost view = { λ p. p.locates.items };
 
-    ghost invariant = { λ p. ArePlaces p.locates.items p.table.items };
+    ghost invariant = { λ p. AreIndices p.locates.items p.table.items };
 }
 
 // This many zeros.
@@ -32,21 +32,21 @@ fn zeros<A: Allocator + Copy>(alloc: A, len: usize) -> Result<Vec<u16, A>, Alloc
     vec![in alloc; 0; len]
 }
 
-impl<A: Allocator + Copy> Places<A> {
-    /// The places of these codes.
-    pub fn new(alloc: A, locates: Vec<u16, A>) -> Result<Places<A>, AllocError>
+impl<A: Allocator + Copy> LocateIndices<A> {
+    /// The indices of these codes in their list.
+    pub fn new(alloc: A, locates: Vec<u16, A>) -> Result<LocateIndices<A>, AllocError>
         requires { IsStrictlyIncreasing locates.items }
-        ensures { IfOk result (λ places. places ≡ locates.items) }
+        ensures { IfOk result (λ indices. indices ≡ locates.items) }
     {
         let mut table = zeros(alloc, 0x1_0000)?;
         for (index, locate) in locates.iter().enumerate() {
             table[usize::from(*locate)] = index as u16;
         }
-        Ok(Places { locates, table })
+        Ok(LocateIndices { locates, table })
     }
 }
 
-impl<A: Allocator> Places<A> {
+impl<A: Allocator> LocateIndices<A> {
     /// Where a locate code stands in the list; none where it isn't in it.
     pub fn index_of(&self, locate: u16) -> Option<usize>
         ensures { MatchOption result (¬ Contains self.now locate)

@@ -7,7 +7,7 @@ use Rattle.itch_table.specs.declared.trades.TradeRow.{TradeRow}
 use Rattle.stock_machine.specs.StockTrades.{IsOther}
 use Rattle.stock_machine.proofs.Places.{IsStart, IsEnd, above_other, below_other}
 use Rattle.stock_machine.proofs.Ranges.{all_before, all_after}
-use Rattle.stock_machine.proofs.trades.places.Goals as goal
+use Rattle.stock_machine.proofs.trades.indices_of.Goals as goal
 
 abbrev number : TradeRow → ℕ
 number t = t.match_no

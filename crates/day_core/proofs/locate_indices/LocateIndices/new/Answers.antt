@@ -1,7 +1,7 @@
 use Rattle.std.proofs.Common.{◌≡◌, ◌<◌, ℕ, List, length, get_or, ap, ◌∙◌, arith}
 use Rattle.std.proofs.lemmas.List.{length-set}
 use Rattle.day_core.proofs.Placing.{entered_more, place_below}
-use Rattle.day_core.proofs.places.Places.new.Goals as goal
+use Rattle.day_core.proofs.locate_indices.LocateIndices.new.Goals as goal
 
 pub overflow_cast-index : goal.overflow_cast-index
 overflow_cast-index g c =
