@@ -5,8 +5,7 @@ ghost use Rattle.checkpoints.specs.Filtering.{Computes, numbers_where};
 use binaryfile::Day;
 use std::alloc::{AllocError, Allocator};
 
-/// The numbers, from 1, of a day's messages whose payloads a predicate keeps, rising. An error says that memory was
-/// refused.
+/// The numbers, from 1, of a day's messages whose payloads a predicate keeps, rising.
 pub fn numbers_where<A: Allocator + Copy, F: Fn(&[u8]) -> bool>(
     alloc: A,
     day: &Day<A>,

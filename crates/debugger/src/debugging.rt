@@ -51,8 +51,8 @@ pub struct Stop {
 /// that many, however it was reached. The debugger is seen as the day, the position, the list of the breakpoints, and
 /// how many messages of a stock lie at least from one copy of its machine to the next.
 ///
-/// An error says that memory was refused, but for a move past an end of the day, whose fault is decided first. It
-/// leaves all as it was.
+/// A move past an end of the day is a fault, which is decided before any memory is asked for. A fault or an error leaves
+/// all as it was.
 #[derive(Drop)]
 pub struct Debugger<'d, A: Allocator> {
     day: &'d Day<A>,

@@ -242,8 +242,8 @@ fn symbol_of(text: &[u8]) -> Option<[u8; 8]> {
         return None;
     }
     let mut symbol = [b' '; 8];
-    for (place, byte) in text.iter().enumerate() {
-        symbol[place] = *byte;
+    for (index, byte) in text.iter().enumerate() {
+        symbol[index] = *byte;
     }
     Some(symbol)
 }

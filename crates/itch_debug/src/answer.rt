@@ -162,8 +162,7 @@ fn answer_command<A: Allocator + Copy>(
     }
 }
 
-/// Does what a line asks for, which is anything but to quit, and adds its answer. An error says that memory was
-/// refused.
+/// Does what a line asks for, which is anything but to quit, and adds its answer.
 pub(crate) fn answer<A: Allocator + Copy>(
     alloc: A,
     text: &mut Vec<u8, A>,

@@ -19,8 +19,8 @@ pub enum Next {
     Over,
 }
 
-/// Does what a line of a session asks for, and adds its answer. An error says that memory was refused; the text may
-/// then have a part of the answer.
+/// Does what a line of a session asks for, and adds its answer. After an error the text may have a part of the
+/// answer.
 pub(crate) fn put_answer<A: Allocator + Copy>(
     alloc: A,
     text: &mut Vec<u8, A>,
@@ -43,8 +43,7 @@ pub(crate) fn put_answer<A: Allocator + Copy>(
 /// Does what a line of a session asks for, and adds its answer to `text`: the lines that answer the command, and
 /// nothing for a blank line and for `quit`, which ends the session. `line` has no line feed.
 ///
-/// An error says that memory was refused. `text` is then as it was, and the debugger stands as it did or as the line
-/// makes it stand.
+/// After an error `text` is as it was, and the debugger stands as it did or as the line makes it stand.
 pub fn answer_line<A: Allocator + Copy>(
     alloc: A,
     text: &mut Vec<u8, A>,

@@ -114,7 +114,7 @@ fn put_stock<A: Allocator + Copy>(
     put_book(alloc, text, stock)
 }
 
-/// Adds the lines of a stock at the position. An error says that memory was refused.
+/// Adds the lines of a stock at the position.
 pub(crate) fn put_shown<A: Allocator + Copy>(
     alloc: A,
     text: &mut Vec<u8, A>,

@@ -5,7 +5,7 @@ ghost use Rattle.itch_engine.specs.ExitStatus.{exit_status};
 use crate::fault::ProgFault;
 use itch_text::AsmFault;
 
-/// The exit status for what an engine returned, of this project: 0 where no message was refused, 1 where some were, 2
+/// The exit status for what an engine returned: 0 where no message was refused, 1 where some were, 2
 /// where the day hasn't the stock that was asked for, 3 where input or output failed and where a file or its digits
 /// aren't taken, 4 where memory was refused, and 5 where a line of a text is faulty.
 pub fn status(returned: &Result<u32, ProgFault>) -> u8

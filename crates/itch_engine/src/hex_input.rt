@@ -22,7 +22,7 @@ fn keep_digits<A: Allocator>(input: &mut Vec<u8, A>)
 }
 
 /// The bytes that hexadecimal digits of either case denote, two digits a byte. Spaces and line feeds are passed over,
-/// also between the two digits of a byte. The form is of this project.
+/// also between the two digits of a byte.
 ///
 /// `BadHex` where what is left isn't an even number of hexadecimal digits; `Memory` where memory was refused, which
 /// says nothing of the input.

@@ -1,4 +1,4 @@
-//! What the program takes, in one file. The limits are of this project.
+//! What the program takes, in one file.
 
 /// The most bytes of a day file: 2^40.
 pub const MOST_FILE_BYTES: u64 = 1 << 40;

@@ -25,9 +25,7 @@ fn put_day<A: Allocator>(text: &mut Vec<u8, A>, day: &Day<A>) -> Result<(), Allo
 /// A payload whose type has a layout, and which has its size, is written as a message, by the mnemonic and `name=value`
 /// for each field; any other as `raw` and hexadecimal digits. Where the file is marked, `end` follows, and `rest` with
 /// the bytes after the marker where there are any; else `cut` with what is less than a whole entry, where there is
-/// something. The form is of this project, the layouts are Nasdaq TotalView-ITCH 5.0's.
-///
-/// The only error is that memory was refused. The day is unchanged.
+/// something. The day is unchanged.
 ///
 /// ```text
 /// // The bytes are b"\0\x0cS\0\0\0\0\0\0\0\0\0\0O\0\0".
@@ -66,7 +64,7 @@ fn put_between<A: Allocator>(
 /// line n of that text is message n. A number beyond the last message has no line. The memory is that of these lines,
 /// and is `alloc`'s.
 ///
-/// The only error is that memory was refused. The day is unchanged.
+/// The day is unchanged.
 pub fn disassemble_between<A: Allocator + Copy>(
     alloc: A,
     day: &Day<A>,

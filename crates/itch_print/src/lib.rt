@@ -12,6 +12,9 @@
 //! The second call makes the lines of messages 3 to 7 alone. [`quote`] and [`put_quoted`] give the quoted form of a
 //! field, and [`put_number`] a number's digits. [`reassembled`] disassembles a day and assembles that text, which gives
 //! the bytes that were loaded.
+//!
+//! The text form is of this project; the layouts of messages are those of Nasdaq TotalView-ITCH 5.0. An `AllocError`
+//! says that memory was refused.
 #![tactic(auto)]
 
 mod disassembling;

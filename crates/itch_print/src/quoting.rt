@@ -55,8 +55,8 @@ fn add_quoted<A: Allocator>(text: &mut Vec<u8, A>, field: &[u8]) -> Result<(), A
 /// Adds a field of text between quotes, without the spaces that pad it on the right.
 ///
 /// A byte from the space to the tilde that is neither the quote nor the backslash denotes itself, any other is written
-/// `\x` and its two hexadecimal digits in lower case; a field of spaces alone is `""`. The form is of this project.
-/// The only error is that memory was refused, and it leaves the text as it was.
+/// `\x` and its two hexadecimal digits in lower case; a field of spaces alone is `""`.
+/// An error leaves the text as it was.
 pub fn put_quoted<A: Allocator>(text: &mut Vec<u8, A>, field: &[u8]) -> Result<(), AllocError>
     ensures ok { Extends text.old text.new (quoted field.now) result }
     ensures err { OnErr result (text.new.items ≡ text.old.items) }
@@ -70,8 +70,6 @@ pub fn put_quoted<A: Allocator>(text: &mut Vec<u8, A>, field: &[u8]) -> Result<(
 }
 
 /// A field of text between quotes, as [`put_quoted`] adds it. Its memory is that of `alloc`.
-///
-/// The only error is that memory was refused.
 ///
 /// ```text
 /// assert_eq!(quote(Global, b"AAPL    ")?, b"\"AAPL\"");

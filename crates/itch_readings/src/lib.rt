@@ -17,7 +17,7 @@
 //! }
 //! ```
 //!
-//! The forms of lines and of names are of this project.
+//! The forms of lines and of names are of this project. An `AllocError` says that memory was refused.
 #![tactic(auto)]
 
 mod engines;

@@ -31,8 +31,7 @@ fn time_in(payload: &[u8]) -> u64
 
 /// The top of a stock after each of its messages, in the order of the day.
 ///
-/// A machine takes the messages of this stock alone, since no other message changes its rows. An error says that memory
-/// was refused.
+/// A machine takes the messages of this stock alone, since no other message changes its rows.
 pub fn tops<A: Allocator + Copy>(
     alloc: A,
     day: &Day<A>,
@@ -59,37 +58,4 @@ pub fn tops<A: Allocator + Copy>(
         }
     }
     Ok(tops)
-}
-
-#[cfg(test)]
-mod tests {
-    use super::*;
-    use binaryfile::{Feed, Limits};
-    use itch_text::assemble;
-    use std::test::Fail;
-
-    // Two stocks with a bid each, and the second one's bid goes.
-    const TEXT: &[u8] =
-        b"directory locate=1 tracking=0 time=0 stock=\"AAPL\" category=\"Q\" status=\"N\" lot=100 lots_only=\"N\" issue_class=\"C\" issue_subtype=\"Z\" authenticity=\"P\" short_sale=\"N\" ipo=\"N\" luld=\"1\" etp=\"N\" leverage=0 inverse=\"N\"\n\
-          directory locate=2 tracking=0 time=1 stock=\"MSFT\" category=\"Q\" status=\"N\" lot=100 lots_only=\"N\" issue_class=\"C\" issue_subtype=\"Z\" authenticity=\"P\" short_sale=\"N\" ipo=\"N\" luld=\"1\" etp=\"N\" leverage=0 inverse=\"N\"\n\
-          add locate=2 tracking=0 time=2 reference=7 side=\"B\" shares=20 stock=\"MSFT\" price=200\n\
-          add locate=1 tracking=0 time=3 reference=7 side=\"B\" shares=10 stock=\"AAPL\" price=100\n\
-          delete locate=2 tracking=0 time=4 reference=7\n";
-
-    #[test]
-    fn a_stock_has_a_top_after_each_of_its_messages(rt: HostRuntime) -> Result<(), Fail> {
-        let file = assemble(rt.alloc(), TEXT)?;
-        let limits = Limits {
-            bytes: 1 << 20,
-            messages: 1_000,
-        };
-        let day = Day::load(rt.alloc(), &mut Feed::new(file.as_slice()), limits)?;
-        let mut found = Vec::new(rt.alloc());
-        for moment in &tops(rt.alloc(), &day, 2)? {
-            found.push((moment.message, moment.top.bid_price, moment.top.bid_shares))?;
-        }
-        let wanted = [(2, 0, 0), (3, 200, 20), (5, 0, 0)];
-        assert!(rt; found.as_slice() == wanted.as_slice(), "found {found:?}");
-        Ok(())
-    }
 }

@@ -41,7 +41,7 @@ fn symbol_in(payload: &[u8]) -> Option<[u8; 8]>
 /// What a day's messages say of each stock, by its locate code, of 2^16 in all. The memory is that of `alloc`.
 ///
 /// A stock's symbol is that of its first directory message (Nasdaq TotalView-ITCH 5.0, "Stock Directory"), which is
-/// always applied; a later one with another symbol is refused. The only error is that memory was refused.
+/// always applied; a later one with another symbol is refused.
 pub fn list_stocks<A: Allocator + Copy>(
     alloc: A,
     day: &Day<A>,

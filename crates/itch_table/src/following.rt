@@ -33,8 +33,8 @@ fn follow_message<S: Store>(store: &mut S, msg: &Msg) -> Result<Outcome, AllocEr
 
 /// Takes a payload of any bytes over rows that hold what it may read and change, and returns what became of it.
 ///
-/// A message that is refused or passed over changes nothing. An error says that memory was refused: it comes only where
-/// the message would be applied and is one that may need a new row, and it leaves the rows as they were.
+/// A message that is refused or passed over changes nothing. An error comes only where the message would be applied and
+/// is one that may need a new row, and it leaves the rows as they were.
 ///
 /// The rows have room for an order and a trade more.
 pub fn follow<S: Store>(store: &mut S, payload: &[u8]) -> Result<Outcome, AllocError>

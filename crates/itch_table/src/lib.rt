@@ -15,7 +15,8 @@
 //! for one stock. [`follow`] follows the table over any rows that are a [`Store`].
 //!
 //! The effects are those of Nasdaq TotalView-ITCH 5.0; the faults and their numbers, parts, the words that show a top,
-//! and the laws, functions without arguments such as [`stocks_are_independent`], are of this project.
+//! and the laws, functions without arguments such as [`stocks_are_independent`], are of this project. An `AllocError`
+//! says that memory was refused.
 #![tactic(auto)]
 
 mod effects;

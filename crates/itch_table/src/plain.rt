@@ -17,8 +17,7 @@ use std::marker::Model;
 
 /// A machine that takes a day's messages one by one and follows the table of instructions over the rows of all stocks.
 ///
-/// It keeps the rows alone, and computes levels and lists from them at each call. An error of a call says that memory
-/// was refused.
+/// It keeps the rows alone, and computes levels and lists from them at each call.
 #[derive(Drop)]
 pub struct Plain<A: Allocator> {
     rows: Rows<A>,

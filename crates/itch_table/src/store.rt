@@ -15,8 +15,7 @@ use std::alloc::AllocError;
 
 /// Rows that the table of instructions can be followed over: those of all stocks, or of one.
 ///
-/// Each call is one step of an effect, or a look-up of a check. An error says that memory was refused, and leaves the
-/// rows as they were.
+/// Each call is one step of an effect, or a look-up of a check. An error leaves the rows as they were.
 pub trait Store {
     /// The rows as a world, and whose they are.
     ghost held: { Self → Held };

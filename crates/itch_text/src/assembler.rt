@@ -15,7 +15,7 @@ use thiserror::Error;
 ///
 /// A line has one fault, the first of these: `Mnemonic`, where it begins with no name of a line; `AfterEnd`, where a
 /// line of its name may not stand there; and `Field`. After a line `end`, for example, `end 1` is `AfterEnd`, and
-/// `ends` is `Mnemonic`. The rules are of this project.
+/// `ends` is `Mnemonic`.
 #[derive(Debug, Clone, Copy, PartialEq, Eq, Drop, Error)]
 pub enum AsmFault {
     /// Memory was refused. It says nothing of the text.
@@ -45,7 +45,7 @@ fn fault_at(line: u64, error: LineError) -> AsmFault
     }
 }
 
-/// The bytes of the file that a text denotes. The text form is of this project.
+/// The bytes of the file that a text denotes.
 ///
 /// A fault names the first faulty line, and then the text denotes no bytes at all; `Memory` says nothing of the text.
 /// After a fault there is no value, and the memory that was taken is given back.

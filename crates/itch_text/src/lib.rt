@@ -12,6 +12,8 @@
 //! ```
 //!
 //! [`split_word`], [`only_word`] and [`number_of_text`] read the words and numbers of other lines by the same rules.
+//!
+//! The text form is of this project; the layouts of messages are those of Nasdaq TotalView-ITCH 5.0.
 #![tactic(auto)]
 
 mod assembler;

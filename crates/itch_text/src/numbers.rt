@@ -29,8 +29,7 @@ fn value_of_digits(text: &[u8]) -> Option<u64>
     Some(value)
 }
 
-/// The number of a text of one to twenty decimal digits, or `None` where it isn't that or needs more than 64 bits. The
-/// form is of this project.
+/// The number of a text of one to twenty decimal digits, or `None` where it isn't that or needs more than 64 bits.
 pub fn number_of_text(text: &[u8]) -> Option<u64>
     ensures some { IfSome result (λ n. NumberText text.now n) }
     ensures none { IfNone result ((n : ℕ) → NumberText text.now n → n < 2 ^ 64 → ⊥) }

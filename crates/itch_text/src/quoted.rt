@@ -17,7 +17,7 @@ fn hex_byte(high: u8, low: u8) -> Option<u8>
 }
 
 /// Whether a byte denotes itself between quotes: one from the space to the tilde that is neither the quote nor the
-/// backslash. Any other is written `\x` and two hexadecimal digits. The rule is of this project.
+/// backslash. Any other is written `\x` and two hexadecimal digits.
 pub fn denotes_itself(byte: u8) -> bool
     ensures { result ≡ denotes_itself byte }
 {

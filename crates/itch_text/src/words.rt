@@ -62,7 +62,7 @@ pub fn split_word(line: &[u8]) -> Option<(&[u8], &[u8])>
     Some(line.split_at(length))
 }
 
-/// The only word of a line, or `None` where it has none or more than one. The form of a line is of this project.
+/// The only word of a line, or `None` where it has none or more than one.
 pub fn only_word(line: &[u8]) -> Option<&[u8]>
     ensures { MatchOption result
         (length (words line.now) ≢ 1)

@@ -53,7 +53,7 @@ fn seen_of_file<R: Threads + Wait + Sync, A: Allocator + Copy + Send + Sync, G: 
 /// messages, and may wait there. What `seen` is for, and what such a gate has to heed, is said at
 /// [`crate::watch_stock`].
 /// [`ProgFault::NoStock`] comes where the day has no message of the stock; other faults are those of
-/// [`itch_engine::replay_run`]. The form is of this project.
+/// [`itch_engine::replay_run`].
 pub fn watch_run<
     T: Threads + Wait + Sync,
     A: Allocator + Copy + Send + Sync,

@@ -25,8 +25,7 @@ const TRIES: u32 = 4;
 /// What a screen sees until `ended` isn't 0: a reading for each glance that shows a later message than those before.
 /// The number of that message is stored in `seen`. The caller passes the screen's own board.
 ///
-/// An error says that memory was refused, and comes at once. Else it returns only once `ended` isn't 0, which it looks
-/// at before each glance.
+/// An error comes at once. Else it returns only once `ended` isn't 0, which it looks at before each glance.
 pub fn watch<R: Wait, A: Allocator + Copy>(
     rt: &R,
     alloc: A,
@@ -194,7 +193,7 @@ fn watch_parts<R: Threads + Wait + Sync, A: Allocator + Copy + Send + Sync, G: G
 /// pass over messages, and sees none where it has no thread or was refused memory. The last message is read after the
 /// run, and isn't stored.
 ///
-/// An error says that memory was refused. It may wait at the gate, and for its threads. All is of this project.
+/// It may wait at the gate, and for its threads.
 pub fn watch_stock<R: Threads + Wait + Sync, A: Allocator + Copy + Send + Sync, G: Gate>(
     rt: &R,
     alloc: A,

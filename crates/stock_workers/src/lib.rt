@@ -13,7 +13,8 @@
 //! program can hold a worker there, and [`FreeGate`] lets all pass. [`Worker`] is one worker, whose turns the caller
 //! makes.
 //!
-//! The effects of messages are those of Nasdaq TotalView-ITCH 5.0; the rest is of this project.
+//! The effects of messages are those of Nasdaq TotalView-ITCH 5.0; the rest is of this project. An `AllocError`
+//! says that memory was refused.
 #![tactic(auto)]
 
 mod forking;

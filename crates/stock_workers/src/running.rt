@@ -112,8 +112,7 @@ fn gather<A: Allocator + Copy>(
     })
 }
 
-/// The same as [`run`], of a day that is split already: the caller passes its parts, one for each worker. An error says
-/// that memory was refused.
+/// The same as [`run`], of a day that is split already: the caller passes its parts, one for each worker.
 pub fn run_parts<R: Threads + Wait + Sync, A: Allocator + Copy + Send + Sync, G: Gate>(
     rt: &R,
     alloc: A,

@@ -55,7 +55,7 @@ impl<'p, A: Allocator + Copy> Worker<'p, A> {
     /// A worker that has done nothing yet. The caller passes the writers of its stocks, by rising locate code, none of
     /// which has published anything. A number from `parts.workers()` on has no messages and no stocks.
     ///
-    /// An error says that memory was refused; the writers are gone.
+    /// After an error the writers are gone.
     pub fn new(
         alloc: A,
         parts: &'p Parts<'p, A>,
@@ -76,9 +76,8 @@ impl<'p, A: Allocator + Copy> Worker<'p, A> {
     /// done all of them. Each message is published, also where the best bid and ask stay as they were. The caller
     /// passes the writers' board.
     ///
-    /// An error says that memory was refused, which comes only where a message is left that would be applied and may
-    /// need a new order or trade. Nothing was published and the worker is as it was, so that its next turn comes to the
-    /// gate with the same message again. It may wait at the gate, and for nothing else.
+    /// An error comes only where a message is left that would be applied and may need a new order or trade. Nothing was
+    /// published and the worker is as it was, so that its next turn comes to the gate with the same message again. It may wait at the gate, and for nothing else.
     pub fn turn<R: Threads + Wait + Sync, G: Gate>(
         &mut self,
         rt: &R,

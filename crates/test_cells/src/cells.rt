@@ -16,6 +16,7 @@ pub fn only_cell<'a, A: Allocator + Copy>(
 ) -> Result<(Board<'a, A>, TopWriter, Plain<A>), Fail>
     ensures { IfOk result (λ made. AreInStep day.now.payloads made.0 made.2 made.1) }
 {
+    // For the proof alone: it says that the day has fewer than 2^32 messages.
     let _few = day.payloads();
     let (board, mut writers) = Board::new(alloc, day)?;
     let Some(writer) = writers.pop() else {

@@ -1,4 +1,4 @@
-//! Cells that screens read: a caller to copy from, which shows a day on screens while it is replayed, and tests.
+//! Tests of the cells that screens read, and how a day is shown on them while it is replayed.
 #![tactic(auto)]
 
 mod showing;

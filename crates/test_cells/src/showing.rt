@@ -10,7 +10,7 @@ use top_cell::{Board, TopWriter};
 /// Takes the next message of a day, and shows the best bid and ask of the writer's stock after it. Returns whether
 /// there was one.
 ///
-/// An error says that memory was refused: the machine and the cell are then as they were.
+/// After an error the machine and the cell are as they were.
 pub fn show_next<A: Allocator + Copy>(
     day: &Day<A>,
     machine: &mut Plain<A>,

@@ -61,9 +61,9 @@ fn run<'h, A: Allocator + Copy>(
 // The first lines, this many of them, with their line feeds.
 fn first_lines(count: usize) -> &'static str {
     let mut left = count;
-    for (place, byte) in LINES.bytes().enumerate() {
+    for (index, byte) in LINES.bytes().enumerate() {
         if left == 0 {
-            return LINES.get(..place).unwrap_or("");
+            return LINES.get(..index).unwrap_or("");
         }
         if byte == b'\n' {
             left = left.saturating_sub(1);

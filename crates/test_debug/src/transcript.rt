@@ -34,7 +34,7 @@ struct Lines<'a, A: Allocator> {
 impl<A: Allocator> Read for Lines<'_, A> {
     fn read(&mut self, buffer: &mut [u8]) -> io::Result<usize> {
         let line = match self.left.iter().position(|byte| *byte == b'\n') {
-            Some(place) => place + 1,
+            Some(index) => index + 1,
             None => self.left.len(),
         };
         let count = line.min(buffer.len());

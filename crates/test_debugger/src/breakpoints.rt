@@ -14,10 +14,10 @@ const fn first(at: u32) -> Result<Answer, DebugFault> {
 }
 
 // A stop of the breakpoint at an index, counted from 0.
-const fn stop(at: u32, place: usize) -> Result<Answer, DebugFault> {
+const fn stop(at: u32, index: usize) -> Result<Answer, DebugFault> {
     Ok(Answer::Stopped(Stop {
         at,
-        hit: Some(place),
+        hit: Some(index),
     }))
 }
 

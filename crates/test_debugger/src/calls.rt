@@ -59,7 +59,7 @@ impl Call {
             Call::Onward => return Ok(Answer::Stopped(debugger.onward(alloc)?)),
             Call::Rearward => return Ok(Answer::Stopped(debugger.rearward(alloc)?)),
             Call::AddBreak(added) => return Ok(Answer::Place(debugger.add_break(alloc, added)?)),
-            Call::RemoveBreak(place) => return Ok(Answer::Removed(debugger.remove_break(place))),
+            Call::RemoveBreak(index) => return Ok(Answer::Removed(debugger.remove_break(index))),
             Call::Stock(locate) => return Ok(shown(&debugger.stock(alloc, locate)?)),
         }
         Ok(moved(debugger))

@@ -7,6 +7,8 @@ mod engines;
 #[cfg(test)]
 mod faults;
 #[cfg(test)]
+mod moments;
+#[cfg(test)]
 mod runs;
 #[cfg(test)]
 mod watching;

@@ -9,17 +9,17 @@ use stock_machine::Stock;
 use test_support::same;
 
 // The index of a stock's machine, which is new at the stock's first message.
-fn place_of<A: Allocator + Copy>(
+fn index_of<A: Allocator + Copy>(
     alloc: A,
     stocks: &mut Vec<Stock<A>, A>,
     locate: u16,
 ) -> Result<usize, AllocError> {
-    if let Some(place) = stocks.iter().position(|stock| stock.locate() == locate) {
-        return Ok(place);
+    if let Some(index) = stocks.iter().position(|stock| stock.locate() == locate) {
+        return Ok(index);
     }
-    let place = stocks.len();
+    let index = stocks.len();
     stocks.push(Stock::new(alloc, locate))?;
-    Ok(place)
+    Ok(index)
 }
 
 // Passes a payload to the machine of its stock, and returns its outcome.
@@ -32,12 +32,12 @@ fn take<A: Allocator + Copy>(
         Part::Nowhere(outcome) => return Ok(outcome),
         Part::Locate(locate) => locate,
     };
-    let place = place_of(alloc, stocks, locate)?;
-    match stocks.get_mut(place) {
+    let index = index_of(alloc, stocks, locate)?;
+    match stocks.get_mut(index) {
         Some(stock) if stock.locate() == locate && stock.steps() < u32::MAX => {
             Ok(stock.step(payload)?)
         }
-        _ => Err(Fail::new("a stock's machine isn't at its place")),
+        _ => Err(Fail::new("a stock's machine isn't at its index")),
     }
 }
 

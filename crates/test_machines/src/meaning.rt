@@ -70,7 +70,7 @@ fn text_of<A: Allocator>(alloc: A, quoted: &[u8]) -> Result<Vec<u8, A>, Fail> {
         }
     }
     let last = bytes.iter().rposition(|byte| *byte != b' ');
-    bytes.truncate(last.map_or(0, |place: usize| -> usize { place.saturating_add(1) }));
+    bytes.truncate(last.map_or(0, |index: usize| -> usize { index.saturating_add(1) }));
     Ok(bytes)
 }
 
@@ -82,7 +82,7 @@ fn unquoted(value: &[u8]) -> Option<&[u8]> {
 // The digits of a number without the zeros before the others.
 fn significant(digits: &[u8]) -> &[u8] {
     match digits.iter().position(|digit| *digit != b'0') {
-        Some(place) => digits.get(place..).unwrap_or(digits),
+        Some(index) => digits.get(index..).unwrap_or(digits),
         None if digits.is_empty() => digits,
         None => b"0",
     }
@@ -102,8 +102,8 @@ fn same_value<A: Allocator + Copy>(alloc: A, one: &[u8], other: &[u8]) -> Result
 
 // The name of a field, and its value.
 fn split_field(word: &[u8]) -> Option<(&[u8], &[u8])> {
-    let place = word.iter().position(|byte| *byte == b'=')?;
-    Some((word.get(..place)?, word.get(place.saturating_add(1)..)?))
+    let index = word.iter().position(|byte| *byte == b'=')?;
+    Some((word.get(..index)?, word.get(index.saturating_add(1)..)?))
 }
 
 // Whether two words that may follow the first of a line are the same field, or the same digits.

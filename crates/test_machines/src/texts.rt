@@ -10,17 +10,17 @@ use std::test::Fail;
 use test_support::{day_of, same, same_bytes};
 
 // Where the line begins that has the byte at an index.
-fn line_start(text: &[u8], place: usize) -> usize {
-    match text.iter().take(place).rposition(|byte| *byte == b'\n') {
+fn line_start(text: &[u8], index: usize) -> usize {
+    match text.iter().take(index).rposition(|byte| *byte == b'\n') {
         Some(before) => before.saturating_add(1),
         None => 0,
     }
 }
 
 // Where the lines begin that follow the one that has the byte at an index.
-fn next_line(text: &[u8], place: usize) -> usize {
-    match text.iter().skip(place).position(|byte| *byte == b'\n') {
-        Some(offset) => place.saturating_add(offset).saturating_add(1),
+fn next_line(text: &[u8], index: usize) -> usize {
+    match text.iter().skip(index).position(|byte| *byte == b'\n') {
+        Some(offset) => index.saturating_add(offset).saturating_add(1),
         None => text.len(),
     }
 }
@@ -35,9 +35,9 @@ struct Changed<'a> {
 
 impl<'a> Changed<'a> {
     // A text whose byte at an index was changed.
-    fn at(text: &'a [u8], place: usize) -> Option<Changed<'a>> {
-        let start = line_start(text, place);
-        let end = next_line(text, place.saturating_add(1));
+    fn at(text: &'a [u8], index: usize) -> Option<Changed<'a>> {
+        let start = line_start(text, index);
+        let end = next_line(text, index.saturating_add(1));
         Some(Changed {
             before: text.get(..start)?,
             line: text.get(start..end)?,
@@ -120,9 +120,9 @@ fn take_changed<A: Allocator + Copy>(
     day: &Day<A>,
     text: &[u8],
     other: &[u8],
-    place: usize,
+    index: usize,
 ) -> Result<bool, Fail> {
-    let (Some(was), Some(changed)) = (Changed::at(text, place), Changed::at(other, place)) else {
+    let (Some(was), Some(changed)) = (Changed::at(text, index), Changed::at(other, index)) else {
         return Err(Fail::new("no line"));
     };
     match assemble(alloc, other) {
@@ -164,12 +164,12 @@ pub fn compare_texts<A: Allocator + Copy>(
     let mut assembled = 0u64;
     for _ in 0..changes {
         let mut other = text.to_vec(alloc)?;
-        let place = random.random_range(0..=text.len().saturating_sub(1));
-        let Some(byte) = other.get_mut(place) else {
+        let index = random.random_range(0..=text.len().saturating_sub(1));
+        let Some(byte) = other.get_mut(index) else {
             continue;
         };
         *byte = other_byte(random, *byte);
-        if take_changed(alloc, day, &text, &other, place)? {
+        if take_changed(alloc, day, &text, &other, index)? {
             assembled = assembled.saturating_add(1);
         }
     }

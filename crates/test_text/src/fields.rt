@@ -163,11 +163,11 @@ fn put_wrong<A: Allocator>(
 }
 
 // Which word of a line stands at an index where the field at `field` is wrong.
-fn word_at(place: usize, field: usize, wrong: Wrong) -> usize {
+fn word_at(index: usize, field: usize, wrong: Wrong) -> usize {
     match wrong {
-        Wrong::Exchanged(other) if place == field => other,
-        Wrong::Exchanged(other) if place == other => field,
-        _ => place,
+        Wrong::Exchanged(other) if index == field => other,
+        Wrong::Exchanged(other) if index == other => field,
+        _ => index,
     }
 }
 
@@ -179,9 +179,9 @@ fn faulty_line<A: Allocator>(
     wrong: Wrong,
 ) -> Result<Vec<u8, A>, AllocError> {
     let mut line = Vec::new(alloc);
-    for place in 0..words.len() {
-        let word = words.get(word_at(place, field, wrong)).copied();
-        if place == field {
+    for index in 0..words.len() {
+        let word = words.get(word_at(index, field, wrong)).copied();
+        if index == field {
             put_wrong(&mut line, word.unwrap_or(b""), wrong)?;
         } else {
             put_word(&mut line, word.unwrap_or(b""))?;

@@ -38,8 +38,8 @@ const fn faulty_lines(number: u64) -> [(&'static [u8], AsmFault); 3] {
 // The good text with another line in place of the one of this number, counted from 1.
 fn text_with<A: Allocator>(alloc: A, number: u64, line: &[u8]) -> Result<Vec<u8, A>, AllocError> {
     let mut text = Vec::new(alloc);
-    for (place, good) in (1..).zip(LINES) {
-        text.extend_from_slice(if place == number { line } else { good })?;
+    for (at, good) in (1..).zip(LINES) {
+        text.extend_from_slice(if at == number { line } else { good })?;
         text.push(b'\n')?;
     }
     Ok(text)

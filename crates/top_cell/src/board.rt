@@ -83,8 +83,6 @@ fn new_cell<'a, A: Allocator>(
 impl<'a, A: Allocator + Copy> Board<'a, A> {
     /// A cell for each stock that has messages in the day, and the writer of each, by rising locate code. Each writer
     /// is before the first message, and each cell shows zeros.
-    ///
-    /// An error says that memory was refused.
     pub fn new(alloc: &'a A, day: &Day<A>) -> Result<(Board<'a, A>, Vec<TopWriter, A>), AllocError>
         ensures { IfOk result (λ made.
             AreNew day.now.payloads (locates_of_day day.now.payloads) made.0 made.1.items) }

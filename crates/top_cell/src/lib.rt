@@ -27,10 +27,9 @@
 //!
 //! [`Board::of_stocks`] is [`Board::new`] where the day is split already: it takes `parts.locates()` of `day_core`.
 //! [`Screen::read`] takes `rt`, since it may wait; [`Screen::glance`] makes a bounded number of loads.
-//! [`TopWriter::screen`] makes a screen, and [`Screen::split`] a further one. `crates/test_cells/src/showing.rt` is a
-//! caller to copy from.
+//! [`TopWriter::screen`] makes a screen, and [`Screen::split`] a further one.
 //!
-//! All is of this project.
+//! All is of this project. An `AllocError` says that memory was refused.
 #![tactic(auto)]
 
 mod board;

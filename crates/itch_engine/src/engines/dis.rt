@@ -25,7 +25,7 @@ fn text_of_file<A: Allocator + Copy>(alloc: A, input: Vec<u8, A>) -> Result<Vec<
 /// [`ProgFault::Write`] the bytes that were taken are a prefix of the text; after another fault none was sent.
 /// [`ProgFault::Read`] comes exactly where the feed has failed, [`ProgFault::TooManyBytes`] above
 /// [`MOST_FILE_BYTES`] bytes, [`ProgFault::TooManyMessages`] above [`MOST_MESSAGES`] messages, and
-/// [`ProgFault::Memory`] only where memory was refused. The text form is of this project.
+/// [`ProgFault::Memory`] only where memory was refused.
 pub fn dis_run<A: Allocator + Copy, R: Read, W: Write>(
     alloc: A,
     feed: &mut Feed<R>,

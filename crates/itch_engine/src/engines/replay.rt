@@ -37,7 +37,7 @@ pub(crate) fn report_of_file<R: Threads + Wait + Sync, A: Allocator + Copy + Sen
 /// [`MOST_FILE_BYTES`] bytes, [`ProgFault::TooManyMessages`] above [`MOST_MESSAGES`] messages, and
 /// [`ProgFault::Memory`] only where memory was refused. The report is the same for every number of workers: each
 /// replays the messages of its stocks in a thread of its own, calls the gate before each of them, and may wait there.
-/// Where no thread can be made, the work is done all the same. The report is of this project.
+/// Where no thread can be made, the work is done all the same.
 ///
 /// ```text
 /// let mut feed = Feed::new(file);

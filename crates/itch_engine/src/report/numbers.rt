@@ -5,9 +5,7 @@ ghost use Rattle.byte_strings.specs.Extending.{Extends};
 use itch_print::put_number;
 use std::alloc::{AllocError, Allocator};
 
-/// Adds a word, with the spaces that belong to it, followed by a number in decimal digits. The form is of this project.
-///
-/// An error says that memory was refused; the text may then have a part of this.
+/// Adds a word, with the spaces that belong to it, followed by a number in decimal digits.
 pub fn put_count<N: itoa::Integer, A: Allocator>(
     text: &mut Vec<u8, A>,
     word: &[u8],

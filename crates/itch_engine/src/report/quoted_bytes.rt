@@ -6,9 +6,7 @@ ghost use Rattle.itch_engine.specs.Report.{quoted_byte};
 use itch_print::put_quoted;
 use std::alloc::{AllocError, Allocator};
 
-/// Adds a byte between quotes, or `none` where there is none, as reports have it. The form is of this project.
-///
-/// An error says that memory was refused; the text may then have a part of this.
+/// Adds a byte between quotes, or `none` where there is none, as reports have it.
 pub fn put_quoted_byte<A: Allocator>(
     text: &mut Vec<u8, A>,
     byte: Option<u8>,

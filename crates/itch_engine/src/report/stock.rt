@@ -27,9 +27,7 @@ fn put_trading<A: Allocator>(
 }
 
 /// Adds the first line of a stock: its locate code, its symbol, its trading state and its short sale action, as reports
-/// have it. The line is of this project.
-///
-/// An error says that memory was refused; the text may then have a part of the line.
+/// have it.
 pub fn put_stock_line<A: Allocator>(
     text: &mut Vec<u8, A>,
     locate: u16,
@@ -63,10 +61,7 @@ fn put_level<A: Allocator>(
     Ok(())
 }
 
-/// Adds the lines of one side's levels, each with the word for the side, as reports have them. The lines are of this
-/// project.
-///
-/// An error says that memory was refused; the text may then have a part of the lines.
+/// Adds the lines of one side's levels, each with the word for the side, as reports have them.
 pub fn put_levels<A: Allocator>(
     text: &mut Vec<u8, A>,
     side: &[u8],
@@ -80,9 +75,7 @@ pub fn put_levels<A: Allocator>(
     Ok(())
 }
 
-/// Adds the line of the sums over a stock's trades, as reports have it. The line is of this project.
-///
-/// An error says that memory was refused; the text may then have a part of the line.
+/// Adds the line of the sums over a stock's trades, as reports have it.
 pub fn put_trades<A: Allocator>(text: &mut Vec<u8, A>, totals: Totals) -> Result<(), AllocError>
     ensures { Extends text.old text.new (trades_line totals) result }
 {
