@@ -9,5 +9,5 @@ touch-sum-requires g c =
     let writers = c.self.inside.writers.items in
     let here = c.index.result.now in
     let on = subst (λ (w : Working). All (IsOn c.args.board.now) w.places) (sym c.self.view_is) c.requires in
-    subst (IsOn c.args.board.now) (get_or-map (λ (w : WriterAt). w.place) writers _ here here.place (omega (arith, c.if-place-len.true, c.len.ensures)) ∙ ap (λ (w : WriterAt). w.place) (sym c.index.ensures))
-    (on _ here.place (omega (arith, c.if-place-len.true, c.len.ensures, length-map writers (λ (w : WriterAt). w.place))))
+    subst (IsOn c.args.board.now) (get_or-map (λ (w : WriterAt). w.place) writers _ here here.place (omega (arith, c.if-stock-len.true, c.len.ensures)) ∙ ap (λ (w : WriterAt). w.place) (sym c.index.ensures))
+    (on _ here.place (omega (arith, c.if-stock-len.true, c.len.ensures, length-map writers (λ (w : WriterAt). w.place))))
