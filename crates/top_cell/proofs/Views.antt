@@ -55,6 +55,7 @@ with_views words views views' o one_writer longer each = open_cell record {
   stock = o.stock;
   count = o.count;
   shown = o.shown;
+  spare = o.spare;
   number = o.number;
   writer = o.writer;
   noted = o.noted;

@@ -1,10 +1,12 @@
 -- The rule of a cell: what its count and its four words are at every moment, and what its writer and its screens
--- know. The count is odd while the writer changes the words. All is of this project.
-use Rattle.std.specs.Prelude.{◌≡◌, ◌⊎◌, ◌+◌, ◌*◌, ◌%◌, ◌<◌, ◌≤◌, ℕ, Bool, true, false, List, [], ◌∷◌, ◌++◌, length, take, drop, slice_index, slice_index_or, Option, Some, None}
+-- know. The count is odd while the writer changes the words. Spare words stand after them, which nobody uses. All is of
+-- this project.
+use Rattle.std.specs.Prelude.{◌≡◌, ◌⊎◌, ◌+◌, ◌*◌, ◌%◌, ◌<◌, ◌≤◌, ℕ, Bool, true, false, List, [], ◌∷◌, ◌++◌, length, take, drop, slice_index, slice_index_or, Option, Some, None, replicate}
 use mathlib.Core.Option.{some}
 use lib.ListN.{get_elem?}
 use Rattle.atomic_table.specs.Table.{State, Me}
 use Rattle.itch_table.specs.Shows.{Shows}
+use Rattle.top_cell.specs.declared.rule.TheConstants.{WORDS}
 use Rattle.top_cell.specs.declared.rule.DayStock.{DayStock}
 use Rattle.top_cell.specs.declared.rule.Change.{Change}
 use Rattle.top_cell.specs.declared.rule.Rest.{Rest}
@@ -114,10 +116,11 @@ pub record IsOpen (words : List ℕ) (views : List View) : Type 0 where
   pub stock : DayStock
   pub count : ℕ
   pub shown : List ℕ
+  pub spare : List ℕ
   pub number : ℕ
   pub writer : ℕ
   pub noted : List Sight
-  pub are : words ≡ count ∷ shown
+  pub are : words ≡ count ∷ (shown ++ spare)
   pub four : length shown ≡ 4
   pub at_rest : count % 2 ≡ 0 → ShowsOf stock number shown × (count ≤ 2 * number)
   pub one_writer : (v : View) × (get_elem? views writer ≡ some v) × (is_writers v ≡ true)
@@ -125,10 +128,10 @@ pub record IsOpen (words : List ℕ) (views : List View) : Type 0 where
   pub each : (seat : ℕ) (v : View) → get_elem? views seat ≡ some v
       → Fits stock count shown number writer noted seat v
 
--- the words and the views of a cell: it isn't opened yet, and has five zeros and one view that names nothing, or it
--- is open
+-- the words and the views of a cell: it isn't opened yet, and has zeros and one view that names nothing, or it is
+-- open
 pub data CellHolds (words : List ℕ) (views : List View) : Type 0 where
-  new_cell : words ≡ 0 ∷ 0 ∷ 0 ∷ 0 ∷ 0 ∷ [] → views ≡ Unopened ∷ [] → CellHolds words views
+  new_cell : words ≡ replicate WORDS 0 → views ≡ Unopened ∷ [] → CellHolds words views
   open_cell : IsOpen words views → CellHolds words views
 
 -- the rule of a cell

@@ -1,6 +1,6 @@
 -- Writer begins: the count goes up by one, the writer will put four new words, and it notes what is known at each
--- seat. The step says that there are notes; its proof takes what is known at each seat now, and the rule allows no others
--- of the counts that a screen has loaded.
+-- seat. The step says that there are notes; its proof takes what is known at each seat now, and the rule allows no
+-- others of the counts that a screen has loaded.
 use Rattle.std.specs.Prelude.{◌≡◌, ℕ, List}
 use Rattle.top_cell.specs.declared.rule.Sight.{Sight}
 use Rattle.top_cell.specs.declared.rule.View.{View}

@@ -54,6 +54,10 @@ pub enum View {
     Spent,
 }
 
+/// How many words a cell has: a count, the four words of a stock, and eight spare ones, so that no two cells' words
+/// share a line of memory of 64 bytes. Threads that publish side by side would wait for one another's lines.
+pub const WORDS: usize = 13;
+
 /// The rule that every step of a cell keeps.
 pub struct CellRule;
 
@@ -66,7 +70,7 @@ impl TableRule<(), View, u16> for CellRule {
     ghost first = { λ _. Unopened };
 }
 
-/// The count and the four words of a stock, as all threads see them. They are given the stock's locate code.
+/// The count and the words of a stock, as all threads see them. They are given the stock's locate code.
 pub type Words = Shared<(), View, u16, CellRule>;
 
 /// A cell with its memory, which it frees by a reference to its board's allocator.

@@ -16,10 +16,10 @@ use std::sync::Wait;
 
 /// One that reads a cell. It stands at the message that it has read last, and never reads an earlier one.
 ///
-/// It is seen as the cell that it belongs to, with the day and the stock that the cell shows, its seat there, the number
-/// of the message at which it stands, how often it has loaded the count or a word of the cell, how often it has loaded
-/// the count, has begun a try to read and has won one, the last count that it has loaded, and the even one at which its
-/// last try began. None of these counts ever falls.
+/// It is seen as the cell that it belongs to, with the day and the stock that the cell shows, its seat there, the
+/// number of the message at which it stands, how often it has loaded the count or a word of the cell, how often it has
+/// loaded the count, has begun a try to read and has won one, the last count that it has loaded, and the even one at
+/// which its last try began. None of these counts ever falls.
 #[derive(Drop)]
 pub struct Screen {
     pub(crate) seat: Seat,

@@ -28,7 +28,7 @@ fn take_words(cell: &Words, seat: &mut Seat) -> [u64; 4]
     words
 }
 
-// Tries once to read the words. An error is the last count that was loaded, where the writer was in the way.
+// Tries once to read the words. An error is the last count that was loaded, where the writer was changing them.
 fn try_once(cell: &Words, seat: &mut Seat) -> Result<[u64; 4], u64>
     requires seat { IsSeatOf cell.now.table_id seat.old }
     requires screen { IsScreen seat.old.me.0 }
