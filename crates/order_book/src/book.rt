@@ -30,8 +30,8 @@ use std::marker::Model;
 /// ```
 #[derive(Drop)]
 pub struct Book<A: Allocator> {
-    orders: OrderTable<A>,
     levels: Levels<A>,
+    orders: OrderTable<A>,
 }
 
 impl<A: Allocator> Model for Book<A> {

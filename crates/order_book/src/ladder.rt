@@ -45,7 +45,7 @@ impl<A: Allocator> Model for Ladder<A> {
     ghost invariant = { λ l. AreInOrder l.side l.levels.items };
 }
 
-// How many levels are looked at one by one, the best first, before all are searched by halves.
+// How many levels are looked at one by one, the best first, before a binary search of all.
 const NEAR: usize = 8;
 
 // How a price stands to another, where a worse one is less.
@@ -58,7 +58,7 @@ fn compare(side: Side, price: u32, other: u32) -> Ordering
     }
 }
 
-// The same as `index_of`, by halves.
+// The same as `index_of`, by binary search.
 fn search(levels: &[Level], side: Side, price: u32) -> Result<usize, usize>
     requires { AreInOrder side levels.now }
     ensures found { IfOk result (IsFound levels.now price) }

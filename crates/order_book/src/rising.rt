@@ -11,8 +11,8 @@ use itch_table::{Found, Order, OrderRow, Side};
 use std::alloc::{AllocError, Allocator};
 use std::marker::Model;
 
-// An order of the list. Its fields stand from the widest to the narrowest, so that it takes 20 bytes, and a search reads
-// few lines of memory.
+// An order of the list. Its fields stand from the widest to the narrowest, so that it takes 20 bytes, and a search
+// reads few lines of memory.
 #[derive(Clone, Copy)]
 struct RisenRow {
     // How far its reference is above the first.
@@ -48,8 +48,8 @@ impl RisenRow {
 /// Live orders that came with rising references.
 ///
 /// They stand in a list in the order in which they came, each with the distance of its reference from the first, and a
-/// reference is found in it by halves. An order that goes stays in the list without shares, so that no other is moved;
-/// once more than half have gone all these are dropped.
+/// reference is found in it by binary search. An order that goes stays in the list without shares, so that no other is
+/// moved; once more than half have gone all these are dropped.
 #[derive(Drop)]
 pub(crate) struct RisingOrders<A: Allocator> {
     // The reference from which distances count: that of the first order that came into the list, or a lower one.
@@ -242,8 +242,8 @@ impl<A: Allocator + Copy> RisingOrders<A> {
         }
     }
 
-    /// Adds an order that has shares, and returns true; or returns false where its reference isn't above those of all in
-    /// the list, or is too far above the first. An error leaves the orders as they were.
+    /// Adds an order that has shares, and returns true; or returns false where its reference isn't above those of all
+    /// in the list, or is too far above the first. An error leaves the orders as they were.
     pub fn push(&mut self, order: Order) -> Result<bool, AllocError>
         requires { 1 ≤ order.shares }
         ensures ok { IfOk result (λ rises. self.new ≡ (if rises then added self.old order else self.old)) }

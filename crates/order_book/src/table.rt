@@ -19,9 +19,10 @@ use std::marker::Model;
 /// no references, however they were chosen, cost much more than a look-up in the tree.
 #[derive(Drop)]
 pub(crate) struct OrderTable<A: Allocator> {
+    // What every message reads stands first, in few lines of memory.
     rising: RisingOrders<A>,
-    others: BTreeMap<u64, OrderRow, A>,
     count: usize,
+    others: BTreeMap<u64, OrderRow, A>,
 }
 
 impl<A: Allocator> Model for OrderTable<A> {
@@ -124,8 +125,8 @@ impl<A: Allocator + Copy> OrderTable<A> {
         Ok(())
     }
 
-    /// Takes shares off a live order that has at least that many, and returns the order as it was. One with none left is
-    /// gone. The hint is that of a search for it.
+    /// Takes shares off a live order that has at least that many, and returns the order as it was. One with none left
+    /// is gone. The hint is that of a search for it.
     pub fn reduce(&mut self, reference: u64, hint: usize, shares: u32) -> OrderRow
         requires { IsSomeAnd (maps.get self.old reference) (λ row. shares ≤ row.shares) }
         ensures row { maps.get self.old reference ≡ Some result }

@@ -15,7 +15,8 @@
 //! Beside [`Stock::top`] there are `level`, `levels`, `order`, `orders`, `spent`, `totals` and `status`. `tops` of
 //! `itch_readings` is a caller to copy from.
 //!
-//! An `AllocError` says that memory was refused.
+//! The effects of messages are those of Nasdaq TotalView-ITCH 5.0; the rest is of this project. An `AllocError` says
+//! that memory was refused.
 #![tactic(auto)]
 
 mod rows;

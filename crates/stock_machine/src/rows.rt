@@ -15,12 +15,13 @@ use std::marker::Model;
 /// A stock's live orders, the references that they have had, its trades, and what is known of it.
 #[derive(Drop)]
 pub(crate) struct Rows<A: Allocator> {
-    // What most messages read stands first, in few lines of memory.
+    // What every message reads stands first, in three lines of memory, and what executions read and what new orders
+    // read in others.
     book: Book<A>,
-    spent: SpentReferences<A>,
     known: Option<StockRow>,
     locate: u16,
     trades: Trades<A>,
+    spent: SpentReferences<A>,
 }
 
 impl<A: Allocator> Model for Rows<A> {

@@ -19,8 +19,7 @@ use std::marker::Model;
 /// for all stocks holds of that stock after the whole day. Prices are in 1/10,000 of a currency unit.
 ///
 /// The effects of messages are those of Nasdaq TotalView-ITCH 5.0, "Stock Related Messages", "Add Order Message",
-/// "Modify Order Messages" and "Trade Messages"; the faults, that a reference stays spent, and that a machine is of one
-/// stock, are of this project.
+/// "Modify Order Messages" and "Trade Messages".
 #[derive(Drop)]
 pub struct Stock<A: Allocator> {
     steps: u32,

@@ -57,7 +57,9 @@ impl<A: Allocator> Trades<A> {
 
     /// Reads what stands in the value itself. What it returns means nothing.
     pub fn touch(&self) -> u64 {
-        self.rows.len() as u64
+        (self.rows.len() as u64)
+            .wrapping_add(self.totals.trades)
+            .wrapping_add(u64::from(self.rising))
     }
 
     /// Reads the last trade. What it returns means nothing.
