@@ -26,7 +26,7 @@ use Rattle.itch_table.proofs.StockDays.{is_own_part, only-empty, own_next, steps
 use Rattle.stock_machine.specs.StockRows.{StockMachine}
 use Rattle.day_core.specs.declared.merging.Piece.{Piece}
 use Rattle.day_core.specs.Owners.{is_own, machine_of, own_locates, own_of, owner, part_at, piece_of, progress}
-use Rattle.day_core.specs.Workers.{IsRunner, IsTurned, MayGrowNext, TakesTurn, WorkerState, machine_at, new_machine, next_message, worker_messages, state_in, worker_locates}
+use Rattle.day_core.specs.Workers.{IsOwnMessage, IsRunner, IsTurned, MayGrowNext, TakesTurn, WorkerState, machine_at, new_machine, next_message, worker_messages, state_in, worker_locates}
 use Rattle.day_core.specs.declared.runner.Turned.{Turned}
 use Rattle.day_core.specs.Splitting.{Split}
 use Rattle.day_core.proofs.Progress.{machine_next, own_within, own_passes, progress_first, progress_kept, progress_moved}
@@ -186,6 +186,18 @@ module _ (s : WorkerState) (own : List ℕ) (own_is : own ≡ worker_messages s)
 
   pub own_is_own : is_own s.workers s.worker (part_at s.day n) ≡ true
   own_is_own = rw own_is_at (own_passes s.workers s.worker s.day i 0 own_index_within)
+
+  pub own_is_message : (day : List (List ℕ)) (locates : List ℕ) → day ≡ s.day → locates ≡ own_locates s.workers s.worker s.day → IsOwnMessage day locates n
+  own_is_message day locates same codes = record {
+    first = own_is_within.0;
+    last = omega (arith, own_is_within, ap length same);
+    whose = (
+      s.workers,
+      s.worker,
+      codes ∙ ap (own_locates s.workers s.worker) (sym same),
+      subst (λ (d : List (List ℕ)). is_own s.workers s.worker (part_at d n) ≡ true) (sym same) own_is_own,
+    );
+  }
 
 -- ---- a worker's next message
 

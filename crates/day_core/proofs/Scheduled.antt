@@ -56,7 +56,7 @@ module _ (day : List (List ℕ)) (workers : ℕ) (before : List Event) where
       let more = count_more worker (Turn worker) before in
       grind (arith, common_steps, one, more)
 
-  pub turned : (worker : ℕ) (answer : Option Piece) (new : TurnsState) → TurnsWorker (turns_after day workers before) new worker answer → new ≡ turns_after day workers (before ++ Turn worker ∷ [])
+  pub turned : (worker : ℕ) (result : Option Piece) (new : TurnsState) → TurnsWorker (turns_after day workers before) new worker result → new ≡ turns_after day workers (before ++ Turn worker ∷ [])
   turned worker None new h = turns_are day workers (before ++ Turn worker ∷ []) new (ap (λ (c : TurnsState). c.day) h.1) (ap (λ (c : TurnsState). length c.done) h.1 ∙ long) (λ k lt.
       ap (λ (c : TurnsState). get_or c.done k 0) h.1 ∙ done_at k lt
       ∙ elim (cases_eq k worker) [

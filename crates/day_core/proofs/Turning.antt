@@ -26,7 +26,7 @@ at day workers worker done = record { day = day; workers = workers; worker = wor
 abbrev pub turns_of : List (List ℕ) → List WorkerState → TurnsState
 turns_of day states = record { day = day; done = map (λ (s : WorkerState). s.done) states }
 
-moves_alone : (old new : WorkerState) (answer : Option Turned) → TakesTurn old new answer → new ≡ record old { done = new.done }
+moves_alone : (old new : WorkerState) (result : Option Turned) → TakesTurn old new result → new ≡ record old { done = new.done }
 moves_alone old new None h = h.1 ∙ ap (λ (d : ℕ). let s : WorkerState = record old { done = d } in s) (ap (λ (s : WorkerState). s.done) (sym h.1))
 moves_alone old new (Some turned) h = h.1 ∙ ap (λ (d : ℕ). let s : WorkerState = record old { done = d } in s) (ap (λ (s : WorkerState). s.done) (sym h.1))
 
@@ -34,9 +34,9 @@ module _ (day : List (List ℕ)) (states : List WorkerState) (k : ℕ) (old new 
   pub here : old ≡ at day (length states) k old.done
   here = is ∙ are.each k old lt ∙ ap (λ (s : WorkerState). at day (length states) k s.done) (sym is)
 
-  pub workers_after : (answer : Option Turned) → TakesTurn old new answer → AreWorkers day (set states k new)
-  workers_after answer h =
-      let stands : new ≡ at day (length states) k new.done = moves_alone old new answer h ∙ ap (λ (s : WorkerState). let z : WorkerState = record s { done = new.done } in z) here in
+  pub workers_after : (result : Option Turned) → TakesTurn old new result → AreWorkers day (set states k new)
+  workers_after result h =
+      let stands : new ≡ at day (length states) k new.done = moves_alone old new result h ∙ ap (λ (s : WorkerState). let z : WorkerState = record s { done = new.done } in z) here in
       record {
         some = rw (length-set states k new) are.some;
         each = λ j d below. elim (cases_eq j k) [

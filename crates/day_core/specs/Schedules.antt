@@ -63,7 +63,7 @@ SeenNeverGoesBack =
 
 -- what an event changes: a turn what a turn of its worker does, and a look nothing
 abbrev pub Changes : TurnsState → Event → TurnsState → Type 0
-Changes old (Turn worker) new = (answer : Option Piece) × TurnsWorker old new worker answer
+Changes old (Turn worker) new = (result : Option Piece) × TurnsWorker old new worker result
 Changes old (Look screen locate) new = new ≡ old
 
 -- what an event shows of workers that are this far

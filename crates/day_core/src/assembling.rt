@@ -75,9 +75,9 @@ fn all_outcomes<A: Allocator + Copy>(
     Ok(all)
 }
 
-/// Puts together what the workers of a day made of it. The caller passes for each worker, in the order of their numbers,
-/// the outcomes of its messages, by their rising numbers, and the machines of its stocks after all of them, by rising
-/// locate code.
+/// Puts together what the workers of a day made of it. The caller passes for each worker, in the order of their
+/// numbers, the outcomes of its messages, by their rising numbers, and the machines of its stocks after all of them, by
+/// rising locate code.
 ///
 /// What it returns is the same for every number of workers.
 pub fn assemble<A: Allocator + Copy>(

@@ -204,8 +204,8 @@ impl<'p, A: Allocator + Copy> Runner<'p, A> {
 }
 
 impl<'p, A: Allocator + Copy> Runner<'p, A> {
-    /// Finds the worker's next messages, of which it takes [`MOST_AHEAD`] at most, so that their turns find them at hand. No
-    /// contract says what was found: a turn looks for its message where it isn't there.
+    /// Finds the worker's next messages, of which it takes [`MOST_AHEAD`] at most, so that their turns needn't look for
+    /// them. No contract says what was found: a turn looks for its message where it isn't there.
     pub fn look_ahead(&mut self)
         ensures { self.new ≡ self.old }
     {

@@ -34,11 +34,11 @@ pub record Takes {A : Type 0} (engine : Engine A) (traffic : Traffic) (input : L
   pub within : length input ≤ engine.most
 
 -- The writer took the output that the engine makes of the whole input, and nothing else.
-pub record Finishes {A : Type 0} (engine : Engine A) (traffic : Traffic) (answer : A) : Type 0 where
+pub record Finishes {A : Type 0} (engine : Engine A) (traffic : Traffic) (result : A) : Type 0 where
   pub input : List ℕ
   pub takes : Takes engine traffic input
   pub output : List ℕ
-  pub makes : engine.Makes input output answer
+  pub makes : engine.Makes input output result
   pub wrote : Appends traffic.taken traffic.taken_after output
 
 -- The writer took a prefix of that output, not all of it, and nothing else.
@@ -46,8 +46,8 @@ pub record WritesPrefix {A : Type 0} (engine : Engine A) (traffic : Traffic) : T
   pub input : List ℕ
   pub takes : Takes engine traffic input
   pub output : List ℕ
-  pub answer : A
-  pub makes : engine.Makes input output answer
+  pub result : A
+  pub makes : engine.Makes input output result
   pub count : ℕ
   pub less : count < length output
   pub wrote : Appends traffic.taken traffic.taken_after (take count output)
@@ -67,7 +67,7 @@ Stops engine traffic Write = WritesPrefix engine traffic
 Stops engine traffic fault = Refuses engine traffic fault
 
 abbrev pub Ends : {A : Type 0} → Engine A → Traffic → Result A ProgFault → Type 0
-Ends engine traffic (Ok answer) = Finishes engine traffic answer
+Ends engine traffic (Ok result) = Finishes engine traffic result
 Ends engine traffic (Err fault) = Stops engine traffic fault
 
 -- What came in and went out, where `left` reads off a reader the bytes that it has left, and `taken` off a writer those

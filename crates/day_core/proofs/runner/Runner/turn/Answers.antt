@@ -1,28 +1,16 @@
-use Rattle.std.proofs.Common.{◌≡◌, ◌+◌, List, ℕ, length, get_or, refl, set, sym, ap, subst, ◌∙◌, arith, true}
+use Rattle.std.proofs.Common.{◌≡◌, ◌+◌, List, ℕ, length, get_or, refl, set, sym, ap, subst, ◌∙◌, arith}
 use Rattle.std.proofs.lemmas.List.{length-map, set-get_or}
 use Rattle.binaryfile.specs.Index.{IsPlace}
 use Rattle.stock_machine.specs.StockRows.{StockMachine}
-use Rattle.day_core.specs.Owners.{is_own, own_locates, part_at}
 use Rattle.day_core.specs.Workers.{IsRunner, IsTurned, MayGrowNext, WorkerState, machine_at, state_in}
-use Rattle.day_core.proofs.Running.{grows, next_own, next_within, on_err, runner_after, step_few, step_own, stock_stepped, turned_is}
+use Rattle.day_core.proofs.Running.{grows, on_err, own_is_message, runner_after, step_few, step_own, stock_stepped, turned_is}
 use Rattle.day_core.proofs.runner.Runner.turn.Goals as goal
 
 pub next_message-found-requires-clause-own : goal.next_message-found-requires-clause-own
 next_message-found-requires-clause-own g c =
     let inside = c.self.inside in
-    let same = c.day-day.ensures in
-    let within = next_within _ _ _ _ c.own-own.ensures c.self.invariant.0 _ (omega (arith, ap length c.own-own.ensures)) refl in
-    let own = next_own _ _ _ _ c.own-own.ensures c.self.invariant.0 _ (omega (arith, ap length c.own-own.ensures)) refl in
-    record {
-      first = within.0;
-      last = omega (arith, within, ap length same);
-      whose = (
-        inside.parts.now.workers,
-        inside.worker,
-        c.self.invariant.0.locates_are ∙ ap (own_locates inside.parts.now.workers inside.worker) (sym same),
-        subst (λ (day : List (List ℕ)). is_own inside.parts.now.workers inside.worker (part_at day (get_or c.own-own.result.now inside.done 0)) ≡ true) (sym same) own,
-      );
-    }
+    let state = state_in inside.parts.now inside.worker inside.done in
+    own_is_message state _ c.own-own.ensures _ inside.done (omega (arith, ap length c.own-own.ensures)) refl _ _ c.day-day.ensures c.self.invariant.0.locates_are
 
 pub next_message-found-requires-clause-near : goal.next_message-found-requires-clause-near
 next_message-found-requires-clause-near g c =
