@@ -4,6 +4,7 @@ ghost use Rattle.byte_strings.specs.Extending.{Extends};
 ghost use Rattle.itch_debug.specs.Answering.{IsBeforeOrAfter};
 ghost use Rattle.itch_debug.specs.Going.{session_of};
 ghost use Rattle.itch_debug.specs.Sessions.{reply_of};
+ghost use Rattle.itch_debug.specs.declared.session.Next.TheVariants.{Over};
 
 use crate::answer::answer;
 use crate::command::{Command, parse};
@@ -30,6 +31,7 @@ pub(crate) fn put_answer<A: Allocator + Copy>(
     ensures text { Extends text.old text.new (reply_of (Some debugger.old) line.now).text result }
     ensures next { IfOk result (λ next.
         (reply_of (Some debugger.old) line.now).next ≡ session_of next debugger.new) }
+    ensures over { IfOk result (λ next. next ≡ Over → debugger.new ≡ debugger.old) }
     ensures err { IsBeforeOrAfter debugger.old (reply_of (Some debugger.old) line.now) debugger.new result }
 {
     let command = parse(line);
@@ -41,7 +43,8 @@ pub(crate) fn put_answer<A: Allocator + Copy>(
 }
 
 /// Does what a line of a session asks for, and adds its answer to `text`: the lines that answer the command, and
-/// nothing for a blank line and for `quit`, which ends the session. `line` has no line feed.
+/// nothing for a blank line and for `quit`, which ends the session and leaves the debugger where it is. `line` has no
+/// line feed.
 ///
 /// After an error `text` is as it was, and the debugger stands as it did or as the line makes it stand.
 pub fn answer_line<A: Allocator + Copy>(
@@ -53,6 +56,7 @@ pub fn answer_line<A: Allocator + Copy>(
     ensures text { Extends text.old text.new (reply_of (Some debugger.old) line.now).text result }
     ensures next { IfOk result (λ next.
         (reply_of (Some debugger.old) line.now).next ≡ session_of next debugger.new) }
+    ensures over { IfOk result (λ next. next ≡ Over → debugger.new ≡ debugger.old) }
     ensures unchanged { OnErr result (text.new.items ≡ text.old.items) }
     ensures err { IsBeforeOrAfter debugger.old (reply_of (Some debugger.old) line.now) debugger.new result }
 {
