@@ -26,7 +26,7 @@ pub struct Limits {
 }
 
 /// A whole file in memory, seen as its payloads in order, whether an end marker follows them, and its tail: the bytes
-/// after all that (Nasdaq BinaryFILE; the marker and the tail are rules of this project).
+/// after all that.
 #[derive(Drop)]
 pub struct Day<A: Allocator> {
     bytes: Vec<u8, A>,

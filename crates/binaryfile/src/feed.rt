@@ -9,8 +9,8 @@ use std::io;
 use std::io::{ErrorKind, Read};
 use std::marker::Model;
 
-/// A feed: a reader, and whether it has failed. It fails for good at the reader's first error, of whatever kind,
-/// [`ErrorKind::Interrupted`] too (a rule of this project).
+/// A feed: a reader, and whether it has failed. It has failed from the reader's first error on, of whatever
+/// kind, [`ErrorKind::Interrupted`] too.
 ///
 /// So what was read before a failure is never taken for a whole input. A failed feed stays as it is: each later read
 /// returns an error without asking the reader.

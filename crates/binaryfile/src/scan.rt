@@ -17,7 +17,7 @@ pub(crate) struct IndexedEntries<A: Allocator> {
 }
 
 /// Where an entry of a day begins, or where the entries end. From there one of the next payloads is found sooner than
-/// by its number alone. It is of this project.
+/// by its number alone.
 #[derive(Clone, Copy)]
 pub struct Place {
     // How many entries stand before it.

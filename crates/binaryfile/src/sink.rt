@@ -5,8 +5,8 @@ ghost use Rattle.binaryfile.specs.Devices.{HasFailed, Sends, TakesSome};
 use std::io::Write;
 use std::marker::Model;
 
-/// A sink: a writer, and whether it has failed. It fails for good at the writer's first error, of whatever kind, or at
-/// its first write of some bytes that takes none of them (a rule of this project).
+/// A sink: a writer, and whether it has failed. It has failed from the writer's first error on, of whatever
+/// kind, or from its first write of some bytes that takes none of them.
 ///
 /// A failed sink stays as it is: its writer is not asked again. [`send`] writes to it.
 #[derive(Drop)]

@@ -170,7 +170,7 @@ impl<'d, A: Allocator> Breakpoints<'d, A> {
         self.breaks.get_index(index).copied()
     }
 
-    /// Removes the breakpoint at an index, and returns it. Those after it close up.
+    /// Removes the breakpoint at an index, and returns it. Those after it move down by one.
     pub fn remove(&mut self, index: usize) -> Option<Break>
         ensures removed { result ≡ slice_get self.old.breaks index }
         ensures none { IfNone result (self.new ≡ self.old) }

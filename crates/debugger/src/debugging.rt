@@ -51,8 +51,8 @@ pub struct Stop {
 /// that many, however it was reached. The debugger is seen as the day, the position, the list of the breakpoints, and
 /// how many messages of a stock lie at least from one copy of its machine to the next.
 ///
-/// A move past an end of the day is a fault, which is decided before any memory is asked for. A fault or an error leaves
-/// all as it was.
+/// A move past an end of the day is a fault, which is decided before any memory is asked for. A fault or an error
+/// leaves all as it was.
 #[derive(Drop)]
 pub struct Debugger<'d, A: Allocator> {
     day: &'d Day<A>,
@@ -202,7 +202,7 @@ impl<'d, A: Allocator + Copy> Debugger<'d, A> {
     /// Adds a breakpoint as the last, and returns its index, counted from 0; one that is there keeps its index.
     ///
     /// It goes over the day once and keeps four bytes for each message at which the breakpoint stops, so that moves
-    /// look for a stop by halves.
+    /// look for a stop by binary search.
     pub fn add_break(&mut self, alloc: A, breakpoint: Break) -> Result<usize, AllocError>
         ensures index { IfOk result (λ index. slice_get self.new.breaks index ≡ Some breakpoint) }
         ensures first { IfOk result (λ index. (earlier : ℕ) → earlier < index →
@@ -269,7 +269,7 @@ impl<'d, A: Allocator> Debugger<'d, A> {
     }
 
     /// Removes the breakpoint at an index, and returns it; none, with nothing changed, where there is none. Those
-    /// after it close up.
+    /// after it move down by one.
     pub fn remove_break(&mut self, index: usize) -> Option<Break>
         ensures removed { result ≡ slice_get self.old.breaks index }
         ensures none { IfNone result (self.new ≡ self.old) }

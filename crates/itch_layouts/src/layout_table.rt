@@ -98,7 +98,7 @@ static HEAD: [Field; 3] = [
 
 /// The fields of the head, which follows the type in every message, in the order of the payload.
 ///
-/// Nasdaq TotalView-ITCH 5.0, "Message Formats"; the names are of this project.
+/// Nasdaq TotalView-ITCH 5.0, "Message Formats".
 pub fn head_fields() -> &'static [Field]
     ensures { map as_field result.now ≡ head_fields }
 {
@@ -161,8 +161,6 @@ pub fn layout_of_kind(kind: u8) -> Option<Layout>
 }
 
 /// The layout with a mnemonic, or `None` where no layout has it.
-///
-/// The mnemonics are of this project.
 #[tactic(auto, using(crate::proofs::Finding::finding), unfolding(crate::specs::Layouts::layout_of_mnemonic))]
 pub fn layout_of_mnemonic(mnemonic: &[u8]) -> Option<Layout>
     ensures { option_map as_layout result ≡ layout_of_mnemonic mnemonic.now }

@@ -77,7 +77,7 @@ fn read_shape(payload: &[u8]) -> Shape
 
 /// Reads a payload of any bytes: the one message that it means, or why it means none.
 ///
-/// Nasdaq TotalView-ITCH 5.0, "Message Formats"; that a bad length differs from an unknown type is of this project.
+/// Nasdaq TotalView-ITCH 5.0, "Message Formats".
 ///
 /// ```text
 /// let payload = b"D\x00\x07\x00\x00\x00\x00\x00\x00\x00\x01\x00\x00\x00\x00\x00\x00\x00\x02";

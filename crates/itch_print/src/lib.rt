@@ -1,4 +1,5 @@
-//! The disassembler: the one text of a day file, with the quoted form of its fields of text and the digits of its numbers.
+//! The disassembler: the one text of a day file, with the quoted form of its fields of text and the digits of its
+//! numbers.
 //!
 //! A payload that is a message is a line of its fields by name, any other payload a line of its bytes, and the file's
 //! end follows. That text denotes the file's bytes ([`disassembly_denotes`]): what is disassembled can be assembled

@@ -4,8 +4,8 @@ ghost use Rattle.byte_strings.specs.Extending.{Extends};
 
 use std::alloc::{AllocError, Allocator};
 
-/// Adds a number in decimal digits, which fields of numbers and the lines of reports have. An error leaves the text as it
-/// was.
+/// Adds a number in decimal digits, which fields of numbers and the lines of reports have. An error leaves the text as
+/// it was.
 pub fn put_number<N: itoa::Integer, A: Allocator>(
     text: &mut Vec<u8, A>,
     number: N,

@@ -19,8 +19,8 @@ fn memory_error(fault: AsmFault) -> AllocError
 
 /// The bytes of a file, by way of its text: the day is disassembled, and the text assembled again.
 ///
-/// They are the very bytes that were loaded, whatever they are. There is no other error than of memory, since no text that is
-/// written for a file is faulty. The day is unchanged.
+/// They are the very bytes that were loaded, whatever they are. There is no other error than of memory, since no text
+/// that is written for a file is faulty. The day is unchanged.
 #[tactic(auto, using(crate::proofs::RoundTrip::round_trip))]
 pub fn reassembled<A: Allocator + Copy>(alloc: A, day: &Day<A>) -> Result<Vec<u8, A>, AllocError>
     ensures { IfOk result (λ bytes. bytes.items ≡ bytes_of day.now) }

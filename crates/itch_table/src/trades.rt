@@ -6,8 +6,8 @@ ghost use Rattle.itch_table.specs.Trades.{broken_at, is_unbroken, totals_of, tra
 
 use crate::status::Totals;
 
-/// An execution, a trade of non-displayed orders or a cross. Among those of all stocks it stands with the locate code of
-/// its stock.
+/// An execution, a trade of non-displayed orders or a cross. Among those of all stocks it stands with the locate code
+/// of its stock.
 ///
 /// Nasdaq TotalView-ITCH 5.0, "Order Executed Message", "Trade Messages" and "Broken Trade".
 #[derive(Debug, Clone, Copy, PartialEq, Eq)]

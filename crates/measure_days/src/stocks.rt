@@ -25,12 +25,12 @@ impl Tally {
 }
 
 // A list with room for the machine of each locate code, whose index is the code.
-fn places<A: Allocator + Copy>(alloc: A) -> Result<Vec<Option<Stock<A>>, A>, AllocError> {
-    let mut places = Vec::with_capacity(alloc, 1 << 16)?;
+fn machines<A: Allocator + Copy>(alloc: A) -> Result<Vec<Option<Stock<A>>, A>, AllocError> {
+    let mut machines = Vec::with_capacity(alloc, 1 << 16)?;
     for _ in 0..=u16::MAX {
-        places.push(None)?;
+        machines.push(None)?;
     }
-    Ok(places)
+    Ok(machines)
 }
 
 /// Why a day's machines weren't stepped to its end.
@@ -45,20 +45,20 @@ pub enum Halt {
 // Passes a payload to the machine of its stock, which is new at the stock's first message, and returns its outcome.
 fn take<A: Allocator + Copy>(
     alloc: A,
-    places: &mut [Option<Stock<A>>],
+    machines: &mut [Option<Stock<A>>],
     payload: &[u8],
 ) -> Result<Outcome, Halt> {
     let locate = match part(payload) {
         Part::Nowhere(outcome) => return Ok(outcome),
         Part::Locate(locate) => locate,
     };
-    let Some(place) = places.get_mut(usize::from(locate)) else {
+    let Some(machine) = machines.get_mut(usize::from(locate)) else {
         return Err(Halt::NoMachine);
     };
-    if place.is_none() {
-        *place = Some(Stock::new(alloc, locate));
+    if machine.is_none() {
+        *machine = Some(Stock::new(alloc, locate));
     }
-    match place {
+    match machine {
         Some(stock) if stock.locate() == locate && stock.steps() < u32::MAX => {
             stock.step(payload).map_err(|_| Halt::NoMemory)
         }
@@ -68,14 +68,14 @@ fn take<A: Allocator + Copy>(
 
 /// Steps the machines of all stocks over a day, and returns how many messages had each outcome.
 pub fn step_all<A: Allocator + Copy>(alloc: A, day: &Day<A>) -> Result<Tally, Halt> {
-    let mut places = places(alloc).map_err(|_| Halt::NoMemory)?;
+    let mut machines = machines(alloc).map_err(|_| Halt::NoMemory)?;
     let mut tally = Tally {
         applied: 0,
         passed: 0,
         refused: 0,
     };
     for payload in day.payloads() {
-        tally.count(take(alloc, &mut places, payload)?);
+        tally.count(take(alloc, &mut machines, payload)?);
     }
     Ok(tally)
 }

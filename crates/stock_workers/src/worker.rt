@@ -77,7 +77,8 @@ impl<'p, A: Allocator + Copy> Worker<'p, A> {
     /// passes the writers' board.
     ///
     /// An error comes only where a message is left that would be applied and may need a new order or trade. Nothing was
-    /// published and the worker is as it was, so that its next turn comes to the gate with the same message again. It may wait at the gate, and for nothing else.
+    /// published and the worker is as it was, so that its next turn comes to the gate with the same message again. It
+    /// may wait at the gate, and for nothing else.
     pub fn turn<R: Threads + Wait + Sync, G: Gate>(
         &mut self,
         rt: &R,
@@ -103,12 +104,12 @@ impl<'p, A: Allocator + Copy> Worker<'p, A> {
 }
 
 impl<'p, A: Allocator + Copy> Worker<'p, A> {
-    /// Finds the worker's next messages and reads what they are likely to need, where `wait` is 0, so that the processor
-    /// fetches the memory of all of them at once: a publish waits for all reads before it, so turns by themselves would
-    /// wait for the memory of one message after another. First the machines are read, then the cells, and then the rows
-    /// that the machines lead to, each in a loop of its own, so short that the processor is in all of its rounds at
-    /// once. A worker of few stocks does without. Nothing that is seen of the worker changes. It returns what `wait` is
-    /// after the next turn; the number depends on what was read, so that the reads aren't left out.
+    /// Finds the worker's next messages and reads what they are likely to need, where `wait` is 0, so that the
+    /// processor fetches the memory of all of them at once: a publish waits for all reads before it, so turns by
+    /// themselves would wait for the memory of one message after another. First the machines are read, then the cells,
+    /// and then the rows that the machines lead to, each in a loop of its own, so short that the processor is in all of
+    /// its rounds at once. A worker of few stocks does without. Nothing that is seen of the worker changes. It returns
+    /// what `wait` is after the next turn; the number depends on what was read, so that the reads aren't left out.
     pub(crate) fn look_ahead(&mut self, board: &Board<'_, A>, wait: usize) -> usize
         requires { All (IsOn board.now) self.old.places }
         ensures { self.new ≡ self.old }
