@@ -2,8 +2,9 @@
 //!
 //! A file is a sequence of entries: a length of two bytes, the high one first, and then a payload of that length. A
 //! length of zero is the end marker. [`Day::load`] reads a whole file and refuses none for its form: one without a
-//! marker, one that stops inside an entry and one with bytes after the marker are loaded too. What it reads from is a [`Feed`], which wraps any reader and remembers that it failed; what [`send`] writes to
-//! is a [`Sink`], which does so with any writer.
+//! marker, one that stops inside an entry and one with bytes after the marker are loaded too. What it reads from is a
+//! [`Feed`], which wraps any reader and remembers that it failed; what [`send`] writes to is a [`Sink`], which does so
+//! with any writer.
 //!
 //! `fs::open(rt, path)?` opens a file, and `rt.alloc()` is the usual allocator, where `rt` is what `main` is given:
 //!
@@ -18,8 +19,8 @@
 //! [`Day::payload`] lends the payload with a number, counted from 1; [`Day::marked`] and [`Day::tail`] say how the file
 //! ended. [`Day::from_bytes`] is a day of bytes that are in memory already.
 //!
-//! The entries are those of Nasdaq BinaryFILE. Limits, what a file is that stops early or goes on after its marker, and
-//! what a failed device does are of this project.
+//! Entries are those of Nasdaq BinaryFILE. Limits, the end marker, what stands after it or in the place of a whole
+//! entry, and what a failed device does are of this project.
 #![tactic(auto)]
 
 ghost use Rattle.binaryfile.specs.Entries.{EachHasOneSplitting};

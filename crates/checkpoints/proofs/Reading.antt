@@ -36,7 +36,8 @@ module _ (day left rest : List (List ℕ)) (n : ℕ) (before : IsReading day lef
 
 -- ---- the numbers of the messages whose payloads a predicate keeps
 
--- the first n payloads were read, these are left, and these numbers are of those that each predicate with this property keeps
+-- the first n payloads were read, these are left, and these numbers are of those that each predicate with this property
+-- keeps
 pub record IsSifting (Is : (List ℕ → Bool) → Type 0) (day left : List (List ℕ)) (n : ℕ) (numbers : List ℕ) : Type 0 where
   pub reading : IsReading day left n
   pub kept : (q : List ℕ → Bool) → Is q → numbers ≡ filter (λ k. q (payload_at day k)) (range_with_len 1 n)

@@ -181,10 +181,10 @@ module _ (s : WorkerState) (own : List ℕ) (own_is : own ≡ worker_messages s)
   pub own_is_at : n ≡ get_or (worker_messages s) i 0
   own_is_at = here ∙ ap (λ (xs : List ℕ). get_or xs i 0) own_is
 
-  pub own_is_within : (1 ≤ n) × (n ≤ length s.day)
+  own_is_within : (1 ≤ n) × (n ≤ length s.day)
   own_is_within = rw own_is_at (own_within s.workers s.worker s.day i 0 own_index_within)
 
-  pub own_is_own : is_own s.workers s.worker (part_at s.day n) ≡ true
+  own_is_own : is_own s.workers s.worker (part_at s.day n) ≡ true
   own_is_own = rw own_is_at (own_passes s.workers s.worker s.day i 0 own_index_within)
 
   pub own_is_message : (day : List (List ℕ)) (locates : List ℕ) → day ≡ s.day → locates ≡ own_locates s.workers s.worker s.day → IsOwnMessage day locates n
@@ -208,11 +208,8 @@ module _ (s : WorkerState) (own locates : List ℕ) (stocks : List StockMachine)
   pub next_is : n ≡ get_or (worker_messages s) s.done 0
   next_is = own_is_at s own own_is n s.done more next
 
-  pub next_within : (1 ≤ n) × (n ≤ length s.day)
+  next_within : (1 ≤ n) × (n ≤ length s.day)
   next_within = own_is_within s own own_is n s.done more next
-
-  pub next_own : is_own s.workers s.worker (part_at s.day n) ≡ true
-  next_own = own_is_own s own own_is n s.done more next
 
   -- the stock is as the messages before it have left it
   pub stock_before : (place : ℕ) (d : StockMachine) → place < length locates → get_or stocks place d ≡ machine_of s.day (get_or locates place 0) (n - 1)

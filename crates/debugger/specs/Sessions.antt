@@ -33,7 +33,7 @@ moved_to s n = record s { position = n }
 abbrev pub with_break : Session → Break → Session
 with_break s breakpoint = record s { breaks = s.breaks ++ breakpoint ∷ [] }
 
--- a session without the breakpoint at an index; the later ones close up
+-- a session without the breakpoint at an index; the later ones move down by one
 abbrev pub without_break : Session → ℕ → Session
 without_break s index = record s { breaks = remove s.breaks index }
 

@@ -19,7 +19,7 @@ use std::marker::Model;
 /// no references, however they were chosen, cost much more than a look-up in the tree.
 #[derive(Drop)]
 pub(crate) struct OrderTable<A: Allocator> {
-    // What every message reads stands first, in few lines of memory.
+    // What every message about an order reads stands first, in few lines of memory.
     rising: RisingOrders<A>,
     count: usize,
     others: BTreeMap<u64, OrderRow, A>,

@@ -15,8 +15,8 @@ use std::marker::Model;
 /// A stock's live orders, the references that they have had, its trades, and what is known of it.
 #[derive(Drop)]
 pub(crate) struct Rows<A: Allocator> {
-    // What every message reads stands first, in three lines of memory, and what executions read and what new orders
-    // read in others.
+    // What is read ahead for every message stands first, in few lines of memory. Then comes what executions read, and
+    // last what new orders read.
     book: Book<A>,
     known: Option<StockRow>,
     locate: u16,

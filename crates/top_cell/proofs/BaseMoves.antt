@@ -1,6 +1,6 @@
 -- Opening a cell, and what splits a view and joins two.
 use Rattle.std.proofs.Common.{◌≡◌, ◌⊎◌, ℕ, zero, suc, ◌≤◌, max, List, [], ◌∷◌, ◌++◌, length, set, Some, None, inl, inr, refl, sym, ap, ◌∙◌, subst, ⊎_elim, arith, zero-le, length-append, length-set}
-use Rattle.std.specs.Prelude.{◌-◌, replicate}
+use Rattle.std.specs.Prelude.{replicate}
 use Rattle.std.proofs.lemmas.List.{get_or_past}
 use mathlib.Core.Option.{some, some-ne-none, some-injective}
 use lib.ListN.{get_elem?}
@@ -36,7 +36,6 @@ just_opened stock = open_cell record {
   stock = stock;
   count = 0;
   shown = 0 ∷ 0 ∷ 0 ∷ 0 ∷ [];
-  spare = replicate (WORDS - 5) 0;
   number = 0;
   writer = 0;
   noted = [];

@@ -55,7 +55,6 @@ with_views words views views' o one_writer longer each = open_cell record {
   stock = o.stock;
   count = o.count;
   shown = o.shown;
-  spare = o.spare;
   number = o.number;
   writer = o.writer;
   noted = o.noted;

@@ -1,7 +1,7 @@
 -- The rule of a cell: what its count and its four words are at every moment, and what its writer and its screens
--- know. The count is odd while the writer changes the words. Spare words stand after them, which nobody uses. All is of
--- this project.
-use Rattle.std.specs.Prelude.{◌≡◌, ◌⊎◌, ◌+◌, ◌*◌, ◌%◌, ◌<◌, ◌≤◌, ℕ, Bool, true, false, List, [], ◌∷◌, ◌++◌, length, take, drop, slice_index, slice_index_or, Option, Some, None, replicate}
+-- know. The count is odd while the writer changes the words. The spare words after them stay zero. All is of this
+-- project.
+use Rattle.std.specs.Prelude.{◌≡◌, ◌⊎◌, ◌+◌, ◌-◌, ◌*◌, ◌%◌, ◌<◌, ◌≤◌, ℕ, Bool, true, false, List, [], ◌∷◌, ◌++◌, length, take, drop, slice_index, slice_index_or, Option, Some, None, replicate}
 use mathlib.Core.Option.{some}
 use lib.ListN.{get_elem?}
 use Rattle.atomic_table.specs.Table.{State, Me}
@@ -110,17 +110,20 @@ is_writers _ = false
 
 -- ---- the rule
 
+-- the words of a cell after its count and its four words
+abbrev pub spare_words : List ℕ
+spare_words = replicate (WORDS - 5) 0
+
 -- a cell that is open: while the count is even, its words show its stock after as many messages as its writer's
 -- number, and the count is at most twice that. One view is the writer's, and each view fits.
 pub record IsOpen (words : List ℕ) (views : List View) : Type 0 where
   pub stock : DayStock
   pub count : ℕ
   pub shown : List ℕ
-  pub spare : List ℕ
   pub number : ℕ
   pub writer : ℕ
   pub noted : List Sight
-  pub are : words ≡ count ∷ (shown ++ spare)
+  pub are : words ≡ count ∷ (shown ++ spare_words)
   pub four : length shown ≡ 4
   pub at_rest : count % 2 ≡ 0 → ShowsOf stock number shown × (count ≤ 2 * number)
   pub one_writer : (v : View) × (get_elem? views writer ≡ some v) × (is_writers v ≡ true)

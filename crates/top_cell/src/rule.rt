@@ -54,8 +54,9 @@ pub enum View {
     Spent,
 }
 
-/// How many words a cell has: a count, the four words of a stock, and eight spare ones, so that no two cells' words
-/// share a line of memory of 64 bytes. Threads that publish side by side would wait for one another's lines.
+/// How many words a cell has: a count, the four words of a stock, and eight spare ones that stay zero, so that no line
+/// of memory of 64 bytes has a count or words of two stocks. Threads that publish side by side would wait for one
+/// another.
 pub const WORDS: usize = 13;
 
 /// The rule that every step of a cell keeps.

@@ -72,8 +72,9 @@ impl TopWriter {
         self.message = message;
     }
 
-    /// Reads the cell's count and its last word, so that the processor fetches the cell's memory before it is published
-    /// to. It changes nothing, and what it returns means nothing. The caller passes the writer's own board.
+    /// Reads the count and the last of the four words, which lie in two lines of memory at most, so that the processor
+    /// fetches the cell's memory before it is published to. It changes nothing, and what it returns means nothing. The
+    /// caller passes the writer's own board.
     pub fn touch<A: Allocator>(&self, board: &Board<'_, A>) -> u64
         requires { IsOn board.now self.now.place }
     {

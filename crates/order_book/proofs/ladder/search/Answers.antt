@@ -12,9 +12,9 @@ returns c =
     let levels = c.args.levels.now in
     let price = c.args.price in
     let by : Level → Ordering = λ level. price_cmp c.args.side level.price price in
-    let answer : IsBinarySearchResult by levels c.binary_search_by.result =
+    let result : IsBinarySearchResult by levels c.binary_search_by.result =
     c.binary_search_by.ensures.position by (always_returns_same _ (λ a r. r ≡ by a.0.now) _ (λ a r q k. search rules)) in
     record {
-      found = found_by_search c.args.side levels price _ c.binary_search_by.ensures.bound answer;
-      missing = gap_by_search c.args.side levels price _ c.requires c.binary_search_by.ensures.bound answer;
+      found = found_by_search c.args.side levels price _ c.binary_search_by.ensures.bound result;
+      missing = gap_by_search c.args.side levels price _ c.requires c.binary_search_by.ensures.bound result;
     }
