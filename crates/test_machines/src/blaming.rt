@@ -1,5 +1,5 @@
-//! The fault of a faulty line of a text, by docs/FORMATS.md, "Texts": a second reading of the rules, which shares nothing
-//! with the assembler.
+//! The fault of a faulty line of a text, by docs/FORMATS.md, "Texts": a second reading of the rules, which shares
+//! nothing with the assembler.
 use crate::meaning::words_of;
 use itch_text::AsmFault;
 use std::alloc::{AllocError, Allocator};

@@ -29,8 +29,8 @@ const CHANGED_TEXTS: u32 = 100;
 // How many of these denote a file at least, over all days.
 const ASSEMBLED_TEXTS: u64 = 300;
 
-// Breakpoints of each kind. Times at random are below 1,000, or they are the later one of these two, so that one message
-// reaches both.
+// Breakpoints of each kind. Times at random are below 1,000, or they are the later one of these two, so that one
+// message reaches both.
 fn breakpoints() -> Result<[Break; 5], Fail> {
     let (Some(earlier), Some(later)) = (Nanos::new(1_000), Nanos::new(u64::from(u16::MAX))) else {
         return Err(Fail::new("no time"));

@@ -126,8 +126,8 @@ fn stops_rearward<A: Allocator>(mut stops: Vec<Stop, A>) -> Result<Vec<Stop, A>,
     Ok(stops)
 }
 
-// Where the debugger stops on its way to the end of the day, or to its start. At each stop all that it shows is compared
-// with the plain machine.
+// Where the debugger stops on its way to the end of the day, or to its start. At each stop all that it shows is
+// compared with the plain machine.
 fn stops_along<A: Allocator + Copy>(
     alloc: A,
     day: &Day<A>,

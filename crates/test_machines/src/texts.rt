@@ -180,8 +180,8 @@ fn other_byte(random: &mut SmallRng, was: u8) -> u8 {
 }
 
 /// Assembles the text of a day, which gives its bytes, and then that text with one byte changed, this many times: it
-/// denotes a file that differs by what that byte's line means, or that line or a later one is faulty, and its fault is of
-/// the kind that a second reading says. Returns how many denote a file.
+/// denotes a file that differs by what that byte's line means, or that line or a later one is faulty, and its fault is
+/// of the kind that a second reading says. Returns how many denote a file.
 pub fn compare_texts<A: Allocator + Copy>(
     alloc: A,
     day: &Day<A>,
