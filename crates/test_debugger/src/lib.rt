@@ -15,3 +15,5 @@ mod moves;
 mod refusals;
 #[cfg(test)]
 mod tracks;
+#[cfg(test)]
+mod trying;

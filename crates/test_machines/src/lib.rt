@@ -3,6 +3,7 @@
 //! through a debugger, and compares what they say. The program test_days calls it.
 #![tactic(auto)]
 
+mod blaming;
 mod comparing;
 mod day;
 mod meaning;

@@ -3,9 +3,9 @@
 use std::alloc::{AllocError, Allocator};
 use std::test::Fail;
 
-// The words of a line; a comment has none. Line feeds separate words too, since a changed byte may cut a line in two or
-// join two.
-fn words_of<A: Allocator>(alloc: A, line: &[u8]) -> Result<Vec<&[u8], A>, AllocError> {
+/// The words of a line; a comment has none. Line feeds separate words too, since a changed byte may cut a line in two
+/// or join two.
+pub fn words_of<A: Allocator>(alloc: A, line: &[u8]) -> Result<Vec<&[u8], A>, AllocError> {
     let line = line.strip_suffix(b"\n").unwrap_or(line);
     let mut words: Vec<&[u8], A> = Vec::new(alloc);
     let mut quoted = false;

@@ -29,9 +29,10 @@ const CHANGED_TEXTS: u32 = 100;
 // How many of these denote a file at least, over all days.
 const ASSEMBLED_TEXTS: u64 = 300;
 
-// Breakpoints of each kind.
-fn breakpoints() -> Result<[Break; 4], Fail> {
-    let Some(time) = Nanos::new(u64::from(u16::MAX)) else {
+// Breakpoints of each kind. Times at random are below 1,000, or they are the later one of these two, so that one
+// message reaches both.
+fn breakpoints() -> Result<[Break; 5], Fail> {
+    let (Some(earlier), Some(later)) = (Nanos::new(1_000), Nanos::new(u64::from(u16::MAX))) else {
         return Err(Fail::new("no time"));
     };
     Ok([
@@ -49,18 +50,16 @@ fn breakpoints() -> Result<[Break; 4], Fail> {
             locate: 2,
             reference: 5,
         },
-        Break::Time { time },
+        Break::Time { time: earlier },
+        Break::Time { time: later },
     ])
 }
 
-// Steps a debugger through a day, and lets breakpoints stop along it.
+// Steps a debugger through a day, and lets breakpoints stop another one along it.
 fn compare_moves<A: Allocator + Copy>(alloc: A, day: &Day<A>) -> Result<(), Fail> {
     let locates = locates(alloc, day)?;
     compare_walk(alloc, day, &locates)?;
-    for breakpoint in breakpoints()? {
-        compare_stops(alloc, day, breakpoint, &locates)?;
-    }
-    Ok(())
+    compare_stops(alloc, day, &breakpoints()?, &locates)
 }
 
 /// Compares the machines over a day at random of more stocks than a debugger keeps tracks of, and the debugger at each

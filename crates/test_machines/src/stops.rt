@@ -2,12 +2,12 @@
 use crate::comparing::step;
 use crate::places::same_place;
 use binaryfile::Day;
-use debugger::{Break, DebugFault, Debugger};
+use debugger::{Break, DebugFault, Debugger, Stop};
 use itch_layouts::{Nanos, Shape, read_msg};
 use itch_table::{Plain, Side};
 use std::alloc::{AllocError, Allocator};
 use std::test::Fail;
-use test_support::same_list;
+use test_support::{same, same_list};
 
 // The number that these bytes of a payload make, the highest first.
 fn number_in(payload: &[u8], from: usize, len: usize) -> u64 {
@@ -95,15 +95,46 @@ fn stops_of<A: Allocator + Copy>(
     Ok(stops)
 }
 
-// The messages at which the debugger stops on its way to the end of the day, or to its start. At each of them, and at
-// the end of the way, all that it shows is compared with the plain machine.
+// Where a debugger with these breakpoints stops on its way to the end of a day: at each message at which one of them
+// stops, with the index of the first that does, and at the last message.
+fn stops_onward<A: Allocator + Copy>(
+    alloc: A,
+    day: &Day<A>,
+    breaks: &[Break],
+) -> Result<Vec<Stop, A>, Fail> {
+    let mut lists = Vec::new(alloc);
+    for breakpoint in breaks {
+        lists.push(stops_of(alloc, day, breakpoint)?)?;
+    }
+    let mut stops = Vec::new(alloc);
+    for at in 1..=day.len() {
+        let hit = lists.iter().position(|list| list.contains(&at));
+        if hit.is_some() || at == day.len() {
+            stops.push(Stop { at, hit })?;
+        }
+    }
+    Ok(stops)
+}
+
+// Where it stops on its way back from the last message, where the way onward ends: at the earlier ones of the same
+// stops, the last of them first, and at position 0.
+fn stops_rearward<A: Allocator>(mut stops: Vec<Stop, A>) -> Result<Vec<Stop, A>, AllocError> {
+    if stops.pop().is_some() {
+        stops.reverse();
+        stops.push(Stop { at: 0, hit: None })?;
+    }
+    Ok(stops)
+}
+
+// Where the debugger stops on its way to the end of the day, or to its start. At each stop all that it shows is
+// compared with the plain machine.
 fn stops_along<A: Allocator + Copy>(
     alloc: A,
     day: &Day<A>,
     debugger: &mut Debugger<'_, A>,
     onward: bool,
     locates: &[u16],
-) -> Result<Vec<u32, A>, Fail> {
+) -> Result<Vec<Stop, A>, Fail> {
     let mut stops = Vec::new(alloc);
     for _ in 0..=day.len() {
         let moved = if onward {
@@ -117,21 +148,19 @@ fn stops_along<A: Allocator + Copy>(
             Err(DebugFault::Memory) => return Err(Fail::new("memory was refused")),
         };
         same_place(alloc, day, debugger, stop.at, locates)?;
-        if stop.hit.is_some() {
-            stops.push(stop.at)?;
-        }
+        stops.push(stop)?;
     }
     Ok(stops)
 }
 
-// Compares the messages at which the debugger stops on its way with those that are wanted.
+// Compares where the debugger stops on its way with where it is to stop.
 fn compare_way<A: Allocator + Copy>(
     alloc: A,
     day: &Day<A>,
     debugger: &mut Debugger<'_, A>,
     onward: bool,
     locates: &[u16],
-    wanted: &[u32],
+    wanted: &[Stop],
 ) -> Result<(), Fail> {
     let found = stops_along(alloc, day, debugger, onward, locates)?;
     let way = if onward {
@@ -142,27 +171,38 @@ fn compare_way<A: Allocator + Copy>(
     same_list(way, &found, wanted)
 }
 
-// The stops on the way back from the end of a day, which begins at the last message, in the order of that way.
-fn stops_back<A: Allocator>(mut stops: Vec<u32, A>, last: u32) -> Vec<u32, A> {
-    if stops.last() == Some(&last) {
-        stops.pop();
-    }
-    stops.reverse();
-    stops
+// Compares where a debugger with these breakpoints stops, from the start of a day to its end and back.
+fn compare_ways<A: Allocator + Copy>(
+    alloc: A,
+    day: &Day<A>,
+    debugger: &mut Debugger<'_, A>,
+    breaks: &[Break],
+    locates: &[u16],
+) -> Result<(), Fail> {
+    let stops = stops_onward(alloc, day, breaks)?;
+    compare_way(alloc, day, debugger, true, locates, &stops)?;
+    let stops = stops_rearward(stops)?;
+    compare_way(alloc, day, debugger, false, locates, &stops)
 }
 
-/// Compares the messages at which a breakpoint stops, on the way to the end of a day and on the way back, with those
-/// that the bytes of the messages and the plain machine give, and what the debugger shows there.
+/// Compares where a debugger with several breakpoints stops, and which of them it names there, on the way to the end of
+/// a day and on the way back, with what the bytes of the messages and the plain machine give, and what it shows there;
+/// and so again each time that its first breakpoint was removed, so that in the end each of them was the first.
 pub fn compare_stops<A: Allocator + Copy>(
     alloc: A,
     day: &Day<A>,
-    breakpoint: Break,
+    breaks: &[Break],
     locates: &[u16],
 ) -> Result<(), Fail> {
-    let stops = stops_of(alloc, day, &breakpoint)?;
     let mut debugger = Debugger::new(alloc, day, 7)?;
-    debugger.add_break(alloc, breakpoint)?;
-    compare_way(alloc, day, &mut debugger, true, locates, &stops)?;
-    let stops = stops_back(stops, day.len());
-    compare_way(alloc, day, &mut debugger, false, locates, &stops)
+    for breakpoint in breaks {
+        debugger.add_break(alloc, *breakpoint)?;
+    }
+    for removed in 0..=breaks.len() {
+        let left = breaks.get(removed..).unwrap_or(&[]);
+        compare_ways(alloc, day, &mut debugger, left, locates)?;
+        let first = debugger.remove_break(0);
+        same("a breakpoint removed", &first, &left.first().copied())?;
+    }
+    Ok(())
 }

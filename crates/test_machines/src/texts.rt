@@ -1,4 +1,5 @@
 //! The text of a day, and that text with one byte changed.
+use crate::blaming::fault_at;
 use crate::meaning::{mean_same, raw_bytes};
 use binaryfile::Day;
 use itch_print::disassemble;
@@ -25,6 +26,17 @@ fn next_line(text: &[u8], index: usize) -> usize {
     }
 }
 
+// How many lines these bytes end.
+fn line_feeds(bytes: &[u8]) -> usize {
+    let mut lines = 0usize;
+    for byte in bytes {
+        if *byte == b'\n' {
+            lines = lines.saturating_add(1);
+        }
+    }
+    lines
+}
+
 // A text with one byte changed: the lines before that byte's, its line, and the lines after it.
 #[derive(Clone, Copy)]
 struct Changed<'a> {
@@ -47,13 +59,13 @@ impl<'a> Changed<'a> {
 
     // How many lines are before the changed one.
     fn lines_before(&self) -> usize {
-        let mut lines = 0usize;
-        for byte in self.before {
-            if *byte == b'\n' {
-                lines = lines.saturating_add(1);
-            }
-        }
-        lines
+        line_feeds(self.before)
+    }
+
+    // The number of the changed line, counted from 1: of the second one where the byte became a line feed.
+    fn last_line(&self) -> usize {
+        let lines = line_feeds(self.line).max(1);
+        self.lines_before().saturating_add(lines)
     }
 }
 
@@ -114,6 +126,26 @@ fn between<'a>(text: &'a [u8], before: &[u8], after: &[u8]) -> Option<&'a [u8]> 
     text.strip_prefix(before)?.strip_suffix(after)
 }
 
+// The fault of a text with a changed byte. No earlier line than that byte's is faulty, a later one is as it was and so
+// can be faulty only by where it stands, and the kind of the fault is that of a second reading.
+fn compare_fault<A: Allocator + Copy>(
+    alloc: A,
+    text: &[u8],
+    changed: Changed<'_>,
+    fault: AsmFault,
+) -> Result<(), Fail> {
+    let line = line_of(fault);
+    if line <= changed.lines_before() as u64 {
+        return Err(Fail::new("a changed byte makes an earlier line faulty, or memory was refused"));
+    }
+    let wanted = fault_at(alloc, text, line)?;
+    same("the fault of a changed text", &fault, &wanted)?;
+    if line > changed.last_line() as u64 && wanted != AsmFault::AfterEnd(line) {
+        return Err(Fail::new("a changed byte makes the words of a later line faulty"));
+    }
+    Ok(())
+}
+
 // Assembles the text of a day whose byte at an index was changed, and returns whether it denotes a file.
 fn take_changed<A: Allocator + Copy>(
     alloc: A,
@@ -130,10 +162,10 @@ fn take_changed<A: Allocator + Copy>(
             compare_changed(alloc, file, changed, (day.bytes(), was.line))?;
             Ok(true)
         }
-        Err(fault) if line_of(fault) > changed.lines_before() as u64 => Ok(false),
-        Err(_) => Err(Fail::new(
-            "a changed byte makes an earlier line faulty, or memory was refused",
-        )),
+        Err(fault) => {
+            compare_fault(alloc, other, changed, fault)?;
+            Ok(false)
+        }
     }
 }
 
@@ -148,8 +180,8 @@ fn other_byte(random: &mut SmallRng, was: u8) -> u8 {
 }
 
 /// Assembles the text of a day, which gives its bytes, and then that text with one byte changed, this many times: it
-/// denotes a file that differs by what that byte's line means, or that line or a later one is faulty. Returns how many
-/// denote a file.
+/// denotes a file that differs by what that byte's line means, or that line or a later one is faulty, and its fault is
+/// of the kind that a second reading says. Returns how many denote a file.
 pub fn compare_texts<A: Allocator + Copy>(
     alloc: A,
     day: &Day<A>,

@@ -68,52 +68,38 @@ fn pieces_in_any_order_make_a_day(rt: HostRuntime) -> Result<(), Fail> {
     )
 }
 
+// Pieces for messages that were applied.
+fn all_applied<A: Allocator>(alloc: A, messages: &[u32]) -> Result<Vec<Piece, A>, AllocError> {
+    let mut pieces = Vec::new(alloc);
+    for message in messages {
+        pieces.push(applied(*message))?;
+    }
+    Ok(pieces)
+}
+
+// Two lists of pieces for these messages, as those of a day of two messages, have this fault.
+fn have_fault<A: Allocator + Copy>(
+    alloc: A,
+    first: &[u32],
+    second: &[u32],
+    fault: MergeFault,
+) -> Result<(), Fail> {
+    let first = all_applied(alloc, first)?;
+    let second = all_applied(alloc, second)?;
+    let found = merged(alloc, 2, &first, &second)?;
+    same("a fault", &found, &Err(fault))
+}
+
 #[test]
 fn the_first_faulty_piece_is_the_fault(rt: HostRuntime) -> Result<(), Fail> {
-    for (first, other, fault) in [
-        (
-            [applied(1)].as_slice(),
-            [applied(1)].as_slice(),
-            MergeFault::Double(1),
-        ),
-        (
-            [applied(1), applied(3)].as_slice(),
-            [].as_slice(),
-            MergeFault::Stranger(3),
-        ),
-        (
-            [applied(2)].as_slice(),
-            [].as_slice(),
-            MergeFault::Missing(1),
-        ),
-        (
-            [].as_slice(),
-            [applied(0), applied(3)].as_slice(),
-            MergeFault::Stranger(0),
-        ),
-        (
-            [applied(2)].as_slice(),
-            [applied(2), applied(5)].as_slice(),
-            MergeFault::Double(2),
-        ),
-        (
-            [applied(5), applied(2)].as_slice(),
-            [applied(2)].as_slice(),
-            MergeFault::Stranger(5),
-        ),
-        (
-            [applied(1)].as_slice(),
-            [].as_slice(),
-            MergeFault::Missing(2),
-        ),
-    ] {
-        same(
-            "a fault",
-            &merged(rt.alloc(), 2, first, other)?,
-            &Err(fault),
-        )?;
-    }
-    Ok(())
+    let alloc = rt.alloc();
+    have_fault(alloc, &[1], &[1], MergeFault::Double(1))?;
+    have_fault(alloc, &[1, 3], &[], MergeFault::Stranger(3))?;
+    have_fault(alloc, &[2], &[], MergeFault::Missing(1))?;
+    have_fault(alloc, &[], &[0, 3], MergeFault::Stranger(0))?;
+    have_fault(alloc, &[2], &[2, 5], MergeFault::Double(2))?;
+    have_fault(alloc, &[5, 2], &[2], MergeFault::Stranger(5))?;
+    have_fault(alloc, &[1], &[], MergeFault::Missing(2))
 }
 
 // Merges two lists under a refusal. Where a growth is refused, the merge is, and one with memory makes the day.

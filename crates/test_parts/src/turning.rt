@@ -184,6 +184,7 @@ fn turns_of_two_stocks() -> [After; 8] {
     let (ten, twenty) = (Some(bid(7, 10, 100)), Some(bid(7, 20, 200)));
     let unlisted = Outcome::Refused(Fault::NoDirectory);
     let unknown = Outcome::Refused(Fault::ReferenceUnknown);
+    let applied = Outcome::Applied;
     let first = stock_with(1, 1, one, None, None);
     let bought = stock_with(1, 2, one, ten, None);
     let deleted = stock_with(1, 3, one, None, None);
@@ -194,27 +195,11 @@ fn turns_of_two_stocks() -> [After; 8] {
     let third = stock_with(3, 0, None, None, None);
     let refused = stock_with(3, 1, None, None, None);
     [
-        (turned(1, Outcome::Applied, 0), Some(2), [first, new, third]),
-        (
-            turned(2, Outcome::Applied, 1),
-            Some(3),
-            [first, second, third],
-        ),
-        (
-            turned(3, Outcome::Applied, 0),
-            Some(4),
-            [bought, second, third],
-        ),
-        (
-            turned(4, Outcome::Applied, 1),
-            Some(5),
-            [bought, kept, third],
-        ),
-        (
-            turned(5, Outcome::Applied, 0),
-            Some(6),
-            [deleted, kept, third],
-        ),
+        (turned(1, applied, 0), Some(2), [first, new, third]),
+        (turned(2, applied, 1), Some(3), [first, second, third]),
+        (turned(3, applied, 0), Some(4), [bought, second, third]),
+        (turned(4, applied, 1), Some(5), [bought, kept, third]),
+        (turned(5, applied, 0), Some(6), [deleted, kept, third]),
         (turned(6, unlisted, 2), Some(7), [deleted, kept, refused]),
         (turned(7, unknown, 0), None, [last, kept, refused]),
         (None, None, [last, kept, refused]),

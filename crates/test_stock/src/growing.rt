@@ -350,53 +350,42 @@ fn a_list_or_a_copy_without_memory_is_none(rt: HostRuntime) -> Result<(), Fail> 
     Ok(())
 }
 
+// A message that is applied.
+fn applied(msg: Msg) -> (Msg, Outcome) {
+    (msg, Outcome::Applied)
+}
+
+// A message that is refused for that fault.
+fn refused(msg: Msg, fault: Fault) -> (Msg, Outcome) {
+    (msg, Outcome::Refused(fault))
+}
+
 // Messages that need no new row, after two bids and a trade, with their outcomes.
 fn without_a_new_row() -> [(Msg, Outcome); 23] {
     [
-        (AAPL.directory(), Outcome::Applied),
-        (AAPL.participant(), Outcome::Applied),
-        (AAPL.collar(), Outcome::Applied),
-        (AAPL.operational(), Outcome::Applied),
-        (AAPL.imbalance(), Outcome::Applied),
-        (AAPL.retail(), Outcome::Applied),
-        (
-            AAPL.add(1, b'B', 1, 1),
-            Outcome::Refused(Fault::ReferenceInUse),
-        ),
-        (
-            AAPL.add_mpid(3, b'B', 0, 1),
-            Outcome::Refused(Fault::ZeroShares),
-        ),
-        (
-            AAPL.replace(1, 2, 1, 1),
-            Outcome::Refused(Fault::ReferenceInUse),
-        ),
-        (
-            AAPL.add(4, b'B', 1, 1),
-            Outcome::Refused(Fault::ReferenceSpent),
-        ),
-        (
-            AAPL.replace(1, 4, 1, 1),
-            Outcome::Refused(Fault::ReferenceSpent),
-        ),
-        (AAPL.trade(b'Z', 1, 1, 1), Outcome::Refused(Fault::BadSide)),
-        (AAPL.trading(b'H', *b"T1  "), Outcome::Applied),
-        (AAPL.regsho(b'1'), Outcome::Applied),
-        (
-            AAPL.execute(1, 11, 9),
-            Outcome::Refused(Fault::TooManyShares),
-        ),
-        (
-            AAPL.execute_price(1, 1, 9, b'Z', 5),
-            Outcome::Refused(Fault::BadPrintable),
-        ),
-        (AAPL.cancel(1, 11), Outcome::Refused(Fault::TooManyShares)),
-        (AAPL.delete(9), Outcome::Refused(Fault::ReferenceUnknown)),
-        (AAPL.broken(9), Outcome::Refused(Fault::NoTrade)),
-        (AAPL.cancel(1, 4), Outcome::Applied),
-        (AAPL.cancel(1, 6), Outcome::Applied),
-        (AAPL.delete(2), Outcome::Applied),
-        (AAPL.broken(3), Outcome::Applied),
+        applied(AAPL.directory()),
+        applied(AAPL.participant()),
+        applied(AAPL.collar()),
+        applied(AAPL.operational()),
+        applied(AAPL.imbalance()),
+        applied(AAPL.retail()),
+        refused(AAPL.add(1, b'B', 1, 1), Fault::ReferenceInUse),
+        refused(AAPL.add_mpid(3, b'B', 0, 1), Fault::ZeroShares),
+        refused(AAPL.replace(1, 2, 1, 1), Fault::ReferenceInUse),
+        refused(AAPL.add(4, b'B', 1, 1), Fault::ReferenceSpent),
+        refused(AAPL.replace(1, 4, 1, 1), Fault::ReferenceSpent),
+        refused(AAPL.trade(b'Z', 1, 1, 1), Fault::BadSide),
+        applied(AAPL.trading(b'H', *b"T1  ")),
+        applied(AAPL.regsho(b'1')),
+        refused(AAPL.execute(1, 11, 9), Fault::TooManyShares),
+        refused(AAPL.execute_price(1, 1, 9, b'Z', 5), Fault::BadPrintable),
+        refused(AAPL.cancel(1, 11), Fault::TooManyShares),
+        refused(AAPL.delete(9), Fault::ReferenceUnknown),
+        refused(AAPL.broken(9), Fault::NoTrade),
+        applied(AAPL.cancel(1, 4)),
+        applied(AAPL.cancel(1, 6)),
+        applied(AAPL.delete(2)),
+        applied(AAPL.broken(3)),
     ]
 }
 

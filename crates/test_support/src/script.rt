@@ -42,6 +42,25 @@ pub fn follow<A: Allocator + Copy>(alloc: A, name: &str, script: &[Line]) -> Res
     Ok(())
 }
 
+// The only live order of a stock, in the list of orders and by its reference, or that there is none.
+fn same_order<A: Allocator + Copy>(
+    alloc: A,
+    case: &str,
+    machine: &Plain<A>,
+    locate: u16,
+    wanted: Option<Order>,
+) -> Result<(), Fail> {
+    let orders = machine.orders(alloc, locate)?;
+    let count = if wanted.is_some() { 1 } else { 0 };
+    same(
+        case,
+        &(orders.len(), orders.first().copied()),
+        &(count, wanted),
+    )?;
+    let reference = wanted.map_or(0, |order| order.reference);
+    same(case, &machine.order(locate, reference), &wanted)
+}
+
 // One line of a script.
 fn follow_line<A: Allocator + Copy>(
     alloc: A,
@@ -68,17 +87,7 @@ fn follow_line<A: Allocator + Copy>(
             let count = if wanted.is_some() { 1 } else { 0 };
             same(case, &(levels.len(), found), &(count, wanted))
         }
-        Line::Order(locate, wanted) => {
-            let orders = machine.orders(alloc, locate)?;
-            let count = if wanted.is_some() { 1 } else { 0 };
-            same(
-                case,
-                &(orders.len(), orders.first().copied()),
-                &(count, wanted),
-            )?;
-            let reference = wanted.map_or(0, |order| order.reference);
-            same(case, &machine.order(locate, reference), &wanted)
-        }
+        Line::Order(locate, wanted) => same_order(alloc, case, machine, locate, wanted),
         Line::Totals(locate, wanted) => same(case, &machine.totals(locate), &wanted),
         Line::Status(locate, wanted) => same(case, &machine.status(locate), &wanted),
         Line::Locates(wanted) => same_list(case, &machine.locates(alloc)?, wanted),

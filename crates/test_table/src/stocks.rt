@@ -9,29 +9,35 @@ const NOTHING: Status = Status {
     regsho: None,
 };
 
+const HALTED: Trading = Trading {
+    state: b'H',
+    reserved: b' ',
+    reason: *b"T1  ",
+};
+
+// An order of 10 shares, after 4 of them were executed.
+const LEFT: Order = Order {
+    reference: 1,
+    side: Side::Buy,
+    shares: 6,
+    price: 100,
+    attribution: None,
+};
+
+// That execution.
+const TRADED: Totals = Totals {
+    trades: 1,
+    shares: 4,
+    notional: 400,
+    unprinted: 0,
+};
+
 #[test]
 fn directory_rows_come_again(rt: HostRuntime) -> Result<(), Fail> {
     let known = Status {
         directory: Some(AAPL.directory_row()),
-        trading: Some(Trading {
-            state: b'H',
-            reserved: b' ',
-            reason: *b"T1  ",
-        }),
+        trading: Some(HALTED),
         regsho: Some(b'2'),
-    };
-    let left = Order {
-        reference: 1,
-        side: Side::Buy,
-        shares: 6,
-        price: 100,
-        attribution: None,
-    };
-    let traded = Totals {
-        trades: 1,
-        shares: 4,
-        notional: 400,
-        unprinted: 0,
     };
     let other = Ticker { locate: 1, ..MSFT };
     follow(
@@ -49,8 +55,8 @@ fn directory_rows_come_again(rt: HostRuntime) -> Result<(), Fail> {
             Line::Refused(other.directory(), Fault::LocateTaken),
             Line::Applied(AAPL.directory()),
             Line::Status(1, known),
-            Line::Order(1, Some(left)),
-            Line::Totals(1, traded),
+            Line::Order(1, Some(LEFT)),
+            Line::Totals(1, TRADED),
         ],
     )
 }

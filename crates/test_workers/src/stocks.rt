@@ -52,23 +52,42 @@ pub fn said_by<A: Allocator + Copy>(alloc: A, stock: &Stock<A>) -> Option<Said> 
     })
 }
 
-/// What a machine says after this many messages, of which the first is the stock's directory message and the second
-/// adds order 7, where this one is a bid of these shares, and where there is none if these are 0.
-pub fn with_bid(stock: Ticker, steps: u32, price: u32, shares: u32) -> Said {
-    let order = Order {
+// Order 7 as a bid.
+fn bid_7(price: u32, shares: u32) -> Order {
+    Order {
         reference: 7,
         side: Side::Buy,
         shares,
         price,
         attribution: None,
-    };
+    }
+}
+
+// What is known of a stock after this many messages, of which the first is its directory message.
+fn status_after(stock: Ticker, steps: u32) -> Status {
+    Status {
+        directory: if steps > 0 {
+            Some(stock.directory_row())
+        } else {
+            None
+        },
+        trading: None,
+        regsho: None,
+    }
+}
+
+/// What a machine says after this many messages, of which the first is the stock's directory message and the second
+/// adds order 7, where this one is a bid of these shares, and where there is none if these are 0.
+pub fn with_bid(stock: Ticker, steps: u32, price: u32, shares: u32) -> Said {
     let level = Level {
         price,
         shares: u64::from(shares),
     };
-    let has_bid = shares > 0;
-    let count = if has_bid { 1 } else { 0 };
-    let order = if has_bid { Some(order) } else { None };
+    let (count, order, bid) = if shares > 0 {
+        (1, Some(bid_7(price, shares)), Some(level))
+    } else {
+        (0, None, None)
+    };
     Said {
         locate: stock.locate,
         steps,
@@ -79,20 +98,12 @@ pub fn with_bid(stock: Ticker, steps: u32, price: u32, shares: u32) -> Said {
             ask_shares: 0,
         },
         totals: Totals::NONE,
-        status: Status {
-            directory: if steps > 0 {
-                Some(stock.directory_row())
-            } else {
-                None
-            },
-            trading: None,
-            regsho: None,
-        },
+        status: status_after(stock, steps),
         order,
         spent: steps >= 2,
         level: level.shares,
         orders: (count, order),
-        bids: (count, if has_bid { Some(level) } else { None }),
+        bids: (count, bid),
         asks: (0, None),
     }
 }
