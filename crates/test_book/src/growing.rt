@@ -107,7 +107,8 @@ fn shows_bids<A: Allocator + Copy>(
     )
 }
 
-// Replaces order 2 under a refusal. Where that is refused, the order and the levels stay, and it is replaced with memory.
+// Replaces order 2 under a refusal. Where that is refused, the order and the levels stay, and it is replaced with
+// memory.
 fn replace_under(heap: &Refusing<Global>, refusal: Refusal) -> Result<Tried, Fail> {
     let replacement = Call::Replace(2, 5, 50, 11);
     let mut book = Book::new(heap);
@@ -314,8 +315,8 @@ fn shares_and_orders_go_without_memory(rt: HostRuntime) -> Result<(), Fail> {
     )
 }
 
-// A list that kept all of the orders that have gone would grow from a few rows to 10,000, and to do so by doubling takes
-// more growths than are allowed here.
+// A list that kept all of the orders that have gone would grow from a few rows to 10,000, and to do so by doubling
+// takes more growths than are allowed here.
 #[test]
 fn orders_that_have_gone_take_no_more_memory(rt: HostRuntime) -> Result<(), Fail> {
     let heap = Refusing::new(rt.alloc(), Refusal::Never);

@@ -1,5 +1,5 @@
 //! Where breakpoints stop, both ways.
-use crate::calls::{Answer, Call, follow};
+use crate::calls::{Call, Returned, follow};
 use crate::days::{BIDS, time_break, timed, tour};
 use binaryfile::Day;
 use debugger::{Break, DebugFault, Debugger, Stop};
@@ -9,21 +9,21 @@ use std::test::Fail;
 use test_support::{AAPL, same, system};
 
 // A stop of the first breakpoint.
-const fn first(at: u32) -> Result<Answer, DebugFault> {
-    Ok(Answer::Stopped(Stop { at, hit: Some(0) }))
+const fn first(at: u32) -> Result<Returned, DebugFault> {
+    Ok(Returned::Stopped(Stop { at, hit: Some(0) }))
 }
 
 // A stop of the breakpoint at an index, counted from 0.
-const fn stop(at: u32, index: usize) -> Result<Answer, DebugFault> {
-    Ok(Answer::Stopped(Stop {
+const fn stop(at: u32, index: usize) -> Result<Returned, DebugFault> {
+    Ok(Returned::Stopped(Stop {
         at,
         hit: Some(index),
     }))
 }
 
 // The end of the day or its start, where no breakpoint stops.
-const fn none(at: u32) -> Result<Answer, DebugFault> {
-    Ok(Answer::Stopped(Stop { at, hit: None }))
+const fn none(at: u32) -> Result<Returned, DebugFault> {
+    Ok(Returned::Stopped(Stop { at, hit: None }))
 }
 
 #[test]
@@ -32,20 +32,20 @@ fn breakpoints_are_a_list(rt: HostRuntime) -> Result<(), Fail> {
     let day = tour(alloc)?;
     let mut debugger = Debugger::new(alloc, &day, 1_000)?;
     let script = [
-        (Call::AddBreak(BIDS), Ok(Answer::Place(0))),
-        (Call::AddBreak(time_break(3)?), Ok(Answer::Place(1))),
-        (Call::AddBreak(BIDS), Ok(Answer::Place(0))),
-        (Call::RemoveBreak(0), Ok(Answer::Removed(Some(BIDS)))),
-        (Call::RemoveBreak(1), Ok(Answer::Removed(None))),
-        (Call::AddBreak(time_break(3)?), Ok(Answer::Place(0))),
+        (Call::AddBreak(BIDS), Ok(Returned::Added(0))),
+        (Call::AddBreak(time_break(3)?), Ok(Returned::Added(1))),
+        (Call::AddBreak(BIDS), Ok(Returned::Added(0))),
+        (Call::RemoveBreak(0), Ok(Returned::Removed(Some(BIDS)))),
+        (Call::RemoveBreak(1), Ok(Returned::Removed(None))),
+        (Call::AddBreak(time_break(3)?), Ok(Returned::Added(0))),
         (Call::Onward, first(4)),
         (Call::Onward, none(7)),
         (Call::Onward, Err(DebugFault::PastEnd)),
         (Call::Rearward, first(4)),
         (Call::Rearward, none(0)),
         (Call::Rearward, Err(DebugFault::BeforeStart)),
-        (Call::Step, Ok(Answer::Moved(1, Some(Outcome::Applied)))),
-        (Call::Back, Ok(Answer::Moved(0, None))),
+        (Call::Step, Ok(Returned::Moved(1, Some(Outcome::Applied)))),
+        (Call::Back, Ok(Returned::Moved(0, None))),
     ];
     follow(alloc, &mut debugger, &script)?;
     same("no event", &debugger.event(), &None)
@@ -57,7 +57,7 @@ fn a_level_stops_where_its_shares_change(rt: HostRuntime) -> Result<(), Fail> {
     let day = tour(alloc)?;
     let mut debugger = Debugger::new(alloc, &day, 1_000)?;
     let script = [
-        (Call::AddBreak(BIDS), Ok(Answer::Place(0))),
+        (Call::AddBreak(BIDS), Ok(Returned::Added(0))),
         (Call::Onward, first(2)),
         (Call::Onward, first(3)),
         (Call::Onward, first(5)),
@@ -87,12 +87,12 @@ fn a_reference_stops_where_it_is_named(rt: HostRuntime) -> Result<(), Fail> {
     let refused = Some(Outcome::Refused(Fault::ReferenceInUse));
     let mut debugger = Debugger::new(alloc, &day, 1_000)?;
     let script = [
-        (Call::AddBreak(named), Ok(Answer::Place(0))),
+        (Call::AddBreak(named), Ok(Returned::Added(0))),
         (Call::Onward, first(2)),
         (Call::Onward, first(3)),
         (Call::Onward, first(4)),
         (Call::Rearward, first(3)),
-        (Call::Goto(3), Ok(Answer::Moved(3, refused))),
+        (Call::Goto(3), Ok(Returned::Moved(3, refused))),
     ];
     follow(alloc, &mut debugger, &script)
 }
@@ -104,7 +104,7 @@ fn a_time_stops_once(rt: HostRuntime) -> Result<(), Fail> {
     let day = timed(alloc, &[(10, event), (30, event), (20, event), (40, event)])?;
     let mut debugger = Debugger::new(alloc, &day, 1_000)?;
     let script = [
-        (Call::AddBreak(time_break(25)?), Ok(Answer::Place(0))),
+        (Call::AddBreak(time_break(25)?), Ok(Returned::Added(0))),
         (Call::Onward, first(2)),
         (Call::Onward, none(4)),
         (Call::Rearward, first(2)),
@@ -141,10 +141,10 @@ fn the_first_that_stops_is_named(rt: HostRuntime) -> Result<(), Fail> {
     };
     let mut debugger = Debugger::new(alloc, &day, 1_000)?;
     let script = [
-        (Call::AddBreak(time_break(6)?), Ok(Answer::Place(0))),
-        (Call::AddBreak(named), Ok(Answer::Place(1))),
-        (Call::AddBreak(BIDS), Ok(Answer::Place(2))),
-        (Call::AddBreak(time_break(4)?), Ok(Answer::Place(3))),
+        (Call::AddBreak(time_break(6)?), Ok(Returned::Added(0))),
+        (Call::AddBreak(named), Ok(Returned::Added(1))),
+        (Call::AddBreak(BIDS), Ok(Returned::Added(2))),
+        (Call::AddBreak(time_break(4)?), Ok(Returned::Added(3))),
         (Call::Onward, stop(2, 1)),
         (Call::Onward, stop(3, 2)),
         (Call::Onward, stop(4, 1)),
@@ -153,9 +153,9 @@ fn the_first_that_stops_is_named(rt: HostRuntime) -> Result<(), Fail> {
         (Call::Onward, stop(7, 0)),
         (Call::Rearward, stop(6, 1)),
         (Call::Rearward, stop(5, 3)),
-        (Call::RemoveBreak(1), Ok(Answer::Removed(Some(named)))),
+        (Call::RemoveBreak(1), Ok(Returned::Removed(Some(named)))),
         (Call::Rearward, stop(4, 1)),
-        (Call::AddBreak(named), Ok(Answer::Place(3))),
+        (Call::AddBreak(named), Ok(Returned::Added(3))),
         (Call::Rearward, stop(3, 1)),
         (Call::Onward, stop(4, 1)),
         (Call::Onward, stop(5, 2)),

@@ -21,13 +21,13 @@ pub enum Call {
 
 /// What a call returns.
 #[derive(Debug, Clone, Copy, PartialEq, Eq)]
-pub enum Answer {
+pub enum Returned {
     /// A move by a number, with the position and the outcome there.
     Moved(u32, Option<Outcome>),
     /// A search.
     Stopped(Stop),
-    /// A breakpoint's index.
-    Place(usize),
+    /// The index of the breakpoint that was added.
+    Added(usize),
     /// The breakpoint that was removed.
     Removed(Option<Break>),
     /// A stock's best bid and ask, its totals, its trading state, and whether reference 1 is spent.
@@ -35,14 +35,14 @@ pub enum Answer {
 }
 
 // The result of a move by a number.
-fn moved<A: Allocator>(debugger: &Debugger<'_, A>) -> Answer {
-    Answer::Moved(debugger.position(), debugger.outcome())
+fn moved<A: Allocator>(debugger: &Debugger<'_, A>) -> Returned {
+    Returned::Moved(debugger.position(), debugger.outcome())
 }
 
 // What is shown of a stock.
-fn shown<A: Allocator + Copy>(stock: &Stock<A>) -> Answer {
+fn shown<A: Allocator + Copy>(stock: &Stock<A>) -> Returned {
     let state = stock.status().trading.map(|trading| trading.state);
-    Answer::Shown(stock.top(), stock.totals(), state, stock.spent(1))
+    Returned::Shown(stock.top(), stock.totals(), state, stock.spent(1))
 }
 
 impl Call {
@@ -51,15 +51,15 @@ impl Call {
         &self,
         alloc: A,
         debugger: &mut Debugger<'_, A>,
-    ) -> Result<Answer, DebugFault> {
+    ) -> Result<Returned, DebugFault> {
         match *self {
             Call::Goto(n) => debugger.goto(alloc, n)?,
             Call::Step => debugger.step(alloc)?,
             Call::Back => debugger.back(alloc)?,
-            Call::Onward => return Ok(Answer::Stopped(debugger.onward(alloc)?)),
-            Call::Rearward => return Ok(Answer::Stopped(debugger.rearward(alloc)?)),
-            Call::AddBreak(added) => return Ok(Answer::Place(debugger.add_break(alloc, added)?)),
-            Call::RemoveBreak(index) => return Ok(Answer::Removed(debugger.remove_break(index))),
+            Call::Onward => return Ok(Returned::Stopped(debugger.onward(alloc)?)),
+            Call::Rearward => return Ok(Returned::Stopped(debugger.rearward(alloc)?)),
+            Call::AddBreak(added) => return Ok(Returned::Added(debugger.add_break(alloc, added)?)),
+            Call::RemoveBreak(index) => return Ok(Returned::Removed(debugger.remove_break(index))),
             Call::Stock(locate) => return Ok(shown(&debugger.stock(alloc, locate)?)),
         }
         Ok(moved(debugger))
@@ -70,7 +70,7 @@ impl Call {
 pub fn follow<A: Allocator + Copy>(
     alloc: A,
     debugger: &mut Debugger<'_, A>,
-    script: &[(Call, Result<Answer, DebugFault>)],
+    script: &[(Call, Result<Returned, DebugFault>)],
 ) -> Result<(), Fail> {
     for (call, wanted) in script {
         let found = call.make(alloc, debugger);

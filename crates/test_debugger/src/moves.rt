@@ -1,13 +1,13 @@
 //! Moves by numbers, and what a stock is at a position.
-use crate::calls::{Answer, Call, follow};
+use crate::calls::{Call, Returned, follow};
 use crate::days::tour;
 use debugger::{DebugFault, Debugger};
 use itch_table::{Outcome, Top, Totals};
 use std::test::Fail;
 
 // To a message that was applied.
-const fn applied(n: u32) -> Result<Answer, DebugFault> {
-    Ok(Answer::Moved(n, Some(Outcome::Applied)))
+const fn applied(n: u32) -> Result<Returned, DebugFault> {
+    Ok(Returned::Moved(n, Some(Outcome::Applied)))
 }
 
 // The stock in its halt, with a bid of these shares and these totals of trades.
@@ -16,7 +16,7 @@ const fn halted(
     trades: u64,
     shares: u128,
     notional: u128,
-) -> Result<Answer, DebugFault> {
+) -> Result<Returned, DebugFault> {
     let top = Top {
         bid_price: if bid_shares == 0 { 0 } else { 1_500_000 },
         bid_shares,
@@ -29,11 +29,11 @@ const fn halted(
         notional,
         unprinted: 0,
     };
-    Ok(Answer::Shown(top, totals, Some(b'H'), true))
+    Ok(Returned::Shown(top, totals, Some(b'H'), true))
 }
 
 // The stock before its first message.
-const NOTHING: Answer = Answer::Shown(
+const NOTHING: Returned = Returned::Shown(
     Top {
         bid_price: 0,
         bid_shares: 0,
@@ -53,7 +53,7 @@ fn a_tour_shows_the_stock_at_each_place(rt: HostRuntime) -> Result<(), Fail> {
     let script = [
         (Call::Goto(5), applied(5)),
         (Call::Stock(1), halted(50, 2, 50, 75_000_000)),
-        (Call::Goto(0), Ok(Answer::Moved(0, None))),
+        (Call::Goto(0), Ok(Returned::Moved(0, None))),
         (Call::Stock(1), Ok(NOTHING)),
         (Call::Back, Err(DebugFault::BeforeStart)),
         (Call::Goto(6), applied(6)),

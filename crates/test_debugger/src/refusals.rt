@@ -1,5 +1,5 @@
 //! A debugger whose memory is refused.
-use crate::calls::{Answer, Call, follow};
+use crate::calls::{Call, Returned, follow};
 use crate::days::{BIDS, time_break, tour};
 use crate::trying::made_under;
 use debugger::{Break, DebugFault, Debugger};
@@ -34,15 +34,15 @@ fn seen_of<A: Allocator>(debugger: &Debugger<'_, A>) -> Seen {
 // What a call returns, and what the debugger is then.
 #[derive(Debug, Clone, Copy, PartialEq, Eq)]
 struct Done {
-    answer: Result<Answer, DebugFault>,
+    result: Result<Returned, DebugFault>,
     seen: Seen,
 }
 
 // Makes a call.
 fn done_by<A: Allocator + Copy>(alloc: A, debugger: &mut Debugger<'_, A>, call: &Call) -> Done {
-    let answer = call.make(alloc, debugger);
+    let result = call.make(alloc, debugger);
     Done {
-        answer,
+        result,
         seen: seen_of(debugger),
     }
 }
@@ -57,7 +57,7 @@ fn set_at_3<A: Allocator + Copy>(
 }
 
 // The stock at that place: a bid of which a part was executed.
-const AT_3: Answer = Answer::Shown(
+const AT_3: Returned = Returned::Shown(
     Top {
         bid_price: 1_500_000,
         bid_shares: 60,
@@ -88,7 +88,7 @@ fn call_under<'h>(
     set_at_3(heap, twin)?;
     heap.restart(refusal);
     let mut done = done_by(heap, debugger, &call);
-    let tried = heap.tried(done.answer == Err(DebugFault::Memory));
+    let tried = heap.tried(done.result == Err(DebugFault::Memory));
     if tried.refused {
         same("after a refusal", &done.seen, &seen_of(twin))?;
         if let Refusal::From(_) = refusal {
@@ -165,8 +165,8 @@ fn some_calls_take_no_memory(rt: HostRuntime) -> Result<(), Fail> {
     same("with no memory", &seen_of(&debugger), &before)?;
     let script = [
         (Call::Goto(8), Err(DebugFault::PastEnd)),
-        (Call::RemoveBreak(1), Ok(Answer::Removed(None))),
-        (Call::RemoveBreak(0), Ok(Answer::Removed(Some(BIDS)))),
+        (Call::RemoveBreak(1), Ok(Returned::Removed(None))),
+        (Call::RemoveBreak(0), Ok(Returned::Removed(Some(BIDS)))),
     ];
     follow(&heap, &mut debugger, &script)?;
     let after = (debugger.position(), debugger.break_len(), heap.asked());

@@ -35,8 +35,8 @@ fn steps_at<A: Allocator + Copy>(
     let mut steps = vec![in alloc; 0u32; locates.len()]?;
     for payload in day.payloads().take(n as usize) {
         if let Part::Locate(locate) = part(payload)
-            && let Ok(place) = locates.binary_search(&locate)
-            && let Some(count) = steps.get_mut(place)
+            && let Ok(index) = locates.binary_search(&locate)
+            && let Some(count) = steps.get_mut(index)
         {
             *count = count.saturating_add(1);
         }
