@@ -41,8 +41,8 @@ fn engines_write_their_output(rt: HostRuntime) -> Result<(), Fail> {
     Ok(())
 }
 
-// Counts how often workers come to a message, and how often the one of this number does, and adds up the numbers of these
-// messages.
+// Counts how often workers come to a message, and how often the one of this number does, and adds up the numbers of
+// these messages.
 #[derive(Drop)]
 struct Counting {
     owner: u32,
