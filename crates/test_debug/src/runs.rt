@@ -45,12 +45,13 @@ fn lines_are_answered_however_the_reader_gives_them(rt: HostRuntime) -> Result<(
     Ok(())
 }
 
+// The first two lines have 12 bytes. The reader fails at its first call after the one that gives the last of them.
 #[test]
-fn nothing_is_answered_after_quit(rt: HostRuntime) -> Result<(), Fail> {
-    for most in [1, 2, 100] {
+fn nothing_is_read_or_answered_after_quit(rt: HostRuntime) -> Result<(), Fail> {
+    for (most, failing) in [(1, 13), (2, 7), (100, 2)] {
         run(
             rt.alloc(),
-            Pieces::new(b"goto 0\nquit\nback\n", most),
+            Pieces::failing(b"goto 0\nquit\nback\n", most, failing, ErrorKind::Other),
             0,
             None,
             b"at 0 start\n",

@@ -3,6 +3,8 @@ use crate::engines::{ENGINES, Engine};
 use binaryfile::{Feed, Sink};
 use day_core::WorkerCount;
 use itch_engine::{ProgFault, replay_run};
+use itch_readings::StockName;
+use itch_watch::watch_run;
 use std::io::ErrorKind;
 use std::sync::Wait;
 use std::sync::atomic::{AtomicU64, Ordering};
@@ -39,14 +41,38 @@ fn engines_write_their_output(rt: HostRuntime) -> Result<(), Fail> {
     Ok(())
 }
 
-// Counts how often workers come to a message, and how often the one of this number does, and adds up the numbers of these
-// messages.
+// Counts how often workers come to a message, and how often the one of this number does, and adds up the numbers of
+// these messages.
 #[derive(Drop)]
 struct Counting {
     owner: u32,
     calls: AtomicU64,
     own: AtomicU64,
     sum: AtomicU64,
+}
+
+impl Counting {
+    // Nobody has come yet. The owner has the stock of this locate code.
+    fn new(locate: u32, workers: WorkerCount) -> Counting {
+        Counting {
+            owner: locate % workers.get(),
+            calls: AtomicU64::new(0),
+            own: AtomicU64::new(0),
+            sum: AtomicU64::new(0),
+        }
+    }
+
+    // Compares the calls, the owner's calls and the sum of the messages with these.
+    fn compare(&self, workers: u32, wanted: (u64, u64, u64)) -> Result<(), Fail> {
+        let calls = self.calls.load(Ordering::SeqCst);
+        let own = self.own.load(Ordering::SeqCst);
+        let sum = self.sum.load(Ordering::SeqCst);
+        same(
+            "calls of the gate",
+            &(workers, (calls, own, sum)),
+            &(workers, wanted),
+        )
+    }
 }
 
 impl Gate for Counting {
@@ -59,19 +85,17 @@ impl Gate for Counting {
     }
 }
 
+// This many workers.
+fn worker_count(workers: u32) -> Result<WorkerCount, Fail> {
+    WorkerCount::new(workers).ok_or_else(|| Fail::new("a run has 1 to 64 workers"))
+}
+
 // A replay of the worked file by this many workers. Of them the one that has the stock of locate code 1 comes to
 // messages 1 and 2, the only ones of a stock.
-fn try_workers<T: AllocGlobal + Threads + Wait + Sync>(rt: &T, workers: u32) -> Result<(), Fail> {
+fn try_replay<T: AllocGlobal + Threads + Wait + Sync>(rt: &T, workers: u32) -> Result<(), Fail> {
     let mut output = Vec::new(rt.alloc());
-    let Some(count) = WorkerCount::new(workers) else {
-        return Err(Fail::new("a replay has 1 to 64 workers"));
-    };
-    let gate = Counting {
-        owner: 1 % count.get(),
-        calls: AtomicU64::new(0),
-        own: AtomicU64::new(0),
-        sum: AtomicU64::new(0),
-    };
+    let count = worker_count(workers)?;
+    let gate = Counting::new(1, count);
     let returned = replay_run(
         rt,
         rt.alloc(),
@@ -82,20 +106,42 @@ fn try_workers<T: AllocGlobal + Threads + Wait + Sync>(rt: &T, workers: u32) -> 
     );
     same("a result", &(workers, returned), &(workers, Ok(1)))?;
     same_bytes("a report", &output, REPORT)?;
-    let calls = gate.calls.load(Ordering::SeqCst);
-    let own = gate.own.load(Ordering::SeqCst);
-    let sum = gate.sum.load(Ordering::SeqCst);
-    same(
-        "calls of the gate",
-        &(workers, calls, own, sum),
-        &(workers, 2, 2, 3),
-    )
+    gate.compare(workers, (2, 2, 3))
 }
 
+// What a screen sees while this many workers replay the file of two stocks, whose seven messages are all of a stock. Of
+// the workers the one that has the stock of locate code 3 comes to this many of them.
+fn try_watch<T: AllocGlobal + Threads + Wait + Sync>(
+    rt: &T,
+    workers: u32,
+    own: u64,
+) -> Result<(), Fail> {
+    let engine = Engine::Watch;
+    let mut output = Vec::new(rt.alloc());
+    let count = worker_count(workers)?;
+    let gate = Counting::new(3, count);
+    let returned = watch_run(
+        rt,
+        rt.alloc(),
+        &mut Feed::new(engine.input()),
+        &mut Sink::new(&mut output),
+        StockName::Locate(3),
+        count,
+        &gate,
+        &AtomicU64::new(0),
+    );
+    same("a result", &(workers, returned), &(workers, Ok(())))?;
+    same_bytes("what a screen sees", &output, engine.output())?;
+    gate.compare(workers, (7, own, 28))
+}
+
+// Messages 1, 3, 5 and 7 of the file of two stocks are of locate code 1, messages 2 and 4 of 2, and message 6 of 3. Two
+// workers have one list for 1 and 3.
 #[test]
-fn reports_are_the_same_for_all_numbers_of_workers(rt: HostRuntime) -> Result<(), Fail> {
-    for workers in [1, 2, 3, 64] {
-        try_workers(&rt, workers)?;
+fn outputs_are_the_same_for_all_numbers_of_workers(rt: HostRuntime) -> Result<(), Fail> {
+    for (workers, own) in [(1, 7), (2, 5), (3, 1), (64, 1)] {
+        try_replay(&rt, workers)?;
+        try_watch(&rt, workers, own)?;
     }
     Ok(())
 }

@@ -13,10 +13,11 @@ use test_support::{same, same_bytes};
 // How often a worker that is held looks whether it may go on, at most; each time other threads may run.
 const LOOKS: u32 = 1_000_000;
 
-// Holds a worker at each message until the screen has seen the one before.
+// Holds a worker at each message until the screen has seen the one before, and counts how often it gave that up.
 #[derive(Drop)]
 struct Following<'a> {
     seen: &'a AtomicU64,
+    given_up: AtomicU64,
 }
 
 impl Gate for Following<'_> {
@@ -27,6 +28,7 @@ impl Gate for Following<'_> {
             }
             yield_now();
         }
+        self.given_up.fetch_add(1, Ordering::SeqCst);
     }
 }
 
@@ -41,9 +43,14 @@ const SEEN: &[u8] = b"at 1 bid none ask none\n\
       at 2 bid 1010000 100 ask none\n\
       at 3 bid 1010000 100 ask 1000000 50\n";
 
+// The last message may be seen before the run ends, or read after it alone.
 #[test]
 fn a_screen_that_workers_wait_for_sees_every_message(rt: HostRuntime) -> Result<(), Fail> {
     let seen = AtomicU64::new(0);
+    let gate = Following {
+        seen: &seen,
+        given_up: AtomicU64::new(0),
+    };
     let mut output = Vec::new(rt.alloc());
     let returned = watch_run(
         &rt,
@@ -52,9 +59,16 @@ fn a_screen_that_workers_wait_for_sees_every_message(rt: HostRuntime) -> Result<
         &mut Sink::new(&mut output),
         StockName::Symbol(*b"AAPL    "),
         WorkerCount::ONE,
-        &Following { seen: &seen },
+        &gate,
         &seen,
     );
     same("a result", &returned, &Ok(()))?;
-    same_bytes("what a screen sees", &output, SEEN)
+    same_bytes("what a screen sees", &output, SEEN)?;
+    let given_up = gate.given_up.load(Ordering::SeqCst);
+    let last = seen.load(Ordering::SeqCst);
+    same(
+        "how often a worker wasn't followed, and whether the last message seen is 2 or 3",
+        &(given_up, last == 2 || last == 3),
+        &(0, true),
+    )
 }

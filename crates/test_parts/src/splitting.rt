@@ -1,7 +1,7 @@
 //! Days that are split among workers.
 use crate::days::{add_entry, day_of, parts_of, two_stocks};
 use binaryfile::Day;
-use day_core::{Parts, Piece, SplitFault, split};
+use day_core::{Event, Parts, Piece, Seen, SplitFault, Turns, WorkerCount, play, split};
 use itch_table::Outcome;
 use std::alloc::{Allocator, Global};
 use std::test::Fail;
@@ -51,7 +51,18 @@ fn a_system_event_is_of_no_stock(rt: HostRuntime) -> Result<(), Fail> {
         outcome: Outcome::Applied,
     };
     same_list("the messages of no stock", parts.fixed(), &[wanted])?;
-    same("the event", &parts.event(), &Some(b'O'))
+    same("the event", &parts.event(), &Some(b'O'))?;
+    let mut turns = Turns::new(rt.alloc(), &parts)?;
+    same("a turn", &turns.turn(0)?, &None)?;
+    let (screen, locate, words) = (7, 1, [0; 4]);
+    let events = [Event::Turn(1), Event::Look { screen, locate }];
+    let seen = play(&rt, rt.alloc(), &day, 2, &events)?;
+    let wanted = Seen {
+        screen,
+        locate,
+        words,
+    };
+    same_list("what is seen", &seen, &[wanted])
 }
 
 // The number is looked at before any growth.
@@ -70,7 +81,7 @@ fn a_day_is_split_for_1_to_64_workers(rt: HostRuntime) -> Result<(), Fail> {
         let found = split(&rt, &heap, &day, workers).map(|parts| parts.workers());
         same("a number of workers", &(workers, found), &(workers, wanted))?;
     }
-    Ok(())
+    same("the least number", &WorkerCount::ONE.get(), &1)
 }
 
 #[test]

@@ -85,7 +85,12 @@ fn a_worker_does_its_messages_in_order(rt: HostRuntime) -> Result<(), Fail> {
         &others,
         &(None, None),
     )?;
-    same("how many stocks", &runner.into_stocks().len(), &2)
+    same("how many stocks", &runner.into_stocks().len(), &2)?;
+    let mut other = Runner::new(rt.alloc(), &parts, 5)?;
+    let nothing = (5, 0, None, [None; 3]);
+    same("no worker", &said_by(rt.alloc(), &other)?, &nothing)?;
+    take("a turn of no worker", &mut other, None)?;
+    same("its stocks", &other.into_stocks().len(), &0)
 }
 
 // What a replay of the two stocks returns.

@@ -1,5 +1,6 @@
 //! One worker, turn by turn.
-ghost use Rattle.std.specs.Prelude.{◌≡◌, All, IfOk};
+ghost use Rattle.std.specs.Prelude.{◌≡◌, [], All, IfOk, map};
+ghost use Rattle.itch_table.specs.Shows.{locates_of_day};
 ghost use Rattle.top_cell.specs.Boards.{IsOn};
 ghost use Rattle.stock_workers.specs.Running.{IsWaiting};
 
@@ -14,7 +15,9 @@ use std::test::Fail;
 use std::thread::Threads;
 use stock_workers::{FreeGate, Gate, Worker};
 use test_refusing::{Refusal, Refusing, Tried, refuse_any, refuse_each};
-use test_support::{AAPL, MSFT, Ticker, crossed_book, same, same_list, two_stocks};
+use test_support::{
+    AAPL, MSFT, Ticker, crossed_book, day_with, same, same_list, system, two_stocks,
+};
 use top_cell::{Board, Reading, Screen, TopWriter};
 
 /// The writers of the only worker of a day, their board, and a screen of the day's first stock.
@@ -142,6 +145,33 @@ fn a_screen_reads_what_each_turn_leaves(rt: HostRuntime) -> Result<(), Fail> {
         (None, crossed),
     ];
     follow(&rt, &board, &mut worker, &mut screen, &mut turns, &wanted)
+}
+
+// A worker of a number that is no worker's. The day of the parts has no stock.
+#[tactic(auto, unfolding(day_core::specs::Owners::own_locates))]
+fn no_worker<'p, A: Allocator + Copy>(
+    alloc: A,
+    parts: &'p Parts<'p, A>,
+    writers: Vec<TopWriter, A>,
+) -> Result<Worker<'p, A>, Fail>
+    requires { map (λ w. w.place.locate) writers.items ≡ locates_of_day parts.now.day }
+    ensures { IfOk result (λ worker. worker.places ≡ []) }
+{
+    if !writers.is_empty() {
+        return Err(Fail::new("a writer of a day without a stock"));
+    }
+    Ok(Worker::new(alloc, parts, 5, writers)?)
+}
+
+#[test]
+fn a_number_of_no_worker_has_no_turn(rt: HostRuntime) -> Result<(), Fail> {
+    let alloc = rt.alloc();
+    let day = day_with(alloc, &[system(0, b'O')])?;
+    let parts = split(&rt, alloc, &day, 2)?;
+    let (board, writers) = Board::new(&alloc, &day)?;
+    let mut worker = no_worker(alloc, &parts, writers)?;
+    let returned = turn(&rt, &board, &mut worker, &FreeGate)?;
+    same("a turn", &returned, &None)
 }
 
 // Makes the only worker of the two stocks under a refusal. Where it is refused, the parts are as they were.
