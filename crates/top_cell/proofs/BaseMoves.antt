@@ -1,6 +1,5 @@
 -- Opening a cell, and what splits a view and joins two.
 use Rattle.std.proofs.Common.{◌≡◌, ◌⊎◌, ℕ, zero, suc, ◌≤◌, max, List, [], ◌∷◌, ◌++◌, length, set, Some, None, inl, inr, refl, sym, ap, ◌∙◌, subst, ⊎_elim, arith, zero-le, length-append, length-set}
-use Rattle.std.specs.Prelude.{replicate}
 use Rattle.std.proofs.lemmas.List.{get_or_past}
 use mathlib.Core.Option.{some, some-ne-none, some-injective}
 use lib.ListN.{get_elem?}
@@ -12,7 +11,6 @@ use Rattle.top_cell.specs.Opens.{Opened}
 use Rattle.top_cell.specs.Splits.{screen_beside}
 use Rattle.top_cell.specs.Joins.{joined}
 use Rattle.top_cell.proofs.Views.{Finds, only_seat, open_at, all_fit, writer_stays, unmoved, with_views, screen_turns}
-use Rattle.top_cell.specs.declared.rule.TheConstants.{WORDS}
 use Rattle.top_cell.specs.declared.rule.DayStock.{DayStock}
 use Rattle.top_cell.specs.declared.rule.Rest.{Rest}
 use Rattle.top_cell.specs.declared.rule.Sight.{Sight}
@@ -31,7 +29,7 @@ not_screen s v e = cc
 no_words : (words : List ℕ) → None ≡ Some words → ⊥
 no_words words e = cc
 
-just_opened : (stock : DayStock) → CellHolds (replicate WORDS 0) (WriterOf stock (rest 0 []) ∷ [])
+just_opened : (stock : DayStock) → CellHolds (0 ∷ 0 ∷ 0 ∷ 0 ∷ 0 ∷ []) (WriterOf stock (rest 0 []) ∷ [])
 just_opened stock = open_cell record {
   stock = stock;
   count = 0;
@@ -134,5 +132,5 @@ module _ {S : Type 0} where
   pub screens_join_as : (id other : ℕ) (v w : View) (s t : DayStock) (x y : Sight) → v ≡ ScreenOf s x → w ≡ ScreenOf t y → Joins {S = S} CellRule id v other w (joined v w) Spent
   screens_join_as id other v w s t x y is that = subst (λ (z : View × View). Joins {S = S} CellRule id z.0 other z.1 (joined z.0 z.1) Spent) (λ i. (sym is i, sym that i)) (screens_join id other s t x y)
 
-pub begins : CellHolds (replicate WORDS 0) (Unopened ∷ [])
+pub begins : CellHolds (0 ∷ 0 ∷ 0 ∷ 0 ∷ 0 ∷ []) (Unopened ∷ [])
 begins = new_cell refl refl

@@ -5,7 +5,7 @@ use Rattle.std.specs.Prelude.{slice_index}
 use mathlib.Core.Logic.{dite}
 use native.Mathlib.Decide.{ℕ_discrete}
 use Rattle.atomic_table.specs.Table.{Me, keeps, Allows}
-use Rattle.top_cell.specs.Rule.{IsAboveNoteOrNow, IsNotedOrNow, ShowsOf, Sees, CellRule, Turns, note_of, number_in, sight, spare_words}
+use Rattle.top_cell.specs.Rule.{IsAboveNoteOrNow, IsNotedOrNow, ShowsOf, Sees, CellRule, Turns, note_of, number_in, sight}
 use Rattle.top_cell.specs.ReaderBegins.{ReaderBegun}
 use Rattle.top_cell.specs.ReaderTakes.{ReaderTook}
 use Rattle.top_cell.specs.ReaderEnds.{ReaderEnded}
@@ -41,7 +41,7 @@ module _ {S : Type 0} where
       let r : ℕ = slice_index st.words 0 in
       let o = open_at st.words st.views id (ScreenOf s v) (not_screen s v) h at in
       let mine = (o.each id (ScreenOf s v) at).1 in
-      let is : r ≡ o.count = count_is st.words o.count (o.shown ++ spare_words) o.are in
+      let is : r ≡ o.count = count_is st.words o.count o.shown o.are in
       let risen : v.last ≤ r = omega (arith, is, mine.last) in
       let up : v.began ≤ r = omega (arith, is, mine.began) in
       let note = note_of o.noted id in
@@ -64,7 +64,7 @@ module _ {S : Type 0} where
       let r : ℕ = slice_index st.words (i + 1) in
       let o = open_at st.words st.views id (ScreenOf s v) (not_screen s v) h at in
       let mine = (o.each id (ScreenOf s v) at).1 in
-      let is : r ≡ slice_index o.shown i = word_is st.words o.count o.shown spare_words i o.are (omega (arith, o.four, few)) in
+      let is : r ≡ slice_index o.shown i = word_is st.words o.count o.shown i o.are in
       let v' = sight v.number (v.loads + 1) v.looks v.tries v.wins v.last v.began (Some (taken ++ r ∷ [])) in
       let more : o.count ≡ v.began → taken ++ r ∷ [] ≡ take (length (taken ++ r ∷ [])) o.shown =
       λ still.
@@ -85,7 +85,7 @@ module _ {S : Type 0} where
       let r : ℕ = slice_index st.words 0 in
       let o = open_at st.words st.views id (ScreenOf s v) (not_screen s v) h at in
       let mine = (o.each id (ScreenOf s v) at).1 in
-      let is : r ≡ o.count = count_is st.words o.count (o.shown ++ spare_words) o.are in
+      let is : r ≡ o.count = count_is st.words o.count o.shown o.are in
       let note = note_of o.noted id in
       let looked = once_more note.looks note.last v.looks v.last o.count r mine.looked is in
       let none : (n wins : ℕ) → n ≤ o.number → IsAboveNoteOrNow note.wins note.number wins n o.number → Sees o.count o.shown o.number note (sight n (v.loads + 1) (v.looks + 1) v.tries wins r v.began None) =

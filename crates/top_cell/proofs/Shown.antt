@@ -1,26 +1,22 @@
 -- The count and the words of a cell as one list.
 use Rattle.std.proofs.Common.{◌≡◌, ℕ, zero, suc, ◌+◌, ◌<◌, ◌≤◌, List, [], ◌∷◌, ◌++◌, length, get_or, take, drop, set, refl, sym, ap, ◌∙◌, subst, arith, add-one, take_all, drop_of_length-le, append-nil}
 use Rattle.std.specs.Prelude.{slice_index}
-use Rattle.std.proofs.lemmas.List.{get_or_append_left, set-append_left}
 use Rattle.itch_table.specs.Shows.{words_of, top_after}
 use Rattle.itch_table.specs.declared.order.Top.{Top}
 use Rattle.top_cell.specs.Rule.{ShowsOf, number_in}
 use Rattle.top_cell.specs.declared.rule.DayStock.{DayStock}
 
-pub count_is : (words : List ℕ) (count : ℕ) (rest : List ℕ) → words ≡ count ∷ rest → slice_index words 0 ≡ count
-count_is words count rest are = ap (λ ws. slice_index ws 0) are
+pub count_is : (words : List ℕ) (count : ℕ) (shown : List ℕ) → words ≡ count ∷ shown → slice_index words 0 ≡ count
+count_is words count shown are = ap (λ ws. slice_index ws 0) are
 
-pub word_is : (words : List ℕ) (count : ℕ) (shown spare : List ℕ) (i : ℕ) → words ≡ count ∷ (shown ++ spare) → i < length shown → slice_index words (i + 1) ≡ slice_index shown i
-word_is words count shown spare i are few =
-    ap (λ ws. slice_index ws (i + 1)) are ∙ (ap (λ k. slice_index (count ∷ (shown ++ spare)) k) (add-one i) ∙ get_or_append_left shown spare 0 i few)
+pub word_is : (words : List ℕ) (count : ℕ) (shown : List ℕ) (i : ℕ) → words ≡ count ∷ shown → slice_index words (i + 1) ≡ slice_index shown i
+word_is words count shown i are = ap (λ ws. slice_index ws (i + 1)) are ∙ ap (λ k. slice_index (count ∷ shown) k) (add-one i)
 
-pub set_count : (words : List ℕ) (count : ℕ) (rest : List ℕ) (n : ℕ) → words ≡ count ∷ rest → set words 0 n ≡ n ∷ rest
-set_count words count rest n are = ap (λ ws. set ws 0 n) are
+pub set_count : (words : List ℕ) (count : ℕ) (shown : List ℕ) (n : ℕ) → words ≡ count ∷ shown → set words 0 n ≡ n ∷ shown
+set_count words count shown n are = ap (λ ws. set ws 0 n) are
 
-pub set_word : (words : List ℕ) (count : ℕ) (shown spare : List ℕ) (i n : ℕ) → words ≡ count ∷ (shown ++ spare) → i < length shown → set words (i + 1) n ≡ count ∷ (set shown i n ++ spare)
-set_word words count shown spare i n are few =
-    ap (λ ws. set ws (i + 1) n) are
-    ∙ (ap (λ k. set (count ∷ (shown ++ spare)) k n) (add-one i) ∙ ap (λ zs. count ∷ zs) (set-append_left shown spare i n few))
+pub set_word : (words : List ℕ) (count : ℕ) (shown : List ℕ) (i n : ℕ) → words ≡ count ∷ shown → set words (i + 1) n ≡ count ∷ set shown i n
+set_word words count shown i n are = ap (λ ws. set ws (i + 1) n) are ∙ ap (λ k. set (count ∷ shown) k n) (add-one i)
 
 -- one word more is a new one
 pub mixed_more : (new old : List ℕ) (j : ℕ) → j < length new → length new ≡ length old → set (take j new ++ drop j old) j (get_or new j 0) ≡ take (suc j) new ++ drop (suc j) old

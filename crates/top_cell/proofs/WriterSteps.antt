@@ -5,7 +5,7 @@ use Rattle.std.specs.Prelude.{slice_index}
 use mathlib.Core.Option.{some}
 use lib.ListN.{get_elem?}
 use Rattle.atomic_table.specs.Table.{Me, keeps, Allows}
-use Rattle.top_cell.specs.Rule.{ShowsOf, Fits, is_writers, IsOpen, CellHolds, open_cell, CellRule, Turns, change, note_of, number_in, rest, sight_of, spare_words}
+use Rattle.top_cell.specs.Rule.{ShowsOf, Fits, is_writers, IsOpen, CellHolds, open_cell, CellRule, Turns, change, note_of, number_in, rest, sight_of}
 use Rattle.top_cell.specs.WriterBegins.{WriterBegun}
 use Rattle.top_cell.specs.WriterPuts.{WriterHasPut}
 use Rattle.top_cell.specs.WriterEnds.{WriterEnded}
@@ -30,7 +30,7 @@ up_by_one n k is small = ap (λ m. (m + 1) % 2 ^ 64) is ∙ mod-eq_of_lt (omega 
 -- the writer's step, which makes the count, the words, the number and the notes what they are now
 writer_turns : (words words' : List ℕ) (views : List View) (id : ℕ) (s : DayStock) (v w : View) (count' : ℕ) (shown' : List ℕ) (number' : ℕ) (noted' : List Sight)
     → (o : IsOpen words views) → get_elem? views id ≡ some v → id ≡ o.writer → s ≡ o.stock → is_writers w ≡ true
-    → words' ≡ count' ∷ (shown' ++ spare_words) → length shown' ≡ 4 → (count' % 2 ≡ 0 → ShowsOf s number' shown' × (count' ≤ 2 * number'))
+    → words' ≡ count' ∷ shown' → length shown' ≡ 4 → (count' % 2 ≡ 0 → ShowsOf s number' shown' × (count' ≤ 2 * number'))
     → o.count ≤ count' → o.number ≤ number' → ((began : ℕ) → began ≤ o.count → began % 2 ≡ 0 → count' ≡ began → ⊥)
     → length noted' ≤ length views
     → ((j : ℕ) (t : DayStock) (y : Sight) → get_elem? views j ≡ some (ScreenOf t y) → Finds o.count o.number (note_of o.noted j) y → Finds count' number' (note_of noted' j) y)
@@ -62,14 +62,14 @@ module _ {S : Type 0} where
       let mine = o.each id (WriterOf s own) at in
       let still = o.at_rest mine.3 in
       let stood : ShowsOf s n o.shown = subst (λ (z : DayStock × ℕ). ShowsOf z.0 z.1 o.shown) (λ i. (sym mine.1 i, sym mine.2 i)) still.0 in
-      let up : (slice_index st.words 0 + 1) % 2 ^ 64 ≡ o.count + 1 = up_by_one (slice_index st.words 0) o.count (count_is st.words o.count (o.shown ++ spare_words) o.are) (omega (arith, still.1, stood.0, few, mine.2)) in
+      let up : (slice_index st.words 0 + 1) % 2 ^ 64 ≡ o.count + 1 = up_by_one (slice_index st.words 0) o.count (count_is st.words o.count o.shown o.are) (omega (arith, still.1, stood.0, few, mine.2)) in
       let notes = map sight_of st.views in
       let w = Writing s (change n o.shown new 0 notes) in (
         w,
         keeps,
         tt,
         writer_turns st.words (set st.words 0 ((slice_index st.words 0 + 1) % 2 ^ 64)) st.views id s (WriterOf s own) w (o.count + 1) o.shown n notes o at mine.0 mine.1 refl
-            (set_count st.words o.count (o.shown ++ spare_words) _ o.are ∙ ap (λ k. k ∷ (o.shown ++ spare_words)) up) o.four (λ even. absurd (omega (arith, even, mine.3))) (omega arith) (omega (arith, mine.2)) (λ began a _ is. omega (arith, a, is))
+            (set_count st.words o.count o.shown _ o.are ∙ ap (λ k. k ∷ o.shown) up) o.four (λ even. absurd (omega (arith, even, mine.3))) (omega arith) (omega (arith, mine.2)) (λ began a _ is. omega (arith, a, is))
             (omega (arith, length-map st.views sight_of)) (λ j t y e _. finds_noted st.views j (o.count + 1) n t y e) (
               refl,
               refl,
@@ -104,7 +104,7 @@ module _ {S : Type 0} where
         keeps,
         tt,
         writer_turns st.words (set st.words (j + 1) b) st.views id s (Writing s x) w o.count (set o.shown j b) o.number o.noted o at mine.0 mine.1 refl
-            (set_word st.words o.count o.shown spare_words j b o.are (omega (arith, o.four, few))) (length-set o.shown j b ∙ o.four) (λ even. absurd (omega (arith, even, ch.odd))) (omega arith) (omega arith) (λ began _ even is. omega (arith, even, is, ch.odd))
+            (set_word st.words o.count o.shown j b o.are) (length-set o.shown j b ∙ o.four) (λ even. absurd (omega (arith, even, ch.odd))) (omega arith) (omega arith) (λ began _ even is. omega (arith, even, is, ch.odd))
             o.few_noted (λ j t y _ finds. finds) (
               refl,
               refl,
@@ -132,14 +132,14 @@ module _ {S : Type 0} where
       let n : ℕ = number_in x.new in
       let new : ShowsOf s n x.new = subst (λ (z : DayStock). ShowsOf z n x.new) (sym mine.1) ch.new in
       let whole : o.shown ≡ x.new = ch.mixed ∙ mixed_all x.new x.old x.put all (four_shown o.stock n x.new ch.new) (four_shown o.stock o.number x.old ch.old) in
-      let up : (slice_index st.words 0 + 1) % 2 ^ 64 ≡ o.count + 1 = up_by_one (slice_index st.words 0) o.count (count_is st.words o.count (o.shown ++ spare_words) o.are) (omega (arith, ch.bound, ch.later, new.0, few)) in
+      let up : (slice_index st.words 0 + 1) % 2 ^ 64 ≡ o.count + 1 = up_by_one (slice_index st.words 0) o.count (count_is st.words o.count o.shown o.are) (omega (arith, ch.bound, ch.later, new.0, few)) in
       let notes = map sight_of st.views in
       let w = WriterOf s (rest n notes) in (
         w,
         keeps,
         tt,
         writer_turns st.words (set st.words 0 ((slice_index st.words 0 + 1) % 2 ^ 64)) st.views id s (Writing s x) w (o.count + 1) o.shown n notes o at mine.0 mine.1 refl
-            (set_count st.words o.count (o.shown ++ spare_words) _ o.are ∙ ap (λ k. k ∷ (o.shown ++ spare_words)) up) o.four
+            (set_count st.words o.count o.shown _ o.are ∙ ap (λ k. k ∷ o.shown) up) o.four
             (λ _. (subst (λ ws. ShowsOf s n ws) (sym whole) new, omega (arith, ch.bound, ch.later))) (omega arith) (omega (arith, ch.later)) (λ began a _ is. omega (arith, a, is))
             (omega (arith, length-map st.views sight_of)) (λ j t y e _. finds_noted st.views j (o.count + 1) n t y e)
             (refl, refl, refl, omega (arith, ch.odd), refl),

@@ -1,12 +1,10 @@
 -- The rule of a cell: what its count and its four words are at every moment, and what its writer and its screens
--- know. The count is odd while the writer changes the words. The spare words after them stay zero. All is of this
--- project.
-use Rattle.std.specs.Prelude.{◌≡◌, ◌⊎◌, ◌+◌, ◌-◌, ◌*◌, ◌%◌, ◌<◌, ◌≤◌, ℕ, Bool, true, false, List, [], ◌∷◌, ◌++◌, length, take, drop, slice_index, slice_index_or, Option, Some, None, replicate}
+-- know. The count is odd while the writer changes the words. All is of this project.
+use Rattle.std.specs.Prelude.{◌≡◌, ◌⊎◌, ◌+◌, ◌*◌, ◌%◌, ◌<◌, ◌≤◌, ℕ, Bool, true, false, List, [], ◌∷◌, ◌++◌, length, take, drop, slice_index, slice_index_or, Option, Some, None}
 use mathlib.Core.Option.{some}
 use lib.ListN.{get_elem?}
 use Rattle.atomic_table.specs.Table.{State, Me}
 use Rattle.itch_table.specs.Shows.{Shows}
-use Rattle.top_cell.specs.declared.rule.TheConstants.{WORDS}
 use Rattle.top_cell.specs.declared.rule.DayStock.{DayStock}
 use Rattle.top_cell.specs.declared.rule.Change.{Change}
 use Rattle.top_cell.specs.declared.rule.Rest.{Rest}
@@ -110,10 +108,6 @@ is_writers _ = false
 
 -- ---- the rule
 
--- the words of a cell after its count and its four words
-abbrev pub spare_words : List ℕ
-spare_words = replicate (WORDS - 5) 0
-
 -- a cell that is open: while the count is even, its words show its stock after as many messages as its writer's
 -- number, and the count is at most twice that. One view is the writer's, and each view fits.
 pub record IsOpen (words : List ℕ) (views : List View) : Type 0 where
@@ -123,7 +117,7 @@ pub record IsOpen (words : List ℕ) (views : List View) : Type 0 where
   pub number : ℕ
   pub writer : ℕ
   pub noted : List Sight
-  pub are : words ≡ count ∷ (shown ++ spare_words)
+  pub are : words ≡ count ∷ shown
   pub four : length shown ≡ 4
   pub at_rest : count % 2 ≡ 0 → ShowsOf stock number shown × (count ≤ 2 * number)
   pub one_writer : (v : View) × (get_elem? views writer ≡ some v) × (is_writers v ≡ true)
@@ -131,10 +125,10 @@ pub record IsOpen (words : List ℕ) (views : List View) : Type 0 where
   pub each : (seat : ℕ) (v : View) → get_elem? views seat ≡ some v
       → Fits stock count shown number writer noted seat v
 
--- the words and the views of a cell: it isn't opened yet, and has zeros and one view that names nothing, or it is
--- open
+-- the words and the views of a cell: it isn't opened yet, and has five zeros and one view that names nothing, or it
+-- is open
 pub data CellHolds (words : List ℕ) (views : List View) : Type 0 where
-  new_cell : words ≡ replicate WORDS 0 → views ≡ Unopened ∷ [] → CellHolds words views
+  new_cell : words ≡ 0 ∷ 0 ∷ 0 ∷ 0 ∷ 0 ∷ [] → views ≡ Unopened ∷ [] → CellHolds words views
   open_cell : IsOpen words views → CellHolds words views
 
 -- the rule of a cell

@@ -7,7 +7,7 @@ ghost use Rattle.top_cell.specs.Seats.{IsSeatOf};
 ghost use Rattle.top_cell.specs.declared.rule.View.TheVariants.{Unopened, WriterOf};
 
 use crate::kinds::opens::{Naming, Opens};
-use crate::rule::{Cell, Seat, WORDS, Words};
+use crate::rule::{Cell, Seat, Words};
 use crate::writer::TopWriter;
 use binaryfile::Day;
 use day_core::locates;
@@ -69,7 +69,7 @@ fn new_cell<'a, A: Allocator>(
 {
     // For the proof alone: it says that the day has fewer than 2^32 messages.
     let _few = day.payloads();
-    let (cell, seat) = Cell::of_words(alloc, &[0; WORDS], &locate)?;
+    let (cell, seat) = Cell::of_words(alloc, &[0; 5], &locate)?;
     let writer_seat = open::<Brand, A>(&cell.shared, seat, day, locate);
     let writer = TopWriter {
         seat: writer_seat,

@@ -54,11 +54,6 @@ pub enum View {
     Spent,
 }
 
-/// How many words a cell has: a count, the four words of a stock, and eight spare ones that stay zero, so that no line
-/// of memory of 64 bytes has a count or words of two stocks. Threads that publish side by side would wait for one
-/// another.
-pub const WORDS: usize = 13;
-
 /// The rule that every step of a cell keeps.
 pub struct CellRule;
 
@@ -71,7 +66,7 @@ impl TableRule<(), View, u16> for CellRule {
     ghost first = { λ _. Unopened };
 }
 
-/// The count and the words of a stock, as all threads see them. They are given the stock's locate code.
+/// The count and the four words of a stock, as all threads see them. They are given the stock's locate code.
 pub type Words = Shared<(), View, u16, CellRule>;
 
 /// A cell with its memory, which it frees by a reference to its board's allocator.

@@ -72,14 +72,12 @@ impl TopWriter {
         self.message = message;
     }
 
-    /// Reads the count and the last of the four words, which lie in two lines of memory at most, so that the processor
-    /// fetches the cell's memory before it is published to. It changes nothing, and what it returns means nothing. The
-    /// caller passes the writer's own board.
+    /// Reads the cell's count, so that the processor fetches the cell's memory before it is published to. It changes
+    /// nothing, and what it returns means nothing. The caller passes the writer's own board.
     pub fn touch<A: Allocator>(&self, board: &Board<'_, A>) -> u64
         requires { IsOn board.now self.now.place }
     {
-        let cell = board.cell(self.index);
-        cell.peek(0).wrapping_add(cell.peek(4))
+        board.cell(self.index).peek(0)
     }
 
     /// A screen of the writer's stock, which stands where the writer stands: it never shows an earlier message. The

@@ -3,21 +3,14 @@ use Rattle.top_cell.specs.Boards.{WriterAt, IsOn}
 use Rattle.top_cell.proofs.Places.{same_table, within}
 use Rattle.top_cell.proofs.writer.TopWriter.touch.Goals as goal
 
-pub cell-cell-requires : goal.cell-cell-requires
-cell-cell-requires g c =
+pub cell-requires : goal.cell-requires
+cell-requires g c =
     let on = subst (λ (w : WriterAt). IsOn c.args.board.now w.place) (sym c.self.view_is) c.requires in
     within c.args.board.now _ _ on
 
 pub peek-requires : goal.peek-requires
 peek-requires g c =
     let on = subst (λ (w : WriterAt). IsOn c.args.board.now w.place) (sym c.self.view_is) c.requires in
-    let own = same_table c.args.board.now _ _ _ _ on c.cell-cell.ensures.cell in
-    let words = sym (ap (λ t. t.words) own) ∙ c.self.invariant.4 in
-    omega (arith, words)
-
-pub peek-requires-2 : goal.peek-requires-2
-peek-requires-2 g c =
-    let on = subst (λ (w : WriterAt). IsOn c.args.board.now w.place) (sym c.self.view_is) c.requires in
-    let own = same_table c.args.board.now _ _ _ _ on c.cell-cell.ensures.cell in
+    let own = same_table c.args.board.now _ _ _ _ on c.cell.ensures.cell in
     let words = sym (ap (λ t. t.words) own) ∙ c.self.invariant.4 in
     omega (arith, words)
