@@ -1,5 +1,4 @@
 //! A stock with very many messages, whose track is made when a debugger begins.
-use crate::trying::made_under;
 use binaryfile::Day;
 use debugger::{DebugFault, Debugger};
 use std::alloc::{Allocator, Global};
@@ -90,13 +89,17 @@ fn go_under<'h>(
     day: &Day<&'h Refusing<Global>>,
     refusal: Refusal,
 ) -> Result<Tried, Fail> {
-    let (tried, compared) = made_under(
-        heap,
-        refusal,
-        DebugFault::Memory,
-        || -> Result<Result<(), Fail>, DebugFault> { go_along(heap, day, &SHOWN[..5]) },
-    )?;
-    compared?;
+    let places = &SHOWN[..5];
+    heap.restart(refusal);
+    let along = go_along(heap, day, places);
+    let tried = heap.tried(along.is_err());
+    match along {
+        Ok(compared) => compared?,
+        Err(fault) => {
+            same("a refused growth", &fault, &DebugFault::Memory)?;
+            go_along(heap, day, places)??;
+        }
+    }
     Ok(tried)
 }
 

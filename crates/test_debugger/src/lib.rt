@@ -15,5 +15,3 @@ mod moves;
 mod refusals;
 #[cfg(test)]
 mod tracks;
-#[cfg(test)]
-mod trying;

@@ -1,10 +1,10 @@
 //! A debugger whose memory is refused.
 use crate::calls::{Call, Returned, follow};
 use crate::days::{BIDS, time_break, tour};
-use crate::trying::made_under;
+use binaryfile::Day;
 use debugger::{Break, DebugFault, Debugger};
 use itch_table::{Outcome, Top, Totals};
-use std::alloc::{AllocError, Allocator, Global};
+use std::alloc::{Allocator, Global};
 use std::test::Fail;
 use test_refusing::{Refusal, Refusing, Tried, refuse_each};
 use test_support::{same, same_bytes};
@@ -129,20 +129,32 @@ fn a_refused_call_leaves_the_debugger(rt: HostRuntime) -> Result<(), Fail> {
     Ok(())
 }
 
-// Makes a debugger of the tour under a refusal, and with memory where it is refused. It stands at 0, and shows the
-// stock after message 3; the day is as it was.
-fn try_new(heap: &Refusing<Global>, refusal: Refusal) -> Result<Tried, Fail> {
-    let day = tour(heap)?;
-    let (tried, mut debugger) = made_under(
-        heap,
-        refusal,
-        AllocError,
-        || Debugger::new(heap, &day, 2),
-    )?;
+// Makes a debugger of the tour under a refusal. One that is made stands at 0, and shows the stock after message 3.
+fn new_under<'h>(
+    heap: &'h Refusing<Global>,
+    day: &Day<&'h Refusing<Global>>,
+    refusal: Refusal,
+) -> Result<Tried, Fail> {
+    heap.restart(refusal);
+    let Ok(mut debugger) = Debugger::new(heap, day, 2) else {
+        return Ok(heap.tried(true));
+    };
+    let tried = heap.tried(false);
     same("the position", &debugger.position(), &0)?;
     set_at_3(heap, &mut debugger)?;
     follow(heap, &mut debugger, &[(Call::Stock(1), Ok(AT_3))])?;
-    same_bytes("the day", day.bytes(), tour(heap)?.bytes())?;
+    Ok(tried)
+}
+
+// Makes a debugger of the tour under a refusal. Where it is refused, the day is as it was, and one is made with memory.
+fn try_new(heap: &Refusing<Global>, refusal: Refusal) -> Result<Tried, Fail> {
+    let day = tour(heap)?;
+    let tried = new_under(heap, &day, refusal)?;
+    if tried.refused {
+        same_bytes("the day", day.bytes(), tour(heap)?.bytes())?;
+        let again = new_under(heap, &day, Refusal::Never)?;
+        same("a debugger with memory", &again.refused, &false)?;
+    }
     Ok(tried)
 }
 

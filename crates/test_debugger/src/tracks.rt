@@ -2,7 +2,6 @@
 ghost use Rattle.std.specs.Prelude.{◌≡◌, ◌<◌, IfOk};
 
 use crate::days::tour;
-use crate::trying::made_under;
 use binaryfile::Day;
 use checkpoints::{StockIndex, Track};
 use std::alloc::{AllocError, Allocator, Global};
@@ -96,29 +95,24 @@ fn a_track_shows_every_place(rt: HostRuntime) -> Result<(), Fail> {
     Ok(())
 }
 
-// The bid after each number of messages, by a track that is made one way.
-fn bids_by<A: Allocator + Copy>(
-    alloc: A,
-    day: &Day<A>,
-    way: Way,
-) -> Result<Vec<(u64, bool), A>, AllocError> {
-    let track = track_by(alloc, day, way, 2)?;
-    bids_along(alloc, day, &track)
-}
-
-// Makes a track of the tour and goes along it under a refusal, and with memory where it is refused.
+// Makes a track of the tour under a refusal, and with memory where it is refused.
 fn make_under<'h>(
     heap: &'h Refusing<Global>,
     day: &Day<&'h Refusing<Global>>,
     way: Way,
     refusal: Refusal,
 ) -> Result<Tried, Fail> {
-    let (tried, bids) = made_under(heap, refusal, AllocError, || bids_by(heap, day, way))?;
-    same_list("the places of a track", &bids, &BIDS)?;
+    heap.restart(refusal);
+    let made = track_by(heap, day, way, 2);
+    let tried = heap.tried(made.is_err());
+    match made {
+        Ok(track) => same_places(heap, day, &track)?,
+        Err(AllocError) => same_places(heap, day, &track_by(heap, day, way, 2)?)?,
+    }
     Ok(tried)
 }
 
-// Asks a track of the tour for a place under a refusal, and with memory where it is refused. The track stays as it is.
+// Asks a track of the tour for a place under a refusal, which leaves the track as it is.
 fn go_under<'h>(
     heap: &'h Refusing<Global>,
     day: &Day<&'h Refusing<Global>>,
@@ -129,9 +123,16 @@ fn go_under<'h>(
     if n > day.len() {
         return Err(Fail::new("no such place"));
     }
-    let (tried, stock) = made_under(heap, refusal, AllocError, || track.at(heap, n))?;
-    let wanted = BIDS.get(n as usize).copied();
-    same("a place", &(n, Some(bid_of(&stock))), &(n, wanted))?;
+    heap.restart(refusal);
+    let found = match track.at(heap, n) {
+        Ok(stock) => Some(bid_of(&stock)),
+        Err(AllocError) => None,
+    };
+    let tried = heap.tried(found.is_none());
+    if !tried.refused {
+        let wanted = BIDS.get(n as usize).copied();
+        same("a place", &(n, found), &(n, wanted))?;
+    }
     same_places(heap, day, &track)?;
     Ok(tried)
 }
