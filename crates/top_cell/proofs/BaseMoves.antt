@@ -1,16 +1,16 @@
 -- Opening a cell, and what splits a view and joins two.
-use Rattle.std.proofs.Common.{◌≡◌, ◌⊎◌, ℕ, zero, suc, ◌≤◌, max, List, [], ◌∷◌, ◌++◌, length, set, Some, None, inl, inr, refl, sym, ap, ◌∙◌, subst, ⊎_elim, arith, zero-le, length-append, length-set}
+use Rattle.std.proofs.Common.{◌≡◌, ◌≢◌, ◌⊎◌, ℕ, zero, suc, ◌≤◌, max, List, [], ◌∷◌, ◌++◌, length, set, Some, None, inl, inr, refl, sym, ap, ◌∙◌, subst, ⊎_elim, arith, zero-le, length-append, length-set}
 use Rattle.std.proofs.lemmas.List.{get_or_past}
 use mathlib.Core.Option.{some, some-ne-none, some-injective}
 use lib.ListN.{get_elem?}
-use Rattle.atomic_table.specs.Table.{Me, keeps, Allows, Splits, Joins}
-use Rattle.atomic_table.proofs.Lists.{set_again, set_else, at_longer}
+use Rattle.atomic_table.specs.Table.{Splits, Joins}
+use Rattle.atomic_table.proofs.Lists.{at_last, at_longer, at_set, set_again, set_else}
 use Rattle.itch_table.proofs.Tops.{zeros_at_first}
-use Rattle.top_cell.specs.Rule.{IsAboveNoteOrNow, ShowsOf, Sees, Fits, IsOpen, CellHolds, new_cell, open_cell, CellRule, Turns, new_sight, note_of, rest, sight}
-use Rattle.top_cell.specs.Opens.{Opened}
+use Rattle.top_cell.specs.Rule.{IsAboveNoteOrNow, ShowsOf, Sees, Fits, IsOpen, CellHolds, new_cell, open_cell, CellRule, new_sight, note_of, sight}
+use Rattle.top_cell.specs.Opens.{first_view}
 use Rattle.top_cell.specs.Splits.{screen_beside}
 use Rattle.top_cell.specs.Joins.{joined}
-use Rattle.top_cell.proofs.Views.{Finds, only_seat, open_at, all_fit, writer_stays, unmoved, with_views, screen_turns}
+use Rattle.top_cell.proofs.Views.{Finds, open_at, all_fit, writer_stays, with_views, screen_turns}
 use Rattle.top_cell.specs.declared.rule.DayStock.{DayStock}
 use Rattle.top_cell.specs.declared.rule.Rest.{Rest}
 use Rattle.top_cell.specs.declared.rule.Sight.{Sight}
@@ -20,40 +20,11 @@ use Rattle.top_cell.specs.declared.rule.View.TheVariants.{Unopened, WriterOf, Sc
 shows_zero : (s : DayStock) → ShowsOf s 0 (0 ∷ 0 ∷ 0 ∷ 0 ∷ [])
 shows_zero s = zeros_at_first s.day s.locate
 
-not_writer : (s : DayStock) (r : Rest) → Unopened ≡ WriterOf s r → ⊥
-not_writer s r e = cc
-
-not_screen : (s : DayStock) (v : Sight) → Unopened ≡ ScreenOf s v → ⊥
-not_screen s v e = cc
+unopened_says : Unopened ≡ Spent → ⊥
+unopened_says e = cc
 
 no_words : (words : List ℕ) → None ≡ Some words → ⊥
 no_words words e = cc
-
-just_opened : (stock : DayStock) → CellHolds (0 ∷ 0 ∷ 0 ∷ 0 ∷ 0 ∷ []) (WriterOf stock (rest 0 []) ∷ [])
-just_opened stock = open_cell record {
-  stock = stock;
-  count = 0;
-  shown = 0 ∷ 0 ∷ 0 ∷ 0 ∷ [];
-  number = 0;
-  writer = 0;
-  noted = [];
-  are = refl;
-  four = refl;
-  at_rest = λ _. (shows_zero stock, zero-le);
-  one_writer = (WriterOf stock (rest 0 []), refl, refl);
-  few_noted = zero-le;
-  each = one;
-}
-  where
-    one : (j : ℕ) (u : View) → get_elem? (WriterOf stock (rest 0 []) ∷ []) j ≡ some u → Fits stock 0 (0 ∷ 0 ∷ 0 ∷ 0 ∷ []) 0 0 [] j u
-    one zero u e = subst (Fits stock 0 (0 ∷ 0 ∷ 0 ∷ 0 ∷ []) 0 0 [] 0) (some-injective _ _ e) (refl, refl, refl, refl, refl)
-    one (suc j) u e = absurd (some-ne-none u (sym e))
-
-opened : (stock : DayStock) (words : List ℕ) (views : List View) (id : ℕ) → CellHolds words views → get_elem? views id ≡ some Unopened → CellHolds words (set views id (WriterOf stock (rest 0 [])))
-opened stock words views id (new_cell zeros one) at =
-    let here = (only_seat id Unopened (subst (λ vs. get_elem? vs id ≡ some Unopened) one at)).0 in
-    subst (λ (z : List ℕ × (List View × ℕ)). CellHolds z.0 (set z.1.0 z.1.1 (WriterOf stock (rest 0 [])))) (λ i. (sym zeros i, (sym one i, sym here i))) (just_opened stock)
-opened stock words views id (open_cell o) at = absurd (o.each id Unopened at)
 
 -- a view that stands at the end
 at_end : (l : List View) (a b : View) (j : ℕ) → get_elem? (l ++ a ∷ []) j ≡ some b → (get_elem? l j ≡ some b) ⊎ ((length l ≡ j) × (a ≡ b))
@@ -61,6 +32,49 @@ at_end [] a b zero e = inr (refl, some-injective a b e)
 at_end [] a b (suc j) e = absurd (some-ne-none b (sym e))
 at_end (x ∷ xs) a b zero e = inl e
 at_end (x ∷ xs) a b (suc j) e = ⊎_elim inl (λ t. inr (ap suc t.0, t.1)) (at_end xs a b j e)
+
+-- a seat more at which nothing is known
+pub one_spent_more : (words : List ℕ) (views : List View) → CellHolds words views → CellHolds words (views ++ Spent ∷ [])
+one_spent_more words views (new_cell n) = new_cell record {
+  opener = n.opener;
+  zeros = n.zeros;
+  each = λ j u e. ⊎_elim (n.each j u) (λ t. inr (sym t.1)) (at_end views Spent u j e);
+}
+one_spent_more words views (open_cell o) =
+    with_views words views (views ++ Spent ∷ []) o (o.one_writer.0, at_longer views (Spent ∷ []) o.writer o.one_writer.0 o.one_writer.1, o.one_writer.2)
+    (omega (arith, length-append views (Spent ∷ [])))
+    (λ j u e. ⊎_elim (o.each j u) (λ t. subst (Fits o.stock o.count o.shown o.number o.writer o.noted j) t.1 tt) (at_end views Spent u j e))
+
+-- a cell is opened at a seat of its own
+pub opened_beside : (stock : DayStock) (words : List ℕ) (views : List View) (id : ℕ) → CellHolds words views → get_elem? views id ≡ some Unopened → CellHolds words (set views id Spent ++ first_view stock ∷ [])
+opened_beside stock words views id (new_cell n) at =
+    let long = length-set views id Spent in
+    let end = length (set views id Spent) in
+    open_cell record {
+      stock = stock;
+      count = 0;
+      shown = 0 ∷ 0 ∷ 0 ∷ 0 ∷ [];
+      number = 0;
+      writer = end;
+      noted = [];
+      are = n.zeros;
+      four = refl;
+      at_rest = λ _. (shows_zero stock, zero-le);
+      one_writer = (first_view stock, at_last (set views id Spent) (first_view stock) end refl, refl);
+      few_noted = zero-le;
+      each = λ j u e. ⊎_elim
+          (λ was. ⊎_elim (λ t. subst (Fits stock 0 (0 ∷ 0 ∷ 0 ∷ 0 ∷ []) 0 end [] j) t.1 tt) (λ t. others j u t.0 t.1) (at_set views id j Spent u was))
+          (λ t. subst (Fits stock 0 (0 ∷ 0 ∷ 0 ∷ 0 ∷ []) 0 end [] j) t.1 (sym t.0, refl, refl, refl, refl))
+          (at_end (set views id Spent) (first_view stock) u j e);
+    }
+  where
+    opener : id ≡ n.opener
+    opener = ⊎_elim (λ t. t.0) (λ e. absurd (unopened_says e)) (n.each id Unopened at)
+
+    others : (j : ℕ) (u : View) → j ≢ id → get_elem? views j ≡ some u → Fits stock 0 (0 ∷ 0 ∷ 0 ∷ 0 ∷ []) 0 (length (set views id Spent)) [] j u
+    others j u apart e =
+        ⊎_elim (λ t. absurd (apart (t.0 ∙ sym opener))) (λ is. subst (Fits stock 0 (0 ∷ 0 ∷ 0 ∷ 0 ∷ []) 0 (length (set views id Spent)) [] j) (sym is) tt) (n.each j u e)
+opened_beside stock words views id (open_cell o) at = absurd (o.each id Unopened at)
 
 -- a new screen has found nothing, and nothing is noted of its seat
 finds_new : (noted : List Sight) (seat count number n : ℕ) → length noted ≤ seat → Finds count number (note_of noted seat) (new_sight n)
@@ -86,30 +100,27 @@ one_more words views id v s n at o same below =
 -- a seat's view is spent
 screen_goes : (words : List ℕ) (views : List View) (id : ℕ) (s : DayStock) (v : Sight) → get_elem? views id ≡ some (ScreenOf s v) → CellHolds words views → CellHolds words (set views id Spent)
 screen_goes words views id s v at h =
-    let o = open_at words views id (ScreenOf s v) (not_screen s v) h at in
+    let o = open_at words views id (ScreenOf s v) refl h at in
     with_views words views (set views id Spent) o (writer_stays views o.writer id (ScreenOf s v) Spent refl o.one_writer at)
     (omega (arith, length-set views id Spent))
     (all_fit (Fits o.stock o.count o.shown o.number o.writer o.noted) views id Spent tt (λ j u _ e. o.each j u e))
 
 module _ {S : Type 0} where
-  pub opens : (slots id : ℕ) (stock : DayStock) (c : List (ℕ × S)) → Allows CellRule slots id (Unopened, c) 0 (λ n. n) (λ r m. Turns (Opened stock) (Unopened, c) m)
-  opens slots id stock c st h _ at _ = let w = WriterOf stock (rest 0 []) in (w, keeps, tt, unmoved st id c w 0 (opened stock st.words st.views id h at), (refl, refl))
-
   pub writer_splits : (id : ℕ) (s : DayStock) (own : Rest) → Splits {S = S} CellRule id (WriterOf s own) (WriterOf s own) (ScreenOf s (new_sight own.number))
   writer_splits id s own st h at =
-      let o = open_at st.words st.views id (WriterOf s own) (not_writer s own) h at in
+      let o = open_at st.words st.views id (WriterOf s own) refl h at in
       let mine = o.each id (WriterOf s own) at in
       one_more st.words st.views id (WriterOf s own) s own.number at o mine.1 (omega (arith, mine.2))
 
   pub screen_splits : (id : ℕ) (s : DayStock) (v : Sight) → Splits {S = S} CellRule id (ScreenOf s v) (ScreenOf s v) (ScreenOf s (new_sight v.number))
   screen_splits id s v st h at =
-      let o = open_at st.words st.views id (ScreenOf s v) (not_screen s v) h at in
+      let o = open_at st.words st.views id (ScreenOf s v) refl h at in
       let mine = o.each id (ScreenOf s v) at in
       one_more st.words st.views id (ScreenOf s v) s v.number at o mine.0 mine.1.below
 
   pub screens_join : (id other : ℕ) (s t : DayStock) (v w : Sight) → Joins {S = S} CellRule id (ScreenOf s v) other (ScreenOf t w) (joined (ScreenOf s v) (ScreenOf t w)) Spent
   screens_join id other s t v w st h at apart there =
-      let o = open_at st.words st.views id (ScreenOf s v) (not_screen s v) h at in
+      let o = open_at st.words st.views id (ScreenOf s v) refl h at in
       let mine = (o.each id (ScreenOf s v) at).1 in
       let both = sight (max v.number w.number) v.loads v.looks v.tries v.wins v.last v.began v.taken in
       let note = note_of o.noted id in
@@ -120,9 +131,6 @@ module _ {S : Type 0} where
       let sees : Sees o.count o.shown o.number note both = record { below = omega (arith, mine.below, theirs.below); last = mine.last; began = mine.began; even = mine.even; fit = mine.fit; looked = mine.looked; tried = mine.tried; won = won } in
       screen_goes st.words (set st.views id (ScreenOf s both)) other t w there (screen_turns st.words st.views id s v both o at sees)
 
-  pub opens_as : (slots id : ℕ) (me : Me S View) (stock : DayStock) → me.0 ≡ Unopened → Allows CellRule slots id me 0 (λ n. n) (λ r m. Turns (Opened stock) me m)
-  opens_as slots id me stock is = subst (λ (z : Me S View). Allows CellRule slots id z 0 (λ n. n) (λ r m. Turns (Opened stock) z m)) (λ i. (sym is i, me.1)) (opens slots id stock me.1)
-
   pub writer_splits_as : (id : ℕ) (v : View) (s : DayStock) (own : Rest) → v ≡ WriterOf s own → Splits {S = S} CellRule id v v (screen_beside v)
   writer_splits_as id v s own is = subst (λ u. Splits {S = S} CellRule id u u (screen_beside u)) (sym is) (writer_splits id s own)
 
@@ -131,6 +139,3 @@ module _ {S : Type 0} where
 
   pub screens_join_as : (id other : ℕ) (v w : View) (s t : DayStock) (x y : Sight) → v ≡ ScreenOf s x → w ≡ ScreenOf t y → Joins {S = S} CellRule id v other w (joined v w) Spent
   screens_join_as id other v w s t x y is that = subst (λ (z : View × View). Joins {S = S} CellRule id z.0 other z.1 (joined z.0 z.1) Spent) (λ i. (sym is i, sym that i)) (screens_join id other s t x y)
-
-pub begins : CellHolds (0 ∷ 0 ∷ 0 ∷ 0 ∷ 0 ∷ []) (Unopened ∷ [])
-begins = new_cell refl refl

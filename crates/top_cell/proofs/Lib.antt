@@ -3,5 +3,6 @@ pub mod Shown
 pub mod WriterSteps
 pub mod ReaderSteps
 pub mod BaseMoves
+pub mod Cells
 pub mod TriesTold
 pub mod Places

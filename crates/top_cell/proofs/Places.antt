@@ -1,5 +1,5 @@
 -- The cells of a board, and their writers.
-use Rattle.std.proofs.Common.{◌≡◌, ◌⊎◌, ℕ, zero, suc, ◌<◌, List, [], ◌∷◌, ◌++◌, length, map, get_or, Some, inl, inr, refl, sym, ap, ◌∙◌, subst, ⊎_elim, arith, length-append}
+use Rattle.std.proofs.Common.{◌≡◌, ◌⊎◌, ℕ, zero, suc, ◌*◌, ◌^◌, ◌<◌, List, [], ◌∷◌, ◌++◌, length, map, get_or, Some, inl, inr, refl, sym, ap, ◌∙◌, subst, ⊎_elim, arith, length-append}
 use Rattle.std.specs.Prelude.{slice_get}
 use Rattle.std.proofs.lemmas.List.{length-map, map-append}
 use Rattle.std.specs.List.{AllPairs}
@@ -7,15 +7,10 @@ use Rattle.atomic_table.specs.Seated.{TableId}
 use Rattle.itch_table.specs.Shows.{locates_of_day}
 use Rattle.itch_table.proofs.DayLocates.{rising}
 use Rattle.std.proofs.lemmas.List.Kept.{AllPairs-from_increasing}
-use Rattle.top_cell.specs.Boards.{CellId, WriterAt, AreApart, AreNew, IsOn, cell_id, new_writer}
+use Rattle.top_cell.specs.Boards.{CellId, WriterAt, AreApart, AreNew, IsOn, cell_id, cells_of, new_writer, place}
+use Rattle.top_cell.specs.Seats.{CellSeat, IsSeatOf}
 
 -- ---- items of lists
-
--- what stands in a mapped list at an index
-pub mapped_at : {A B : Type 0} (f : A → B) (xs : List A) (k : ℕ) (x : A) → x ≡ get_or xs k x → k < length xs → slice_get (map f xs) k ≡ Some (f x)
-mapped_at f [] k x is lt = absurd (omega arith)
-mapped_at f (z ∷ zs) zero x is lt = let same : x ≡ z = is in ap (λ y. Some (f y)) (sym same)
-mapped_at f (z ∷ zs) (suc k) x is lt = mapped_at f zs k x is (omega arith)
 
 first_at : {A : Type 0} (xs ys : List A) (k : ℕ) (x : A) → slice_get xs k ≡ Some x → slice_get (xs ++ ys) k ≡ Some x
 first_at [] ys k x e = absurd (cc)
@@ -40,13 +35,18 @@ within [] k x e = absurd (cc)
 within (z ∷ zs) zero x e = omega arith
 within (z ∷ zs) (suc k) x e = omega (arith, within zs k x e)
 
--- one thing stands at an index
-pub same_at : {A : Type 0} (xs : List A) (k : ℕ) (x y : A) → slice_get xs k ≡ Some x → slice_get xs k ≡ Some y → x ≡ y
-same_at xs k x y one other = let e : Some x ≡ Some y = sym one ∙ other in cc
+-- a seat of a writer or of a screen, on its board
+pub seat_on : (board : List CellId) (table : TableId) (cells : ℕ) (seat : CellSeat) → IsOn board (place seat)
+    → ((index : ℕ) (cell : CellId) → slice_get board index ≡ Some cell → cell.table ≡ table) → cells ≡ length board
+    → (length board * 8 ≡ table.words) × (length board * 8 < 2 ^ 64) → IsSeatOf table cells seat
+seat_on board table cells seat on of count words =
+    (of _ _ on, omega (arith, count, within board seat.index _ on), ap (λ n. n * 8) count ∙ words.0, omega (arith, count, words.1))
 
--- the table of the cell at an index
-pub same_table : (board : List CellId) (index : ℕ) (cell : CellId) (locate : ℕ) (table : TableId) → slice_get board index ≡ Some cell → slice_get board index ≡ Some (cell_id locate table) → cell.table ≡ table
-same_table board index cell locate table on there = ap (λ (c : CellId). c.table) (same_at board index cell (cell_id locate table) on there)
+-- all cells of a board are in one table
+pub of_table : (table : TableId) (locates : List ℕ) (index : ℕ) (cell : CellId) → slice_get (cells_of table locates) index ≡ Some cell → cell.table ≡ table
+of_table table [] index cell e = absurd (cc)
+of_table table (l ∷ ls) zero cell e = let same : Some (cell_id l table) ≡ Some cell = e in cc
+of_table table (l ∷ ls) (suc index) cell e = of_table table ls index cell e
 
 -- ---- cells that are apart
 
@@ -63,18 +63,14 @@ first_lowest x xs j d rises there =
 
 apart : (board : List CellId) → AllPairs (λ a b. a < b) (map (λ c. c.locate) board) → AreApart board
 apart [] rises i j c d e f same = absurd (cc)
-apart (x ∷ xs) rises zero zero c d e f same = let one : Some x ≡ Some c = e in let other : Some x ≡ Some d = f in cc
+apart (x ∷ xs) rises zero zero c d e f same = refl
 apart (x ∷ xs) rises zero (suc j) c d e f same = let one : Some x ≡ Some c = e in let is : x ≡ c = cc in absurd (omega (arith, first_lowest x xs j d rises f, ap (λ (o : CellId). o.locate) is, same))
 apart (x ∷ xs) rises (suc i) zero c d e f same = let one : Some x ≡ Some d = f in let is : x ≡ d = cc in absurd (omega (arith, first_lowest x xs i c rises e, ap (λ (o : CellId). o.locate) is, same))
-apart (x ∷ xs) rises (suc i) (suc j) c d e f same = apart xs (λ a b k below inside. rises (suc a) (suc b) k (omega arith) (omega arith)) i j c d e f same
+apart (x ∷ xs) rises (suc i) (suc j) c d e f same = ap suc (apart xs (λ a b k below inside. rises (suc a) (suc b) k (omega arith) (omega arith)) i j c d e f same)
 
 -- the cells of a day's stocks
 pub day_apart : (day : List (List ℕ)) (board : List CellId) (writers : List WriterAt) → AreNew day (locates_of_day day) board writers → AreApart board
 day_apart day board writers new = apart board (subst (AllPairs (λ a b. a < b)) (sym new.cells) (AllPairs-from_increasing (locates_of_day day) (rising day)))
-
--- two cells of one stock are of one table
-pub one_table : (board : List CellId) (i j : ℕ) (own other : CellId) → AreApart board → slice_get board i ≡ Some own → slice_get board j ≡ Some other → other.locate ≡ own.locate → other.table ≡ own.table
-one_table board i j own other all on there same = ap (λ (c : CellId). c.table) (all j i other own there on same)
 
 -- ---- new boards
 

@@ -14,10 +14,7 @@ use Rattle.top_cell.proofs.Shown.{count_is, word_is, first_shown}
 use Rattle.top_cell.specs.declared.rule.DayStock.{DayStock}
 use Rattle.top_cell.specs.declared.rule.Sight.{Sight}
 use Rattle.top_cell.specs.declared.rule.View.{View}
-use Rattle.top_cell.specs.declared.rule.View.TheVariants.{Unopened, ScreenOf}
-
-not_screen : (s : DayStock) (v : Sight) → Unopened ≡ ScreenOf s v → ⊥
-not_screen s v e = cc
+use Rattle.top_cell.specs.declared.rule.View.TheVariants.{ScreenOf}
 
 pub same_words : (x y : List ℕ) → Some x ≡ Some y → x ≡ y
 same_words x y e = cc
@@ -39,7 +36,7 @@ module _ {S : Type 0} where
       → Allows CellRule slots id (ScreenOf s v, c) 0 (λ n. n) (λ r n. Turns (ReaderBegun r) (ScreenOf s v, c) n)
   reader_begins slots id s v c shut st h _ at _ =
       let r : ℕ = slice_index st.words 0 in
-      let o = open_at st.words st.views id (ScreenOf s v) (not_screen s v) h at in
+      let o = open_at st.words st.views id (ScreenOf s v) refl h at in
       let mine = (o.each id (ScreenOf s v) at).1 in
       let is : r ≡ o.count = count_is st.words o.count o.shown o.are in
       let risen : v.last ≤ r = omega (arith, is, mine.last) in
@@ -62,7 +59,7 @@ module _ {S : Type 0} where
   reader_takes slots id s v taken c open_try few st h _ at _ =
       let i : ℕ = length taken in
       let r : ℕ = slice_index st.words (i + 1) in
-      let o = open_at st.words st.views id (ScreenOf s v) (not_screen s v) h at in
+      let o = open_at st.words st.views id (ScreenOf s v) refl h at in
       let mine = (o.each id (ScreenOf s v) at).1 in
       let is : r ≡ slice_index o.shown i = word_is st.words o.count o.shown i o.are in
       let v' = sight v.number (v.loads + 1) v.looks v.tries v.wins v.last v.began (Some (taken ++ r ∷ [])) in
@@ -83,7 +80,7 @@ module _ {S : Type 0} where
       → Allows CellRule slots id (ScreenOf s v, c) 0 (λ n. n) (λ r n. Turns (ReaderEnded r) (ScreenOf s v, c) n)
   reader_ends slots id s v taken c open_try all st h _ at _ =
       let r : ℕ = slice_index st.words 0 in
-      let o = open_at st.words st.views id (ScreenOf s v) (not_screen s v) h at in
+      let o = open_at st.words st.views id (ScreenOf s v) refl h at in
       let mine = (o.each id (ScreenOf s v) at).1 in
       let is : r ≡ o.count = count_is st.words o.count o.shown o.are in
       let note = note_of o.noted id in

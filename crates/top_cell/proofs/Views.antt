@@ -1,5 +1,5 @@
 -- The rule of a cell where one view changes.
-use Rattle.std.proofs.Common.{◌≡◌, ◌≢◌, ℕ, zero, suc, ◌%◌, ◌≤◌, true, false, true≢false, List, [], ◌∷◌, map, length, set, inl, refl, sym, ap, ◌∙◌, subst, ⊎_elim, arith, le_refl, le_trans, length-set}
+use Rattle.std.proofs.Common.{◌≡◌, ◌≢◌, ℕ, Bool, zero, suc, ◌%◌, ◌≤◌, true, false, true≢false, List, [], ◌∷◌, map, length, set, inl, refl, sym, ap, ◌∙◌, subst, ⊎_elim, arith, le_refl, le_trans, length-set}
 use Rattle.std.specs.Prelude.{slice_index}
 use mathlib.Core.Option.{some, some-ne-none, some-injective}
 use lib.ListN.{get_elem?}
@@ -12,14 +12,19 @@ use Rattle.top_cell.specs.declared.rule.Sight.{Sight}
 use Rattle.top_cell.specs.declared.rule.View.{View}
 use Rattle.top_cell.specs.declared.rule.View.TheVariants.{Unopened, WriterOf, Writing, ScreenOf, Spent}
 
-pub only_seat : (seat : ℕ) (v : View) → get_elem? (Unopened ∷ []) seat ≡ some v → (seat ≡ 0) × (Unopened ≡ v)
-only_seat zero v e = (refl, some-injective _ _ e)
-only_seat (suc seat) v e = absurd (some-ne-none v (sym e))
+-- whether a view says something of a cell that is open
+abbrev pub says : View → Bool
+says Unopened = false
+says (WriterOf s own) = true
+says (Writing s x) = true
+says (ScreenOf s v) = true
+says Spent = false
 
 -- a view that says something is a view of a cell that is open
-pub open_at : (words : List ℕ) (views : List View) (seat : ℕ) (v : View) → (Unopened ≡ v → ⊥) → CellHolds words views → get_elem? views seat ≡ some v → IsOpen words views
-open_at words views seat v other (new_cell zeros one) at = absurd (other (only_seat seat v (subst (λ vs. get_elem? vs seat ≡ some v) one at)).1)
-open_at words views seat v other (open_cell o) at = o
+pub open_at : (words : List ℕ) (views : List View) (seat : ℕ) (v : View) → says v ≡ true → CellHolds words views → get_elem? views seat ≡ some v → IsOpen words views
+open_at words views seat v does (new_cell n) at =
+    absurd (⊎_elim (λ t. true≢false (sym does ∙ ap says t.1)) (λ e. true≢false (sym does ∙ ap says e)) (n.each seat v at))
+open_at words views seat v does (open_cell o) at = o
 
 pub set_there : (l : List View) (i : ℕ) (a b : View) → get_elem? l i ≡ some a → get_elem? (set l i b) i ≡ some b
 set_there [] i a b e = absurd (some-ne-none a (sym e))

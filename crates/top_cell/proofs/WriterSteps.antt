@@ -16,13 +16,7 @@ use Rattle.top_cell.specs.declared.rule.Change.{Change}
 use Rattle.top_cell.specs.declared.rule.Rest.{Rest}
 use Rattle.top_cell.specs.declared.rule.Sight.{Sight}
 use Rattle.top_cell.specs.declared.rule.View.{View}
-use Rattle.top_cell.specs.declared.rule.View.TheVariants.{Unopened, WriterOf, Writing, ScreenOf}
-
-not_writer : (s : DayStock) (r : Rest) → Unopened ≡ WriterOf s r → ⊥
-not_writer s r e = cc
-
-not_writing : (s : DayStock) (x : Change) → Unopened ≡ Writing s x → ⊥
-not_writing s x e = cc
+use Rattle.top_cell.specs.declared.rule.View.TheVariants.{WriterOf, Writing, ScreenOf}
 
 up_by_one : (n k : ℕ) → n ≡ k → k < 2 ^ 40 → (n + 1) % 2 ^ 64 ≡ k + 1
 up_by_one n k is small = ap (λ m. (m + 1) % 2 ^ 64) is ∙ mod-eq_of_lt (omega arith)
@@ -58,7 +52,7 @@ module _ {S : Type 0} where
       → Allows CellRule slots id (WriterOf s own, c) 0 (λ n. (n + 1) % 2 ^ 64) (λ r m. Turns (WriterBegun new) (WriterOf s own, c) m)
   writer_begins slots id s own new c few shows later st h _ at _ =
       let n : ℕ = own.number in
-      let o = open_at st.words st.views id (WriterOf s own) (not_writer s own) h at in
+      let o = open_at st.words st.views id (WriterOf s own) refl h at in
       let mine = o.each id (WriterOf s own) at in
       let still = o.at_rest mine.3 in
       let stood : ShowsOf s n o.shown = subst (λ (z : DayStock × ℕ). ShowsOf z.0 z.1 o.shown) (λ i. (sym mine.1 i, sym mine.2 i)) still.0 in
@@ -91,7 +85,7 @@ module _ {S : Type 0} where
   pub writer_puts : (slots id : ℕ) (s : DayStock) (x : Change) (b : ℕ) (c : List (ℕ × S)) → x.put < 4 → b ≡ slice_index x.new x.put
       → Allows CellRule slots id (Writing s x, c) (x.put + 1) (λ _. b) (λ _ m. Turns WriterHasPut (Writing s x, c) m)
   writer_puts slots id s x b c few right st h _ at _ =
-      let o = open_at st.words st.views id (Writing s x) (not_writing s x) h at in
+      let o = open_at st.words st.views id (Writing s x) refl h at in
       let mine = o.each id (Writing s x) at in
       let ch = mine.2 in
       let j : ℕ = x.put in
@@ -126,7 +120,7 @@ module _ {S : Type 0} where
   pub writer_ends : (slots id : ℕ) (s : DayStock) (x : Change) (c : List (ℕ × S)) → length s.day < 2 ^ 32 → x.put ≡ 4
       → Allows CellRule slots id (Writing s x, c) 0 (λ n. (n + 1) % 2 ^ 64) (λ r m. Turns WriterEnded (Writing s x, c) m)
   writer_ends slots id s x c few all st h _ at _ =
-      let o = open_at st.words st.views id (Writing s x) (not_writing s x) h at in
+      let o = open_at st.words st.views id (Writing s x) refl h at in
       let mine = o.each id (Writing s x) at in
       let ch = mine.2 in
       let n : ℕ = number_in x.new in

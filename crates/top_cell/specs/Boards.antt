@@ -1,10 +1,10 @@
 -- A board, its writers and its screens, as contracts see them. All is of this project.
-use Rattle.std.specs.Prelude.{◌≡◌, ℕ, List, Some, length, map, slice_get}
+use Rattle.std.specs.Prelude.{◌≡◌, ◌*◌, ◌<◌, ◌^◌, ℕ, List, Some, length, map, slice_get}
 use Rattle.atomic_table.specs.Seated.{TableId}
 use Rattle.top_cell.specs.Rule.{stock_of}
-use Rattle.top_cell.specs.declared.rule.View.{View}
+use Rattle.top_cell.specs.Seats.{CellSeat}
 
--- a cell: the locate code of its stock, and the identity of its table
+-- a cell: the locate code of its stock, and the identity of its board's table
 pub record CellId : Type 0 where
   pub locate : ℕ
   pub table : TableId
@@ -47,14 +47,18 @@ pub record ScreenAt : Type 0 where
 abbrev pub cell_id : ℕ → TableId → CellId
 cell_id locate table = record { locate = locate; table = table }
 
--- the cell of a view
-abbrev pub place : View → ℕ → TableId → Place
-place v index table = record {
-  day = (stock_of v).day;
-  locate = (stock_of v).locate;
-  index = index;
-  cell = cell_id (stock_of v).locate table;
+-- the cell of a seat
+abbrev pub place : CellSeat → Place
+place seat = record {
+  day = (stock_of seat.me.0).day;
+  locate = (stock_of seat.me.0).locate;
+  index = seat.index;
+  cell = cell_id (stock_of seat.me.0).locate seat.table_id;
 }
+
+-- the cells of these stocks, in one table
+abbrev pub cells_of : TableId → List ℕ → List CellId
+cells_of table locates = map (λ locate. cell_id locate table) locates
 
 -- the cell is one of this board
 abbrev pub IsOn : List CellId → Place → Type 0
@@ -64,7 +68,13 @@ IsOn board own = slice_get board own.index ≡ Some own.cell
 abbrev pub AreApart : List CellId → Type 0
 AreApart board =
     (i j : ℕ) (c d : CellId) → slice_get board i ≡ Some c → slice_get board j ≡ Some d
-    → c.locate ≡ d.locate → c ≡ d
+    → c.locate ≡ d.locate → i ≡ j
+
+-- the table has eight words for each of the board's stocks, each of which has one cell
+abbrev pub IsBoard : TableId → ℕ → List ℕ → Type 0
+IsBoard table cells locates =
+    AreApart (cells_of table locates) × (cells ≡ length locates) × (cells * 8 ≡ table.words)
+    × (cells * 8 < 2 ^ 64)
 
 -- a screen that stands at a message and has made no loads, at a seat
 abbrev pub new_screen : Place → ℕ → ℕ → ScreenAt

@@ -1,4 +1,5 @@
 pub mod Rule
+pub mod Cells
 pub mod Opens
 pub mod WriterBegins
 pub mod WriterPuts

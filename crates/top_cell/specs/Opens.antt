@@ -1,10 +1,22 @@
--- Open: the first view of a cell becomes its writer's, at no message, by one load.
-use Rattle.std.specs.Prelude.{◌≡◌, []}
+-- Open: the first seat of a board opens the next cell, and gives beside itself the seat of the cell's writer, which stands at
+-- no message and has noted nothing.
+use Rattle.std.specs.Prelude.{◌+◌, []}
+use Rattle.top_cell.specs.Cells.{cell_of}
 use Rattle.top_cell.specs.Rule.{rest}
 use Rattle.top_cell.specs.declared.rule.DayStock.{DayStock}
+use Rattle.top_cell.specs.declared.rule.Standing.{Standing}
+use Rattle.top_cell.specs.declared.rule.Standing.TheVariants.{At, Opener}
 use Rattle.top_cell.specs.declared.rule.View.{View}
 use Rattle.top_cell.specs.declared.rule.View.TheVariants.{WriterOf}
 
--- the view is that of the stock's writer, before the first message, which has noted nothing
-abbrev pub Opened : DayStock → View → View → Type 0
-Opened stock before after = after ≡ WriterOf stock (rest 0 [])
+-- a writer's view before the first message, where it has noted nothing
+abbrev pub first_view : DayStock → View
+first_view stock = WriterOf stock (rest 0 [])
+
+-- the first seat, after it has opened a cell
+abbrev pub next_opener : Standing → Standing
+next_opener s = Opener (cell_of s + 1)
+
+-- the seat of the writer of the cell that the first seat opens
+abbrev pub opened : DayStock → Standing → Standing
+opened stock s = At (cell_of s) (first_view stock)

@@ -125,10 +125,16 @@ pub record IsOpen (words : List ℕ) (views : List View) : Type 0 where
   pub each : (seat : ℕ) (v : View) → get_elem? views seat ≡ some v
       → Fits stock count shown number writer noted seat v
 
--- the words and the views of a cell: it isn't opened yet, and has five zeros and one view that names nothing, or it
--- is open
+-- a cell that isn't opened yet: it has five zeros, and nothing is known at any seat, but at one that it isn't opened
+pub record IsNew (words : List ℕ) (views : List View) : Type 0 where
+  pub opener : ℕ
+  pub zeros : words ≡ 0 ∷ 0 ∷ 0 ∷ 0 ∷ 0 ∷ []
+  pub each : (seat : ℕ) (v : View) → get_elem? views seat ≡ some v
+      → ((seat ≡ opener) × (v ≡ Unopened)) ⊎ (v ≡ Spent)
+
+-- the words and the views of a cell: it isn't opened yet, or it is open
 pub data CellHolds (words : List ℕ) (views : List View) : Type 0 where
-  new_cell : words ≡ 0 ∷ 0 ∷ 0 ∷ 0 ∷ 0 ∷ [] → views ≡ Unopened ∷ [] → CellHolds words views
+  new_cell : IsNew words views → CellHolds words views
   open_cell : IsOpen words views → CellHolds words views
 
 -- the rule of a cell

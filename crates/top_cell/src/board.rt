@@ -1,13 +1,13 @@
 //! The cells of a day's stocks.
-ghost use Rattle.std.specs.Prelude.{◌≡◌, ◌<◌, [], IfOk, Some, length, map, slice_get};
+ghost use Rattle.std.specs.Prelude.{ℕ, ◌≡◌, ◌+◌, ◌*◌, ◌<◌, ◌^◌, IfOk, Some, length, slice_get};
 ghost use Rattle.itch_table.specs.Shows.{locates_of_day};
-ghost use Rattle.top_cell.specs.Boards.{AreApart, AreNew, cell_id, new_writer};
-ghost use Rattle.top_cell.specs.Rule.{day_stock, rest};
-ghost use Rattle.top_cell.specs.Seats.{IsSeatOf};
-ghost use Rattle.top_cell.specs.declared.rule.View.TheVariants.{Unopened, WriterOf};
+ghost use Rattle.top_cell.specs.Boards.{AreApart, AreNew, CellId, cell_id, new_writer};
+ghost use Rattle.top_cell.specs.Rule.{day_stock};
+ghost use Rattle.top_cell.specs.declared.rule.Standing.TheVariants.{Opener};
 
 use crate::kinds::opens::{Naming, Opens};
-use crate::rule::{Cell, Seat, Words};
+use crate::rule::{Cells, Standing, Words};
+use crate::seat::{STRIDE, Seat};
 use crate::writer::TopWriter;
 use binaryfile::Day;
 use day_core::locates;
@@ -16,68 +16,62 @@ use std::marker::{Brand, Model};
 
 /// A cell for each stock of a day, by rising locate code. Threads share it by reference.
 ///
-/// It is seen as its cells, each the locate code of its stock and an identity.
+/// All cells lie one after another in one table. A board is seen as its cells, each the locate code of its stock and
+/// the identity of the table.
 #[derive(Drop)]
 pub struct Board<'a, A: Allocator> {
-    cells: Vec<Cell<'a, A>, A>,
+    locates: Vec<u16, A>,
+    cells: Cells<'a, A>,
 }
 
 impl<'a, A: Allocator> Model for Board<'a, A> {
-    ghost use Rattle.std.specs.Prelude.{List, map};
-    ghost use Rattle.top_cell.specs.Boards.{AreApart, CellId, cell_id};
+    ghost use Rattle.std.specs.Prelude.{List};
+    ghost use Rattle.top_cell.specs.Boards.{CellId, IsBoard, cells_of};
 
     ghost Value = { List CellId };
 
-    ghost view = { λ b. map (λ c. cell_id c.shared.key c.shared.table_id) b.cells.items };
+    ghost view = { λ b. cells_of b.cells.shared.table_id b.locates.items };
 
-    ghost invariant = { λ b. AreApart (map (λ c. cell_id c.shared.key c.shared.table_id) b.cells.items) };
+    ghost invariant = { λ b. IsBoard b.cells.shared.table_id b.cells.shared.key b.locates.items };
 }
 
 impl<'a, A: Allocator> Board<'a, A> {
-    // The cell at an index.
-    pub(crate) fn cell(&self, index: usize) -> &Words
-        requires { index < length self.now }
-        ensures cell { slice_get self.now index ≡ Some (cell_id result.now.key result.now.table_id) }
+    // The words of its cells.
+    pub(crate) fn cells(&self) -> &Words
+        ensures table { (index : ℕ) (cell : CellId) → slice_get self.now index ≡ Some cell
+            → cell.table ≡ result.now.table_id }
+        ensures count { result.now.key ≡ length self.now }
+        ensures words { (length self.now * 8 ≡ result.now.table_id.words) × (length self.now * 8 < 2 ^ 64) }
         ensures apart { AreApart self.now }
     {
-        &self.cells[index].shared
+        &self.cells.shared
     }
 }
 
-// Makes the first seat of a cell its writer's.
-fn open<J: Naming, A: Allocator>(cell: &Words, mut seat: Seat, day: &Day<A>, locate: u16) -> Seat
-    requires stock { J.stock ≡ day_stock day.now.payloads locate }
-    requires own { IsSeatOf cell.now.table_id seat }
-    requires first { seat.me.0 ≡ Unopened }
-    ensures own { result.table_id ≡ seat.table_id }
-    ensures writer { result.me.0 ≡ WriterOf (day_stock day.now.payloads locate) (rest 0 []) }
-{
-    cell.load::<Opens<J>>(&mut seat, 0);
-    seat
-}
-
-// A cell of a stock of the day, and its writer, for this index on a board.
-fn new_cell<'a, A: Allocator>(
-    alloc: &'a A,
+// Opens the next cell of a board, as that of a stock of the day, and returns its writer.
+fn open<J: Naming, A: Allocator>(
+    cells: &Words,
+    opener: &mut atomic_table::Seat<(), Standing>,
     day: &Day<A>,
     locate: u16,
     index: usize,
-) -> Result<(Cell<'a, A>, TopWriter), AllocError>
-    ensures cell { IfOk result (λ made. made.0.shared.key ≡ locate) }
-    ensures writer { IfOk result (λ made. made.1
-        ≡ new_writer day.now.payloads locate index (cell_id locate made.0.shared.table_id)) }
+) -> TopWriter
+    requires stock { J.stock ≡ day_stock day.now.payloads locate }
+    requires own { (opener.old.table_id ≡ cells.now.table_id) × (0 < cells.now.table_id.words) }
+    requires next { opener.old.me.0 ≡ Opener index }
+    ensures same { opener.new.table_id ≡ opener.old.table_id }
+    ensures next { opener.new.me.0 ≡ Opener (index + 1) }
+    ensures writer { result
+        ≡ new_writer day.now.payloads locate index (cell_id locate cells.now.table_id) }
 {
     // For the proof alone: it says that the day has fewer than 2^32 messages.
     let _few = day.payloads();
-    let (cell, seat) = Cell::of_words(alloc, &[0; 5], &locate)?;
-    let writer_seat = open::<Brand, A>(&cell.shared, seat, day, locate);
-    let writer = TopWriter {
-        seat: writer_seat,
-        index,
+    let hand = cells.split_seat::<Opens<J>>(opener);
+    TopWriter {
+        seat: Seat { hand, index },
         locate,
         message: 0,
-    };
-    Ok((cell, writer))
+    }
 }
 
 impl<'a, A: Allocator + Copy> Board<'a, A> {
@@ -104,13 +98,19 @@ impl<'a, A: Allocator + Copy> Board<'a, A> {
         ensures { IfOk result (λ made.
             AreNew day.now.payloads (locates_of_day day.now.payloads) made.0 made.1.items) }
     {
-        let mut cells = Vec::with_capacity(*alloc, locates.len())?;
-        let mut writers = Vec::with_capacity(*alloc, locates.len())?;
+        let count = locates.len();
+        let Some(words) = count.checked_mul(STRIDE) else {
+            return Err(AllocError);
+        };
+        let zeros = vec![in *alloc; 0u64; words]?;
+        let (cells, mut opener) = Cells::of_words(alloc, &zeros, &(count as u64))?;
+        let mut writers = Vec::with_capacity(*alloc, count)?;
         for locate in locates {
-            let (cell, writer) = new_cell(alloc, day, *locate, cells.len())?;
-            cells.push(cell)?;
+            let index = writers.len();
+            let writer = open::<Brand, A>(&cells.shared, &mut opener, day, *locate, index);
             writers.push(writer)?;
         }
-        Ok((Board { cells }, writers))
+        let locates = Vec::from_slice(*alloc, locates)?;
+        Ok((Board { locates, cells }, writers))
     }
 }

@@ -1,5 +1,6 @@
-//! The nine kinds of step of a cell.
+//! The nine kinds of step of a cell, and a step of a cell as one of its board.
 pub mod joins;
+pub mod of_cell;
 pub mod opens;
 pub mod reader_begins;
 pub mod reader_ends;

@@ -37,6 +37,7 @@ mod kinds;
 mod reading;
 mod rule;
 mod screen;
+mod seat;
 pub mod steps;
 mod trying;
 mod writer;

@@ -1,4 +1,4 @@
-//! The rule of a cell, and what its writer and its screens know.
+//! The rule of a board's cells, and what the writer and the screens of a cell know.
 use atomic_table::{Shared, Table, TableRule};
 use std::collections::LinkedList;
 
@@ -39,7 +39,7 @@ pub struct Change {
     pub noted: LinkedList<Sight>,
 }
 
-/// What is known at one seat of a cell. No value of it is made.
+/// What is known of a cell at one seat. No value of it is made.
 pub enum View {
     /// That the cell isn't opened yet.
     Unopened,
@@ -50,27 +50,32 @@ pub enum View {
     Writing(DayStock, Change),
     /// A screen's: its stock, and what it knows of the cell.
     ScreenOf(DayStock, Sight),
-    /// Nothing any more.
+    /// Nothing: the seat is of another cell, or isn't used any more.
     Spent,
 }
 
-/// The rule that every step of a cell keeps.
-pub struct CellRule;
-
-impl TableRule<(), View, u16> for CellRule {
-    ghost use Rattle.top_cell.specs.Rule.{CellRule};
-    ghost use Rattle.top_cell.specs.declared.rule.View.TheVariants.{Unopened};
-
-    ghost holds = { λ _. CellRule };
-
-    ghost first = { λ _. Unopened };
+/// What is known at one seat of a board. No value of it is made.
+pub enum Standing {
+    /// At the first seat: that the cells from this index on aren't opened yet.
+    Opener(u64),
+    /// Of the cell at this index.
+    At(u64, View),
 }
 
-/// The count and the four words of a stock, as all threads see them. They are given the stock's locate code.
-pub type Words = Shared<(), View, u16, CellRule>;
+/// The rule that every step of a board keeps.
+pub struct BoardRule;
 
-/// A cell with its memory, which it frees by a reference to its board's allocator.
-pub type Cell<'a, A> = Table<(), View, u16, CellRule, &'a A>;
+impl TableRule<(), Standing, u64> for BoardRule {
+    ghost use Rattle.top_cell.specs.Cells.{BoardRule};
+    ghost use Rattle.top_cell.specs.declared.rule.Standing.TheVariants.{Opener};
 
-/// What a writer or a screen holds of its cell.
-pub type Seat = atomic_table::Seat<(), View>;
+    ghost holds = { BoardRule };
+
+    ghost first = { λ _. Opener 0 };
+}
+
+/// The words of all cells of a board, as all threads see them. They are given how many cells there are.
+pub type Words = Shared<(), Standing, u64, BoardRule>;
+
+/// The same with their memory, which they free by a reference to their board's allocator.
+pub type Cells<'a, A> = Table<(), Standing, u64, BoardRule, &'a A>;

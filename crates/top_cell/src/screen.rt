@@ -5,10 +5,8 @@ ghost use Rattle.top_cell.specs.Boards.{IsOn, new_screen};
 ghost use Rattle.top_cell.specs.Readings.{words_read};
 
 use crate::board::Board;
-use crate::kinds::joins::Joins;
-use crate::kinds::splits::Splits;
 use crate::reading::Reading;
-use crate::rule::Seat;
+use crate::seat::Seat;
 use crate::trying::try_times;
 use std::alloc::Allocator;
 use std::marker::Model;
@@ -23,7 +21,6 @@ use std::sync::Wait;
 #[derive(Drop)]
 pub struct Screen {
     pub(crate) seat: Seat,
-    pub(crate) index: usize,
     pub(crate) locate: u16,
     pub(crate) message: u32,
 }
@@ -36,7 +33,7 @@ impl Model for Screen {
     ghost Value = { ScreenAt };
 
     ghost view = { λ s. record {
-      place = place s.seat.me.0 s.index s.seat.table_id;
+      place = place s.seat;
       seat = s.seat.id;
       message = s.message;
       loads = (sight_of s.seat.me.0).loads;
@@ -111,8 +108,8 @@ impl Screen {
         ensures even { IfOk result (λ _. (self.new.last ≡ self.new.began) × (self.new.last % 2 ≡ 0)) }
         ensures loads { (self.old.loads < self.new.loads) × (self.new.loads ≤ self.old.loads + 6 * tries) }
     {
-        let cell = board.cell(self.index);
-        match try_times(cell, &mut self.seat, tries) {
+        let cells = board.cells();
+        match try_times(cells, &mut self.seat, tries) {
             Ok(words) => {
                 let reading = Reading::of(&words);
                 self.message = reading.message;
@@ -154,10 +151,9 @@ impl Screen {
         ensures same { self.new ≡ self.old }
         ensures screen { result ≡ new_screen self.old.place self.old.message result.seat }
     {
-        let cell = board.cell(self.index);
+        let cells = board.cells();
         Screen {
-            seat: cell.split_seat::<Splits>(&mut self.seat),
-            index: self.index,
+            seat: self.seat.split(cells),
             locate: self.locate,
             message: self.message,
         }
@@ -173,12 +169,11 @@ impl Screen {
     {
         let Screen {
             seat,
-            index: _,
             locate: _,
             message,
         } = other;
-        let cell = board.cell(self.index);
-        cell.join_seat::<Joins>(&mut self.seat, seat);
+        let cells = board.cells();
+        self.seat.join(cells, seat);
         self.message = self.message.max(message);
     }
 }

@@ -5,7 +5,7 @@ ghost use Rattle.itch_table.specs.Shows.{top_after};
 ghost use Rattle.top_cell.specs.Boards.{IsOn};
 
 use crate::board::Board;
-use crate::rule::Seat;
+use crate::seat::Seat;
 use crate::writer::TopWriter;
 use crate::writing::{begin_write, end_write, put_word};
 use itch_table::Top;
@@ -18,7 +18,6 @@ use std::marker::{Brand, Model};
 /// it changes the cell, and how many of the four words it has put.
 pub struct Opened {
     seat: Seat,
-    index: usize,
     locate: u16,
     message: u32,
     words: [u64; 4],
@@ -33,7 +32,7 @@ impl Model for Opened {
     ghost Value = { ChangeAt };
 
     ghost view = { λ w. record {
-      place = place w.seat.me.0 w.index w.seat.table_id;
+      place = place w.seat;
       from = number_of w.seat.me.0;
       to = w.message;
       put = w.put;
@@ -58,16 +57,13 @@ pub fn begin<A: Allocator>(
 {
     let TopWriter {
         mut seat,
-        index,
         locate,
         message: _,
     } = writer;
     let words = top.to_words(message);
-    let cell = board.cell(index);
-    begin_write::<Brand>(cell, &mut seat, &words);
+    begin_write::<Brand>(board.cells(), &mut seat, &words);
     Opened {
         seat,
-        index,
         locate,
         message,
         words,
@@ -83,8 +79,8 @@ impl Opened {
         ensures { self.new ≡ record self.old { put = self.old.put + 1 } }
     {
         let word = self.words[self.put];
-        let cell = board.cell(self.index);
-        put_word(cell, &mut self.seat, self.put, word);
+        let cells = board.cells();
+        put_word(cells, &mut self.seat, self.put, word);
         self.put += 1;
     }
 
@@ -96,17 +92,14 @@ impl Opened {
     {
         let Opened {
             mut seat,
-            index,
             locate,
             message,
             words: _,
             put: _,
         } = self;
-        let cell = board.cell(index);
-        end_write(cell, &mut seat);
+        end_write(board.cells(), &mut seat);
         TopWriter {
             seat,
-            index,
             locate,
             message,
         }

@@ -4,9 +4,8 @@ ghost use Rattle.itch_table.specs.Shows.{top_after};
 ghost use Rattle.top_cell.specs.Boards.{IsOn, new_screen};
 
 use crate::board::Board;
-use crate::kinds::splits::Splits;
-use crate::rule::Seat;
 use crate::screen::Screen;
+use crate::seat::Seat;
 use crate::writing::write;
 use itch_table::Top;
 use std::alloc::Allocator;
@@ -19,7 +18,6 @@ use std::marker::Model;
 #[derive(Drop)]
 pub struct TopWriter {
     pub(crate) seat: Seat,
-    pub(crate) index: usize,
     pub(crate) locate: u16,
     pub(crate) message: u32,
 }
@@ -30,7 +28,7 @@ impl Model for TopWriter {
 
     ghost Value = { WriterAt };
 
-    ghost view = { λ w. record { place = place w.seat.me.0 w.index w.seat.table_id; message = w.message } };
+    ghost view = { λ w. record { place = place w.seat; message = w.message } };
 
     ghost invariant = { λ w. IsWritersSeat w.seat w.locate w.message };
 }
@@ -67,8 +65,7 @@ impl TopWriter {
             return;
         }
         let words = top.to_words(message);
-        let cell = board.cell(self.index);
-        write(cell, &mut self.seat, &words);
+        write(board.cells(), &mut self.seat, &words);
         self.message = message;
     }
 
@@ -77,7 +74,7 @@ impl TopWriter {
     pub fn touch<A: Allocator>(&self, board: &Board<'_, A>) -> u64
         requires { IsOn board.now self.now.place }
     {
-        board.cell(self.index).peek(0)
+        self.seat.peek(board.cells(), 0)
     }
 
     /// A screen of the writer's stock, which stands where the writer stands: it never shows an earlier message. The
@@ -87,10 +84,9 @@ impl TopWriter {
         ensures same { self.new ≡ self.old }
         ensures screen { result ≡ new_screen self.old.place self.old.message result.seat }
     {
-        let cell = board.cell(self.index);
+        let cells = board.cells();
         Screen {
-            seat: cell.split_seat::<Splits>(&mut self.seat),
-            index: self.index,
+            seat: self.seat.split(cells),
             locate: self.locate,
             message: self.message,
         }

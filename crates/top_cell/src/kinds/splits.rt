@@ -1,13 +1,13 @@
 //! Split: beside itself a writer or a screen gives a screen that stands where it stands.
-use crate::rule::View;
+use crate::rule::Standing;
 use atomic_table::Split;
 
 pub struct Splits;
 
-impl Split<View> for Splits {
-    ghost use Rattle.top_cell.specs.Splits.{screen_beside};
+impl Split<Standing> for Splits {
+    ghost use Rattle.top_cell.specs.Splits.{seat_beside};
 
-    ghost left = { λ v. v };
+    ghost left = { λ s. s };
 
-    ghost right = { screen_beside };
+    ghost right = { seat_beside };
 }

@@ -1,27 +1,40 @@
-use Rattle.std.proofs.Common.{◌∙◌, ◌∷◌, ◌++◌, [], ℕ, List, ap, arith, map, subst, take_all}
+use Rattle.std.proofs.Common.{◌∙◌, ◌+◌, [], ℕ, List, ap, arith, length, length-take-le, take, replicate, subst, sym, take_all}
 use Rattle.std.proofs.lemmas.List.{length-map, map-append, take_more}
-use Rattle.top_cell.specs.Boards.{AreNew, cell_id}
+use Rattle.top_cell.specs.Boards.{AreApart, AreNew, cell_id, cells_of}
+use Rattle.top_cell.specs.declared.rule.Standing.TheVariants.{Opener}
+use Rattle.top_cell.proofs.Cells.{new_board}
 use Rattle.top_cell.proofs.Places.{day_apart, more_new}
 use Rattle.top_cell.proofs.board.Board.of_stocks.Goals as goal
+
+pub of_words-requires : goal.of_words-requires
+of_words-requires g c =
+    let zeros = c.in_ok-zeros.ensures.items_if_clones_equal (λ y e. e) in
+    new_board {S = Unit {0}} (length c.args.locates.now) _ [] (c.deref.ensures.value ∙ zeros ∙ ap (λ n. replicate n 0) (c.in-Some.ensures.1))
 
 pub loop-locate-preserved : goal.loop-locate-preserved
 loop-locate-preserved g c =
     let items = c.args.locates.now in
-    let cells = c.loop-locate.cells.items in
     let at = c.loop-locate.locate-index in
-    let table = c.in_ok-cell.cell.shared.table_id in
-    let made = c.in_ok-cell.ensures in
-    more_new _ _ _ _ _ _ _ _ c.len.result table c.in_ok-cell.writer c.loop-locate.invariant
-    (omega (arith, c.len.ensures, length-map cells (λ x. cell_id x.shared.key x.shared.table_id), c.loop-locate.cells.ok.0))
-    made.writer
-    (take_more items at 0 c.loop-locate-test.true)
-    (ap (map (λ x. cell_id x.shared.key x.shared.table_id)) c.in_ok-push.ensures.items ∙ map-append (λ x. cell_id x.shared.key x.shared.table_id) cells (c.in_ok-cell.cell ∷ [])
-    ∙ ap (λ (n : ℕ). map (λ x. cell_id x.shared.key x.shared.table_id) cells ++ cell_id n table ∷ []) made.cell)
-    c.in_ok-push-2.ensures.items
+    let table = c.in_ok-cells.cells.shared.table_id in
+    let i = c.loop-locate.invariant in
+    let more = take_more items at 0 c.loop-locate-test.true in (
+      more_new _ _ _ _ _ _ _ _ c.len-index.result table c.open-writer.result i.0
+          (omega (arith, c.len-index.ensures, c.loop-locate.writers.ok.0, i.0.long))
+          c.open-writer.ensures.writer more
+          (ap (cells_of table) more ∙ map-append (λ locate. cell_id locate table) _ _)
+          c.in_ok-push.ensures.items,
+      c.open-writer.ensures.same ∙ i.1,
+      c.open-writer.ensures.next ∙ ap (λ n. Opener (n + 1)) (omega (arith, c.len-index.ensures, c.loop-locate.writers.ok.0, ap length i.0.stocks, length-map c.loop-locate.writers.items (λ w. w.place.locate), length-take-le at items (omega (arith, c.loop-locate-test.true)))),
+    )
 
 pub invariant_of-result : goal.invariant_of-result
 invariant_of-result g c =
     let items = c.args.locates.now in
     let all = take_all c.loop-locate.locate-index items (omega (arith, c.loop-locate-test.false)) in
-    let same = all ∙ c.requires in
-    day_apart c.args.day.now.payloads _ c.loop-locate.writers.items (subst (λ (locates : List ℕ). AreNew c.args.day.now.payloads locates (map (λ x. cell_id x.shared.key x.shared.table_id) c.loop-locate.cells.items) c.loop-locate.writers.items) same c.loop-locate.invariant)
+    let table = c.in_ok-cells.cells.shared.table_id in
+    let copy = c.in_ok-locates.ensures.items in
+    let apart = day_apart c.args.day.now.payloads _ c.loop-locate.writers.items (subst (λ (locates : List ℕ). AreNew c.args.day.now.payloads locates (cells_of table (take c.loop-locate.locate-index items)) c.loop-locate.writers.items) (all ∙ c.requires) c.loop-locate.invariant.0) in
+    let board = ap (cells_of table) (all ∙ sym copy) in
+    let made = c.in_ok-cells.ensures in
+    let words = made.0 ∙ c.deref.ensures.len ∙ c.in_ok-zeros.ensures.len ∙ c.in-Some.ensures.1 in
+    (subst AreApart board apart, made.5 ∙ sym (ap length copy), omega (arith, made.5, words), omega (arith, made.5, c.in-Some.ensures.0))

@@ -1,18 +1,13 @@
-use Rattle.std.proofs.Common.{◌<◌, sym, ap, ◌∙◌, subst}
+use Rattle.std.proofs.Common.{◌<◌, sym, subst}
 use Rattle.top_cell.specs.Boards.{ChangeAt, IsOn}
-use Rattle.top_cell.proofs.Places.{same_table, within}
+use Rattle.top_cell.proofs.Places.{seat_on}
 use Rattle.top_cell.proofs.steps.Opened.put.Goals as goal
-
-pub cell-cell-requires : goal.cell-cell-requires
-cell-cell-requires g c =
-    let on = subst (λ (w : ChangeAt). IsOn c.args.board.now w.place) (sym c.self.view_is) c.requires.own in
-    within c.args.board.now _ _ on
 
 pub put_word-requires-clause-seat : goal.put_word-requires-clause-seat
 put_word-requires-clause-seat g c =
     let on = subst (λ (w : ChangeAt). IsOn c.args.board.now w.place) (sym c.self.view_is) c.requires.own in
-    let own = same_table c.args.board.now _ _ _ _ on c.cell-cell.ensures.cell in
-    (own, sym (ap (λ t. t.words) own) ∙ c.self.invariant.7)
+    let e = c.cells-cells.ensures in
+    seat_on c.args.board.now _ _ c.self.inside.seat on e.table e.count e.words
 
 pub put_word-requires-clause-writing : goal.put_word-requires-clause-writing
 put_word-requires-clause-writing g c =

@@ -1,14 +1,9 @@
-use Rattle.std.proofs.Common.{◌≡◌, ◌≤◌, length, sym, ap, ◌∙◌, subst, arith}
+use Rattle.std.proofs.Common.{◌≡◌, ◌≤◌, length, sym, subst, arith}
 use Rattle.itch_table.specs.Shows.{top_after}
 use Rattle.top_cell.specs.Boards.{WriterAt, IsOn}
-use Rattle.top_cell.proofs.Places.{same_table, within}
+use Rattle.top_cell.proofs.Places.{seat_on}
 use Rattle.top_cell.proofs.Shown.{shows_words}
 use Rattle.top_cell.proofs.writer.TopWriter.publish.Goals as goal
-
-pub cell-cell-requires : goal.cell-cell-requires
-cell-cell-requires g c =
-    let on = subst (λ (w : WriterAt). IsOn c.args.board.now w.place) (sym c.self.view_is) c.requires.own in
-    within c.args.board.now _ _ on
 
 pub write-requires : goal.write-requires
 write-requires g c =
@@ -18,6 +13,6 @@ write-requires g c =
     let later = subst (λ (w : WriterAt). w.message ≤ c.args.message) s c.requires.later in
     let last = subst (λ (w : WriterAt). c.args.message ≤ length w.place.day) s c.requires.within in
     let top = subst (λ (w : WriterAt). c.args.top ≡ top_after w.place.day w.place.locate c.args.message) s c.requires.top in
-    let own = same_table c.args.board.now _ _ _ _ on c.cell-cell.ensures.cell in
+    let e = c.cells.ensures in
     let shows = shows_words _ c.args.message c.args.top _ last top c.to_words-words.ensures in
-    record { seat = (own, sym (ap (λ t. t.words) own) ∙ i.4); idle = (i.0, i.3); words = (shows.0, grind (arith, shows.1, i.1, later, c.if-message-self.false)) }
+    record { seat = seat_on c.args.board.now _ _ c.self.inside.seat on e.table e.count e.words; idle = (i.0, i.3); words = (shows.0, grind (arith, shows.1, i.1, later, c.if-message-self.false)) }

@@ -1,0 +1,118 @@
+//! The seats of a cell, and the steps that are made at them.
+ghost use Rattle.std.specs.Prelude.{◌≡◌, ◌+◌, ◌*◌, ◌%◌, ◌<◌, ◌^◌, []};
+ghost use mathlib.Core.Option.{none};
+ghost use Rattle.atomic_table.specs.Table.{step, Allows};
+ghost use Rattle.top_cell.specs.Joins.{joined};
+ghost use Rattle.top_cell.specs.Rule.{CellRule};
+ghost use Rattle.top_cell.specs.Seats.{IsSameSeat, IsSeatOf, MayJoin, MaySplit, new_seat, seat_with};
+ghost use Rattle.top_cell.specs.Splits.{screen_beside};
+
+use crate::kinds::joins::Joins;
+use crate::kinds::of_cell::OfCell;
+use crate::kinds::splits::Splits;
+use crate::rule::{Standing, View, Words};
+use atomic_table::Play;
+use std::marker::Model;
+
+/// How many words a cell has on its board, of which it uses the first five: as many as a line of memory has.
+pub(crate) const STRIDE: usize = 8;
+
+/// What a writer or a screen holds of its cell. It is seen as the number of the seat in the board's table, the index of
+/// the cell, and what is known of the cell there.
+#[derive(Drop)]
+pub struct Seat {
+    pub(crate) hand: atomic_table::Seat<(), Standing>,
+    pub(crate) index: usize,
+}
+
+impl Model for Seat {
+    ghost use Rattle.std.specs.Prelude.{◌≡◌};
+    ghost use Rattle.top_cell.specs.Cells.{IsAt, seen};
+    ghost use Rattle.top_cell.specs.Seats.{CellSeat};
+
+    ghost Value = { CellSeat };
+
+    ghost view = { λ s. record { table_id = s.hand.table_id; id = s.hand.id; index = s.index; me = seen s.hand.me } };
+
+    ghost invariant = { λ s. IsAt s.index s.hand.me.0 };
+}
+
+impl Seat {
+    /// Loads a word of the cell.
+    pub(crate) fn load<M: Play<(), View>>(&mut self, cells: &Words, word: usize) -> u64
+        requires cell { IsSeatOf cells.now.table_id cells.now.key self.old }
+        requires word { word < 5 }
+        requires allows { Allows CellRule cells.now.table_id.slots self.old.id self.old.me word (λ n. n)
+            (M.then (step cells.now.table_id.slots (self.old.index * 8 + word) 0 0 none) self.old.me) }
+        ensures same { IsSameSeat self.old self.new }
+        ensures turns { M.then (step cells.now.table_id.slots (self.old.index * 8 + word) 0 0 none)
+            self.old.me result self.new.me }
+    {
+        cells.load::<OfCell<M>>(&mut self.hand, self.index * STRIDE + word)
+    }
+
+    /// Stores a word of the cell.
+    pub(crate) fn store<M: Play<(), View>>(&mut self, cells: &Words, word: usize, new: u64)
+        requires cell { IsSeatOf cells.now.table_id cells.now.key self.old }
+        requires word { word < 5 }
+        requires allows { Allows CellRule cells.now.table_id.slots self.old.id self.old.me word (λ _. new)
+            (λ _. M.then (step cells.now.table_id.slots (self.old.index * 8 + word) new 0 none) self.old.me new) }
+        ensures same { IsSameSeat self.old self.new }
+        ensures turns { M.then (step cells.now.table_id.slots (self.old.index * 8 + word) new 0 none)
+            self.old.me new self.new.me }
+    {
+        cells.store::<OfCell<M>>(&mut self.hand, self.index * STRIDE + word, new);
+    }
+
+    /// Adds to a word of the cell.
+    pub(crate) fn fetch_add<M: Play<(), View>>(
+        &mut self,
+        cells: &Words,
+        word: usize,
+        more: u64,
+    ) -> u64
+        requires cell { IsSeatOf cells.now.table_id cells.now.key self.old }
+        requires word { word < 5 }
+        requires allows { Allows CellRule cells.now.table_id.slots self.old.id self.old.me word
+            (λ n. (n + more) % 2 ^ 64)
+            (M.then (step cells.now.table_id.slots (self.old.index * 8 + word) more 0 none) self.old.me) }
+        ensures same { IsSameSeat self.old self.new }
+        ensures turns { M.then (step cells.now.table_id.slots (self.old.index * 8 + word) more 0 none)
+            self.old.me result self.new.me }
+    {
+        cells.fetch_add::<OfCell<M>>(&mut self.hand, self.index * STRIDE + word, more)
+    }
+
+    /// Reads a word of the cell, which tells nothing.
+    pub(crate) fn peek(&self, cells: &Words, word: usize) -> u64
+        requires cell { IsSeatOf cells.now.table_id cells.now.key self.now }
+        requires word { word < 5 }
+    {
+        cells.peek(self.index * STRIDE + word)
+    }
+
+    /// A seat of a screen of the same cell, beside this one.
+    pub(crate) fn split(&mut self, cells: &Words) -> Seat
+        requires cell { IsSeatOf cells.now.table_id cells.now.key self.old }
+        requires splits { MaySplit self.old }
+        ensures same { self.new ≡ self.old }
+        ensures beside { result ≡ new_seat self.old result.id (screen_beside self.old.me.0) }
+    {
+        Seat {
+            hand: cells.split_seat::<Splits>(&mut self.hand),
+            index: self.index,
+        }
+    }
+
+    /// Takes in the seat of another screen of the same cell.
+    pub(crate) fn join(&mut self, cells: &Words, other: Seat)
+        requires cell { IsSeatOf cells.now.table_id cells.now.key self.old }
+        requires other { (other.table_id ≡ self.old.table_id) × (other.index ≡ self.old.index)
+            × (other.me.1 ≡ []) }
+        requires joins { MayJoin self.old other }
+        ensures { self.new ≡ seat_with self.old (joined self.old.me.0 other.me.0) }
+    {
+        let Seat { hand, index: _ } = other;
+        cells.join_seat::<Joins>(&mut self.hand, hand);
+    }
+}
