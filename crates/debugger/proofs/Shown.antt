@@ -8,7 +8,7 @@ use Rattle.itch_layouts.specs.declared.shape.Shape.TheVariants.{Known}
 use Rattle.itch_table.specs.declared.outcome.Outcome.{Outcome}
 use Rattle.itch_table.specs.declared.outcome.Part.TheVariants.{Locate, Nowhere}
 use Rattle.itch_table.specs.After.{after, outcome}
-use Rattle.itch_table.specs.Parts.{part}
+use Rattle.itch_table.specs.Parts.{part, part_of_shape}
 use Rattle.itch_table.specs.Projection.{event_with, payload_at}
 use Rattle.itch_table.specs.Table.{step}
 use Rattle.itch_table.specs.World.{World}
@@ -23,6 +23,11 @@ use Rattle.debugger.specs.Finding.{IsLatest}
 use Rattle.debugger.specs.Sessions.{is_system, outcome_at}
 
 -- ---- the event
+
+-- a message of a stock is no system event message
+pub of_stock_no_system : (shape : Shape) (locate : ℕ) → part_of_shape shape ≡ Locate locate → is_system shape ≡ false
+of_stock_no_system (Known (System head m)) locate own = let never : ⊥ = cc in absurd never
+of_stock_no_system shape locate own = refl
 
 event_stays : (shape : Shape) (event : Option ℕ) → is_system shape ≡ false → event_with shape event ≡ event
 event_stays (Known (System head m)) event off = let never : ⊥ = cc in absurd never

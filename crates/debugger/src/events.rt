@@ -9,13 +9,16 @@ use binaryfile::Day;
 use checkpoints::numbers_where;
 use day_core::event_after;
 use itch_layouts::{Msg, Shape, read_msg};
+use itch_table::{Part, part};
 use std::alloc::{AllocError, Allocator};
 
-// Whether a payload is a system event message.
+// Whether a payload is a system event message. Such a message is of no stock, as few are, and only these are read.
+#[tactic(auto, using(crate::proofs::Shown::of_stock_no_system))]
 fn is_system(payload: &[u8]) -> bool
     ensures { result ≡ is_system (shape_of payload.now) }
 {
-    matches!(read_msg(payload), Shape::Known(Msg::System(_, _)))
+    matches!(part(payload), Part::Nowhere(_))
+        && matches!(read_msg(payload), Shape::Known(Msg::System(_, _)))
 }
 
 /// The system event messages of a day, by their numbers, rising.
