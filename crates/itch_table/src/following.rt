@@ -46,9 +46,9 @@ pub fn follow<S: Store>(store: &mut S, payload: &[u8]) -> Result<Outcome, AllocE
     ensures err { OnErr result (S.held store.new ≡ S.held store.old) }
     ensures grows { OnErr result (MayGrow (S.held store.old) payload.now) }
 {
-    match read_msg(payload) {
+    match &read_msg(payload) {
         Shape::Unknown => Ok(Outcome::Passed),
         Shape::BadLength => Ok(Outcome::Refused(Fault::WrongLength)),
-        Shape::Known(msg) => follow_message(store, &msg),
+        Shape::Known(msg) => follow_message(store, msg),
     }
 }

@@ -1,5 +1,5 @@
--- The cells of a board, which lie one after another in one table. Each has eight words, as many as a line of memory, and
--- uses the first five. A seat of the table is of one cell. All is of this project.
+-- The cells of a board, which lie one after another in one table. Each has eight words, as many as a line of
+-- memory, and uses the first five. A seat of the table is of one cell. All is of this project.
 use Rattle.std.specs.Prelude.{◌≡◌, ◌*◌, ◌<◌, ℕ, List, cond, drop, map, nat_eq, nat_lt, take}
 use Rattle.atomic_table.specs.Table.{State, Me}
 use Rattle.top_cell.specs.declared.rule.Standing.{Standing}
@@ -17,7 +17,7 @@ abbrev pub known_of : ℕ → Standing → View
 known_of cell (Opener next) = cond (nat_lt cell next) Spent Unopened
 known_of cell (At own view) = cond (nat_eq own cell) view Spent
 
--- the rule of a board of so many cells: each of them keeps the rule of a cell
+-- the rule of a board of this many cells: each of them keeps the rule of a cell
 abbrev pub BoardRule : {S : Type 0} → ℕ → State S Standing → Type 0
 BoardRule cells s =
     (cell : ℕ) → cell < cells → CellHolds (cell_words cell s.words) (map (known_of cell) s.views)
@@ -43,5 +43,6 @@ abbrev pub seen : {S : Type 0} → Me S Standing → Me S View
 seen m = (view_of m.0, m.1)
 
 -- a step of a cell, at one of its seats: the seat stays at its cell
-abbrev pub StaysAndTurns : {S : Type 0} → (Me S View → ℕ → Me S View → Type 0) → Me S Standing → ℕ → Me S Standing → Type 0
+abbrev pub StaysAndTurns : {S : Type 0} → (Me S View → ℕ → Me S View → Type 0)
+    → Me S Standing → ℕ → Me S Standing → Type 0
 StaysAndTurns by before found after = IsAt (cell_of before.0) after.0 × by (seen before) found (seen after)

@@ -1,5 +1,5 @@
--- Open: the first seat of a board opens the next cell, and gives beside itself the seat of the cell's writer, which stands at
--- no message and has noted nothing.
+-- Open: the first seat of a board opens the next cell, and gives beside itself the seat of the cell's writer,
+-- which stands at no message and has noted nothing.
 use Rattle.std.specs.Prelude.{◌+◌, []}
 use Rattle.top_cell.specs.Cells.{cell_of}
 use Rattle.top_cell.specs.Rule.{rest}

@@ -15,7 +15,7 @@ pub record CellSeat : Type 0 where
   pub index : ℕ
   pub me : Me (Unit {0}) View
 
--- the seat is of one of these many cells of a table, and 64 bits count the table's words
+-- the seat is of one of this many cells of a table, and 64 bits count the table's words
 abbrev pub IsSeatOf : TableId → ℕ → CellSeat → Type 0
 IsSeatOf table cells seat =
     (seat.table_id ≡ table) × (seat.index < cells) × (cells * 8 ≡ table.words) × (cells * 8 < 2 ^ 64)

@@ -66,9 +66,9 @@ fn open<J: Naming, A: Allocator>(
 {
     // For the proof alone: it says that the day has fewer than 2^32 messages.
     let _few = day.payloads();
-    let hand = cells.split_seat::<Opens<J>>(opener);
+    let table_seat = cells.split_seat::<Opens<J>>(opener);
     TopWriter {
-        seat: Seat { hand, index },
+        seat: Seat { table_seat, index },
         locate,
         message: 0,
     }

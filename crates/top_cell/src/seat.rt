@@ -21,7 +21,7 @@ pub(crate) const STRIDE: usize = 8;
 /// the cell, and what is known of the cell there.
 #[derive(Drop)]
 pub struct Seat {
-    pub(crate) hand: atomic_table::Seat<(), Standing>,
+    pub(crate) table_seat: atomic_table::Seat<(), Standing>,
     pub(crate) index: usize,
 }
 
@@ -32,9 +32,14 @@ impl Model for Seat {
 
     ghost Value = { CellSeat };
 
-    ghost view = { λ s. record { table_id = s.hand.table_id; id = s.hand.id; index = s.index; me = seen s.hand.me } };
+    ghost view = { λ s. record {
+      table_id = s.table_seat.table_id;
+      id = s.table_seat.id;
+      index = s.index;
+      me = seen s.table_seat.me;
+    } };
 
-    ghost invariant = { λ s. IsAt s.index s.hand.me.0 };
+    ghost invariant = { λ s. IsAt s.index s.table_seat.me.0 };
 }
 
 impl Seat {
@@ -48,7 +53,7 @@ impl Seat {
         ensures turns { M.then (step cells.now.table_id.slots (self.old.index * 8 + word) 0 0 none)
             self.old.me result self.new.me }
     {
-        cells.load::<OfCell<M>>(&mut self.hand, self.index * STRIDE + word)
+        cells.load::<OfCell<M>>(&mut self.table_seat, self.index * STRIDE + word)
     }
 
     /// Stores a word of the cell.
@@ -61,7 +66,7 @@ impl Seat {
         ensures turns { M.then (step cells.now.table_id.slots (self.old.index * 8 + word) new 0 none)
             self.old.me new self.new.me }
     {
-        cells.store::<OfCell<M>>(&mut self.hand, self.index * STRIDE + word, new);
+        cells.store::<OfCell<M>>(&mut self.table_seat, self.index * STRIDE + word, new);
     }
 
     /// Adds to a word of the cell.
@@ -80,7 +85,7 @@ impl Seat {
         ensures turns { M.then (step cells.now.table_id.slots (self.old.index * 8 + word) more 0 none)
             self.old.me result self.new.me }
     {
-        cells.fetch_add::<OfCell<M>>(&mut self.hand, self.index * STRIDE + word, more)
+        cells.fetch_add::<OfCell<M>>(&mut self.table_seat, self.index * STRIDE + word, more)
     }
 
     /// Reads a word of the cell, which tells nothing.
@@ -99,7 +104,7 @@ impl Seat {
         ensures beside { result ≡ new_seat self.old result.id (screen_beside self.old.me.0) }
     {
         Seat {
-            hand: cells.split_seat::<Splits>(&mut self.hand),
+            table_seat: cells.split_seat::<Splits>(&mut self.table_seat),
             index: self.index,
         }
     }
@@ -112,7 +117,10 @@ impl Seat {
         requires joins { MayJoin self.old other }
         ensures { self.new ≡ seat_with self.old (joined self.old.me.0 other.me.0) }
     {
-        let Seat { hand, index: _ } = other;
-        cells.join_seat::<Joins>(&mut self.hand, hand);
+        let Seat {
+            table_seat,
+            index: _,
+        } = other;
+        cells.join_seat::<Joins>(&mut self.table_seat, table_seat);
     }
 }

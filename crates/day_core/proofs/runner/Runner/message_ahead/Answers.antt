@@ -1,4 +1,4 @@
-use Rattle.std.proofs.Common.{◌≡◌, List, ℕ, refl, sym, ap, subst, ◌∙◌, arith}
+use Rattle.std.proofs.Common.{List, ℕ, refl, sym, ap, subst, ◌∙◌, arith}
 use Rattle.binaryfile.specs.Index.{IsPlace}
 use Rattle.day_core.specs.Workers.{WorkerState, state_in}
 use Rattle.day_core.proofs.Running.{own_is_message}

@@ -13,4 +13,4 @@ load-requires g c =
     let slots = c.args.cells.now.table_id.slots in
     let own = subst (λ (w : CellSeat). IsSeatOf c.args.cells.now.table_id c.args.cells.now.key w) s c.requires.cell in
     let allows = subst (λ (w : CellSeat). Allows CellRule slots w.id w.me c.args.word (λ n. n) (g.M.Play.then (step slots (w.index * 8 + c.args.word) 0 0 none) w.me)) s c.requires.allows in
-    (own.0, omega (arith, own.1, own.2, c.requires.word), lifts_as _ _ _ _ _ _ (λ n. n) (g.M.Play.then (step slots (c.self.inside.index * 8 + c.args.word) 0 0 none) (seen c.self.inside.hand.me)) c.self.invariant own.1 c.requires.word allows)
+    (own.0, omega (arith, own.1, own.2, c.requires.word), lifts_as _ _ _ _ _ _ (λ n. n) (g.M.Play.then (step slots (c.self.inside.index * 8 + c.args.word) 0 0 none) (seen c.self.inside.table_seat.me)) c.self.invariant own.1 c.requires.word allows)
