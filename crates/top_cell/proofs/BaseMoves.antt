@@ -48,7 +48,6 @@ one_spent_more words views (open_cell o) =
 -- a cell is opened at a seat of its own
 pub opened_beside : (stock : DayStock) (words : List ℕ) (views : List View) (id : ℕ) → CellHolds words views → get_elem? views id ≡ some Unopened → CellHolds words (set views id Spent ++ first_view stock ∷ [])
 opened_beside stock words views id (new_cell n) at =
-    let long = length-set views id Spent in
     let end = length (set views id Spent) in
     open_cell record {
       stock = stock;

@@ -4,5 +4,6 @@ pub mod WriterSteps
 pub mod ReaderSteps
 pub mod BaseMoves
 pub mod Cells
+pub mod SeatSteps
 pub mod TriesTold
 pub mod Places

@@ -1,5 +1,5 @@
 -- The cells of a board, and their writers.
-use Rattle.std.proofs.Common.{◌≡◌, ◌⊎◌, ℕ, zero, suc, ◌*◌, ◌^◌, ◌<◌, List, [], ◌∷◌, ◌++◌, length, map, get_or, Some, inl, inr, refl, sym, ap, ◌∙◌, subst, ⊎_elim, arith, length-append}
+use Rattle.std.proofs.Common.{◌≡◌, ◌⊎◌, ℕ, zero, suc, ◌<◌, List, [], ◌∷◌, ◌++◌, length, map, get_or, Some, inl, inr, refl, sym, ap, ◌∙◌, subst, ⊎_elim, arith, length-append}
 use Rattle.std.specs.Prelude.{slice_get}
 use Rattle.std.proofs.lemmas.List.{length-map, map-append}
 use Rattle.std.specs.List.{AllPairs}
@@ -8,6 +8,7 @@ use Rattle.itch_table.specs.Shows.{locates_of_day}
 use Rattle.itch_table.proofs.DayLocates.{rising}
 use Rattle.std.proofs.lemmas.List.Kept.{AllPairs-from_increasing}
 use Rattle.top_cell.specs.Boards.{CellId, WriterAt, AreApart, AreNew, IsOn, cell_id, cells_of, new_writer, place}
+use Rattle.top_cell.specs.Cells.{HasCells}
 use Rattle.top_cell.specs.Seats.{CellSeat, IsSeatOf}
 
 -- ---- items of lists
@@ -35,12 +36,14 @@ within [] k x e = absurd (cc)
 within (z ∷ zs) zero x e = omega arith
 within (z ∷ zs) (suc k) x e = omega (arith, within zs k x e)
 
+-- ---- cells of a board
+
 -- a seat of a writer or of a screen, on its board
 pub seat_on : (board : List CellId) (table : TableId) (cells : ℕ) (seat : CellSeat) → IsOn board (place seat)
     → ((index : ℕ) (cell : CellId) → slice_get board index ≡ Some cell → cell.table ≡ table) → cells ≡ length board
-    → (length board * 8 ≡ table.words) × (length board * 8 < 2 ^ 64) → IsSeatOf table cells seat
+    → HasCells table cells → IsSeatOf table cells seat
 seat_on board table cells seat on of count words =
-    (of _ _ on, omega (arith, count, within board seat.index _ on), ap (λ n. n * 8) count ∙ words.0, omega (arith, count, words.1))
+    (of _ _ on, omega (arith, count, within board seat.index _ on), words)
 
 -- all cells of a board are in one table
 pub of_table : (table : TableId) (locates : List ℕ) (index : ℕ) (cell : CellId) → slice_get (cells_of table locates) index ≡ Some cell → cell.table ≡ table

@@ -1,7 +1,8 @@
 -- A board, its writers and its screens, as contracts see them. All is of this project.
-use Rattle.std.specs.Prelude.{◌≡◌, ◌*◌, ◌<◌, ◌^◌, ℕ, List, Some, length, map, slice_get}
+use Rattle.std.specs.Prelude.{◌≡◌, ℕ, List, Some, length, map, slice_get}
 use Rattle.atomic_table.specs.Seated.{TableId}
 use Rattle.top_cell.specs.Rule.{stock_of}
+use Rattle.top_cell.specs.Cells.{HasCells}
 use Rattle.top_cell.specs.Seats.{CellSeat}
 
 -- a cell: the locate code of its stock, and the identity of its board's table
@@ -29,7 +30,7 @@ pub record ChangeAt : Type 0 where
   pub to : ℕ
   pub put : ℕ
 
--- a screen, which stands at a message: its seat of the cell, how often it has loaded the count or a word there, how
+-- a screen, which stands at a message: its seat on the board's table, how often it has loaded the count or a word there, how
 -- often it has loaded the count, has begun a try and has won one, the last count that it has loaded, and the even one
 -- at which its last try began
 pub record ScreenAt : Type 0 where
@@ -70,11 +71,10 @@ AreApart board =
     (i j : ℕ) (c d : CellId) → slice_get board i ≡ Some c → slice_get board j ≡ Some d
     → c.locate ≡ d.locate → i ≡ j
 
--- the table has eight words for each of the board's stocks, each of which has one cell
+-- the table has a cell for each of these stocks, which are told apart by their locate codes
 abbrev pub IsBoard : TableId → ℕ → List ℕ → Type 0
-IsBoard table cells locates =
-    AreApart (cells_of table locates) × (cells ≡ length locates) × (cells * 8 ≡ table.words)
-    × (cells * 8 < 2 ^ 64)
+IsBoard table count locates =
+    AreApart (cells_of table locates) × (count ≡ length locates) × HasCells table count
 
 -- a screen that stands at a message and has made no loads, at a seat
 abbrev pub new_screen : Place → ℕ → ℕ → ScreenAt

@@ -1,12 +1,13 @@
 -- The cells of a board, which lie one after another in one table. Each has eight words, as many as a line of
--- memory, and uses the first five. A seat of the table is of one cell. All is of this project.
-use Rattle.std.specs.Prelude.{◌≡◌, ◌*◌, ◌<◌, ℕ, List, cond, drop, map, nat_eq, nat_lt, take}
+-- memory, and uses the first five. Each seat of the table but the first is of one cell. All is of this project.
+use Rattle.std.specs.Prelude.{◌≡◌, ◌*◌, ◌^◌, ◌<◌, ℕ, List, cond, drop, map, nat_eq, nat_lt, take}
+use Rattle.atomic_table.specs.Seated.{TableId}
 use Rattle.atomic_table.specs.Table.{State, Me}
 use Rattle.top_cell.specs.declared.rule.Standing.{Standing}
 use Rattle.top_cell.specs.declared.rule.Standing.TheVariants.{Opener, At}
 use Rattle.top_cell.specs.declared.rule.View.{View}
 use Rattle.top_cell.specs.declared.rule.View.TheVariants.{Unopened, Spent}
-use Rattle.top_cell.specs.Rule.{CellHolds}
+use Rattle.top_cell.specs.Rule.{CellHolds, Turns}
 
 -- the words of a cell
 abbrev pub cell_words : ℕ → List ℕ → List ℕ
@@ -19,8 +20,12 @@ known_of cell (At own view) = cond (nat_eq own cell) view Spent
 
 -- the rule of a board of this many cells: each of them keeps the rule of a cell
 abbrev pub BoardRule : {S : Type 0} → ℕ → State S Standing → Type 0
-BoardRule cells s =
-    (cell : ℕ) → cell < cells → CellHolds (cell_words cell s.words) (map (known_of cell) s.views)
+BoardRule count s =
+    (cell : ℕ) → cell < count → CellHolds (cell_words cell s.words) (map (known_of cell) s.views)
+
+-- the table has eight words for each of this many cells, and 64 bits count them
+abbrev pub HasCells : TableId → ℕ → Type 0
+HasCells table count = (count * 8 ≡ table.words) × (count * 8 < 2 ^ 64)
 
 -- ---- parts of what is known at a seat
 
@@ -42,7 +47,6 @@ IsAt cell s = s ≡ At cell (view_of s)
 abbrev pub seen : {S : Type 0} → Me S Standing → Me S View
 seen m = (view_of m.0, m.1)
 
--- a step of a cell, at one of its seats: the seat stays at its cell
-abbrev pub StaysAndTurns : {S : Type 0} → (Me S View → ℕ → Me S View → Type 0)
-    → Me S Standing → ℕ → Me S Standing → Type 0
-StaysAndTurns by before found after = IsAt (cell_of before.0) after.0 × by (seen before) found (seen after)
+-- a step of a cell, at one of its seats: the seat stays at its cell, and what is known there changes as `by` says
+abbrev pub StaysAndTurns : {S : Type 0} → (View → View → Type 0) → Me S Standing → Me S Standing → Type 0
+StaysAndTurns by before after = IsAt (cell_of before.0) after.0 × Turns by (seen before) (seen after)

@@ -14,6 +14,6 @@ joined (ScreenOf stock v) (ScreenOf other w) =
     ScreenOf stock (sight (max v.number w.number) v.loads v.looks v.tries v.wins v.last v.began v.taken)
 joined v w = v
 
--- the seat of that screen
+-- what is known at that screen's seat
 abbrev pub joined_seat : Standing → Standing → Standing
 joined_seat s t = At (cell_of s) (joined (view_of s) (view_of t))

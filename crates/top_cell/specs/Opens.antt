@@ -13,10 +13,10 @@ use Rattle.top_cell.specs.declared.rule.View.TheVariants.{WriterOf}
 abbrev pub first_view : DayStock → View
 first_view stock = WriterOf stock (rest 0 [])
 
--- the first seat, after it has opened a cell
+-- what is known at the first seat, after it has opened a cell
 abbrev pub next_opener : Standing → Standing
 next_opener s = Opener (cell_of s + 1)
 
--- the seat of the writer of the cell that the first seat opens
+-- what is known at the seat of that cell's writer
 abbrev pub opened : DayStock → Standing → Standing
 opened stock s = At (cell_of s) (first_view stock)

@@ -1,9 +1,10 @@
 -- What a writer and a screen know of their seats.
-use Rattle.std.specs.Prelude.{◌≡◌, ◌*◌, ◌<◌, ◌≤◌, ◌^◌, ℕ, List, [], length}
+use Rattle.std.specs.Prelude.{◌≡◌, ◌<◌, ◌≤◌, ◌^◌, ℕ, List, [], length}
 use Rattle.atomic_table.specs.Seated.{TableId}
 use Rattle.atomic_table.specs.Table.{Joins, Me, Splits}
 use Rattle.top_cell.specs.declared.rule.View.{View}
 use Rattle.top_cell.specs.declared.rule.View.TheVariants.{Spent}
+use Rattle.top_cell.specs.Cells.{HasCells}
 use Rattle.top_cell.specs.Joins.{joined}
 use Rattle.top_cell.specs.Splits.{screen_beside}
 use Rattle.top_cell.specs.Rule.{CellRule, IsIdle, IsScreen, IsWriting, change_of, number_in, number_of, stock_of}
@@ -15,10 +16,9 @@ pub record CellSeat : Type 0 where
   pub index : ℕ
   pub me : Me (Unit {0}) View
 
--- the seat is of one of this many cells of a table, and 64 bits count the table's words
+-- the seat is of one of this many cells of a table
 abbrev pub IsSeatOf : TableId → ℕ → CellSeat → Type 0
-IsSeatOf table cells seat =
-    (seat.table_id ≡ table) × (seat.index < cells) × (cells * 8 ≡ table.words) × (cells * 8 < 2 ^ 64)
+IsSeatOf table count seat = (seat.table_id ≡ table) × (seat.index < count) × HasCells table count
 
 -- another seat of the same cell, with no slots
 abbrev pub new_seat : CellSeat → ℕ → View → CellSeat

@@ -15,6 +15,6 @@ screen_beside (Writing stock x) = ScreenOf stock (new_sight x.number)
 screen_beside (ScreenOf stock v) = ScreenOf stock (new_sight v.number)
 screen_beside Spent = Spent
 
--- the seat of that screen
+-- what is known at that screen's seat
 abbrev pub seat_beside : Standing → Standing
 seat_beside s = At (cell_of s) (screen_beside (view_of s))

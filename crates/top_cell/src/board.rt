@@ -1,7 +1,8 @@
 //! The cells of a day's stocks.
-ghost use Rattle.std.specs.Prelude.{ℕ, ◌≡◌, ◌+◌, ◌*◌, ◌<◌, ◌^◌, IfOk, Some, length, slice_get};
+ghost use Rattle.std.specs.Prelude.{ℕ, ◌≡◌, ◌+◌, ◌<◌, IfOk, Some, length, slice_get};
 ghost use Rattle.itch_table.specs.Shows.{locates_of_day};
 ghost use Rattle.top_cell.specs.Boards.{AreApart, AreNew, CellId, cell_id, new_writer};
+ghost use Rattle.top_cell.specs.Cells.{HasCells};
 ghost use Rattle.top_cell.specs.Rule.{day_stock};
 ghost use Rattle.top_cell.specs.declared.rule.Standing.TheVariants.{Opener};
 
@@ -41,7 +42,7 @@ impl<'a, A: Allocator> Board<'a, A> {
         ensures table { (index : ℕ) (cell : CellId) → slice_get self.now index ≡ Some cell
             → cell.table ≡ result.now.table_id }
         ensures count { result.now.key ≡ length self.now }
-        ensures words { (length self.now * 8 ≡ result.now.table_id.words) × (length self.now * 8 < 2 ^ 64) }
+        ensures words { HasCells result.now.table_id result.now.key }
         ensures apart { AreApart self.now }
     {
         &self.cells.shared
@@ -99,6 +100,7 @@ impl<'a, A: Allocator + Copy> Board<'a, A> {
             AreNew day.now.payloads (locates_of_day day.now.payloads) made.0 made.1.items) }
     {
         let count = locates.len();
+        // No memory has as many words as 64 bits don't count.
         let Some(words) = count.checked_mul(STRIDE) else {
             return Err(AllocError);
         };

@@ -108,8 +108,7 @@ impl Screen {
         ensures even { IfOk result (λ _. (self.new.last ≡ self.new.began) × (self.new.last % 2 ≡ 0)) }
         ensures loads { (self.old.loads < self.new.loads) × (self.new.loads ≤ self.old.loads + 6 * tries) }
     {
-        let cells = board.cells();
-        match try_times(cells, &mut self.seat, tries) {
+        match try_times(board.cells(), &mut self.seat, tries) {
             Ok(words) => {
                 let reading = Reading::of(&words);
                 self.message = reading.message;
@@ -151,9 +150,8 @@ impl Screen {
         ensures same { self.new ≡ self.old }
         ensures screen { result ≡ new_screen self.old.place self.old.message result.seat }
     {
-        let cells = board.cells();
         Screen {
-            seat: self.seat.split(cells),
+            seat: self.seat.split(board.cells()),
             locate: self.locate,
             message: self.message,
         }
@@ -172,8 +170,7 @@ impl Screen {
             locate: _,
             message,
         } = other;
-        let cells = board.cells();
-        self.seat.join(cells, seat);
+        self.seat.join(board.cells(), seat);
         self.message = self.message.max(message);
     }
 }

@@ -1,24 +1,23 @@
 //! The seats of a cell, and the steps that are made at them.
-ghost use Rattle.std.specs.Prelude.{◌≡◌, ◌+◌, ◌*◌, ◌%◌, ◌<◌, ◌^◌, []};
-ghost use mathlib.Core.Option.{none};
-ghost use Rattle.atomic_table.specs.Table.{step, Allows};
+ghost use Rattle.std.specs.Prelude.{◌≡◌, ◌+◌, ◌%◌, ◌<◌, ◌^◌, []};
+ghost use Rattle.atomic_table.specs.Table.{Allows};
 ghost use Rattle.top_cell.specs.Joins.{joined};
-ghost use Rattle.top_cell.specs.Rule.{CellRule};
+ghost use Rattle.top_cell.specs.Rule.{CellRule, Turns};
 ghost use Rattle.top_cell.specs.Seats.{IsSameSeat, IsSeatOf, MayJoin, MaySplit, new_seat, seat_with};
 ghost use Rattle.top_cell.specs.Splits.{screen_beside};
 
+use crate::kinds::Kind;
 use crate::kinds::joins::Joins;
 use crate::kinds::of_cell::OfCell;
 use crate::kinds::splits::Splits;
-use crate::rule::{Standing, View, Words};
-use atomic_table::Play;
+use crate::rule::{Standing, Words};
 use std::marker::Model;
 
-/// How many words a cell has on its board, of which it uses the first five: as many as a line of memory has.
+/// How many words a cell has on its board: eight, as many as a line of 64 bytes, of which it uses the first five.
 pub(crate) const STRIDE: usize = 8;
 
-/// What a writer or a screen holds of its cell. It is seen as the number of the seat in the board's table, the index of
-/// the cell, and what is known of the cell there.
+/// What a writer or a screen holds of its cell. It is seen as its board's table, its number there, the index of the
+/// cell, and what is known of the cell.
 #[derive(Drop)]
 pub struct Seat {
     pub(crate) table_seat: atomic_table::Seat<(), Standing>,
@@ -44,46 +43,37 @@ impl Model for Seat {
 
 impl Seat {
     /// Loads a word of the cell.
-    pub(crate) fn load<M: Play<(), View>>(&mut self, cells: &Words, word: usize) -> u64
+    pub(crate) fn load<M: Kind>(&mut self, cells: &Words, word: usize) -> u64
         requires cell { IsSeatOf cells.now.table_id cells.now.key self.old }
         requires word { word < 5 }
         requires allows { Allows CellRule cells.now.table_id.slots self.old.id self.old.me word (λ n. n)
-            (M.then (step cells.now.table_id.slots (self.old.index * 8 + word) 0 0 none) self.old.me) }
+            (λ n me. Turns (M.by n) self.old.me me) }
         ensures same { IsSameSeat self.old self.new }
-        ensures turns { M.then (step cells.now.table_id.slots (self.old.index * 8 + word) 0 0 none)
-            self.old.me result self.new.me }
+        ensures turns { Turns (M.by result) self.old.me self.new.me }
     {
         cells.load::<OfCell<M>>(&mut self.table_seat, self.index * STRIDE + word)
     }
 
     /// Stores a word of the cell.
-    pub(crate) fn store<M: Play<(), View>>(&mut self, cells: &Words, word: usize, new: u64)
+    pub(crate) fn store<M: Kind>(&mut self, cells: &Words, word: usize, new: u64)
         requires cell { IsSeatOf cells.now.table_id cells.now.key self.old }
         requires word { word < 5 }
         requires allows { Allows CellRule cells.now.table_id.slots self.old.id self.old.me word (λ _. new)
-            (λ _. M.then (step cells.now.table_id.slots (self.old.index * 8 + word) new 0 none) self.old.me new) }
+            (λ _ me. Turns (M.by new) self.old.me me) }
         ensures same { IsSameSeat self.old self.new }
-        ensures turns { M.then (step cells.now.table_id.slots (self.old.index * 8 + word) new 0 none)
-            self.old.me new self.new.me }
+        ensures turns { Turns (M.by new) self.old.me self.new.me }
     {
         cells.store::<OfCell<M>>(&mut self.table_seat, self.index * STRIDE + word, new);
     }
 
     /// Adds to a word of the cell.
-    pub(crate) fn fetch_add<M: Play<(), View>>(
-        &mut self,
-        cells: &Words,
-        word: usize,
-        more: u64,
-    ) -> u64
+    pub(crate) fn fetch_add<M: Kind>(&mut self, cells: &Words, word: usize, more: u64) -> u64
         requires cell { IsSeatOf cells.now.table_id cells.now.key self.old }
         requires word { word < 5 }
         requires allows { Allows CellRule cells.now.table_id.slots self.old.id self.old.me word
-            (λ n. (n + more) % 2 ^ 64)
-            (M.then (step cells.now.table_id.slots (self.old.index * 8 + word) more 0 none) self.old.me) }
+            (λ n. (n + more) % 2 ^ 64) (λ n me. Turns (M.by n) self.old.me me) }
         ensures same { IsSameSeat self.old self.new }
-        ensures turns { M.then (step cells.now.table_id.slots (self.old.index * 8 + word) more 0 none)
-            self.old.me result self.new.me }
+        ensures turns { Turns (M.by result) self.old.me self.new.me }
     {
         cells.fetch_add::<OfCell<M>>(&mut self.table_seat, self.index * STRIDE + word, more)
     }
@@ -96,7 +86,8 @@ impl Seat {
         cells.peek(self.index * STRIDE + word)
     }
 
-    /// A seat of a screen of the same cell, beside this one.
+    /// A seat of a screen of the same cell, beside this one. The library loads the table's first word meanwhile, here and
+    /// in a join, and ignores what it finds.
     pub(crate) fn split(&mut self, cells: &Words) -> Seat
         requires cell { IsSeatOf cells.now.table_id cells.now.key self.old }
         requires splits { MaySplit self.old }

@@ -79,8 +79,7 @@ impl Opened {
         ensures { self.new ≡ record self.old { put = self.old.put + 1 } }
     {
         let word = self.words[self.put];
-        let cells = board.cells();
-        put_word(cells, &mut self.seat, self.put, word);
+        put_word(board.cells(), &mut self.seat, self.put, word);
         self.put += 1;
     }
 

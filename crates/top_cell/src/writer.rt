@@ -84,9 +84,8 @@ impl TopWriter {
         ensures same { self.new ≡ self.old }
         ensures screen { result ≡ new_screen self.old.place self.old.message result.seat }
     {
-        let cells = board.cells();
         Screen {
-            seat: self.seat.split(cells),
+            seat: self.seat.split(board.cells()),
             locate: self.locate,
             message: self.message,
         }

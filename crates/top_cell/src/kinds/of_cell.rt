@@ -1,14 +1,15 @@
-//! A step of a cell, as a step of the board that the cell is one of.
-use crate::rule::{Standing, View};
+//! A step on a word of a cell, as a step of the board that the cell is one of.
+use crate::kinds::Kind;
+use crate::rule::Standing;
 use atomic_table::Play;
 use std::marker::PhantomData;
 
-pub struct OfCell<M: Play<(), View>> {
+pub struct OfCell<M: Kind> {
     kind: PhantomData<M>,
 }
 
-impl<M: Play<(), View>> Play<(), Standing> for OfCell<M> {
+impl<M: Kind> Play<(), Standing> for OfCell<M> {
     ghost use Rattle.top_cell.specs.Cells.{StaysAndTurns};
 
-    ghost then = { λ step before found after. StaysAndTurns (M.then step) before found after };
+    ghost then = { λ _ before found after. StaysAndTurns (M.by found) before after };
 }

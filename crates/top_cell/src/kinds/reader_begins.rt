@@ -1,12 +1,10 @@
 //! Reader begins: a screen without an open try loads the count, and where it is even opens a try.
-use crate::rule::View;
-use atomic_table::Play;
+use crate::kinds::Kind;
 
 pub struct ReaderBegins;
 
-impl Play<(), View> for ReaderBegins {
+impl Kind for ReaderBegins {
     ghost use Rattle.top_cell.specs.ReaderBegins.{ReaderBegun};
-    ghost use Rattle.top_cell.specs.Rule.{Turns};
 
-    ghost then = { λ _ before found after. Turns (ReaderBegun found) before after };
+    ghost by = { ReaderBegun };
 }

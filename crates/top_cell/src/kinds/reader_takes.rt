@@ -1,12 +1,10 @@
 //! Reader takes a word: in an open try of fewer than four words a screen loads the next one.
-use crate::rule::View;
-use atomic_table::Play;
+use crate::kinds::Kind;
 
 pub struct ReaderTakes;
 
-impl Play<(), View> for ReaderTakes {
+impl Kind for ReaderTakes {
     ghost use Rattle.top_cell.specs.ReaderTakes.{ReaderTook};
-    ghost use Rattle.top_cell.specs.Rule.{Turns};
 
-    ghost then = { λ _ before found after. Turns (ReaderTook found) before after };
+    ghost by = { ReaderTook };
 }

@@ -1,6 +1,5 @@
 //! Writer begins: the count goes up by one, and the writer will put four new words.
-use crate::rule::View;
-use atomic_table::Play;
+use crate::kinds::Kind;
 use std::marker::{Brand, PhantomData};
 
 /// Names the words that a writer will put.
@@ -20,9 +19,8 @@ pub struct WriterBegins<J: Coming> {
     named: PhantomData<J>,
 }
 
-impl<J: Coming> Play<(), View> for WriterBegins<J> {
-    ghost use Rattle.top_cell.specs.Rule.{Turns};
+impl<J: Coming> Kind for WriterBegins<J> {
     ghost use Rattle.top_cell.specs.WriterBegins.{WriterBegun};
 
-    ghost then = { λ _ before _ after. Turns (WriterBegun J.words) before after };
+    ghost by = { λ _. WriterBegun J.words };
 }

@@ -1,12 +1,10 @@
 //! Writer ends: the count goes up by one, where all four words were put, and the writer stands at their number.
-use crate::rule::View;
-use atomic_table::Play;
+use crate::kinds::Kind;
 
 pub struct WriterEnds;
 
-impl Play<(), View> for WriterEnds {
-    ghost use Rattle.top_cell.specs.Rule.{Turns};
+impl Kind for WriterEnds {
     ghost use Rattle.top_cell.specs.WriterEnds.{WriterEnded};
 
-    ghost then = { λ _ before _ after. Turns WriterEnded before after };
+    ghost by = { λ _. WriterEnded };
 }

@@ -12,7 +12,7 @@ load-requires c =
     let i = c.loop-index.invariant in
     let s = c.requires.seat in
     let long = length-take-le c.loop-index.index c.loop-index.words (omega (arith, i.1)) in
-    record { cell = (i.0.0 ∙ s.0, omega (arith, i.0.2, s.1), s.2, s.3); word = omega (arith, c.loop-index-test.true); allows = reader_takes_as _ _ _ _ _ (take c.loop-index.index c.loop-index.words) _ i.2 refl (omega (arith, long)) (omega (arith, long)) }
+    record { cell = (i.0.0 ∙ s.0, omega (arith, i.0.2, s.1), s.2); word = omega (arith, c.loop-index-test.true); allows = reader_takes_as _ _ _ _ _ (take c.loop-index.index c.loop-index.words) _ i.2 refl (omega (arith, long)) (omega (arith, long)) }
 
 pub loop-index-preserved : goal.loop-index-preserved
 loop-index-preserved c =

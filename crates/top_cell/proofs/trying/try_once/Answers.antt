@@ -14,7 +14,7 @@ take_words-words-requires c =
     let even : c.load-began.result % 2 ≡ 0 = omega (arith, c.if-began-eq1.false) in
     let begins = begun _ _ _ c.requires.screen.0 e.turns.0 in
     let b = begins.3 even in
-    record { seat = (e.same.0 ∙ s.0, omega (arith, e.same.2, s.1), s.2, s.3); begun = (is_screen _ _ _ b, ap (λ u. (sight_of u).taken) b) }
+    record { seat = (e.same.0 ∙ s.0, omega (arith, e.same.2, s.1), s.2); begun = (is_screen _ _ _ b, ap (λ u. (sight_of u).taken) b) }
 
 pub load-count-requires : goal.load-count-requires
 load-count-requires c =
@@ -24,7 +24,7 @@ load-count-requires c =
     let begins = begun _ _ _ c.requires.screen.0 e.turns.0 in
     let b = begins.3 even in
     let t = c.take_words-words.ensures in
-    record { cell = (t.same.0 ∙ (e.same.0 ∙ s.0), omega (arith, t.same.2, e.same.2, s.1), s.2, s.3); word = omega arith; allows = reader_ends_as _ _ _ _ _ c.take_words-words.result (taken_at _ _ _ (sight_of c.args.seat.now.me.0) _ _ b t.took) refl (search rules) }
+    record { cell = (t.same.0 ∙ (e.same.0 ∙ s.0), omega (arith, t.same.2, e.same.2, s.1), s.2); word = omega arith; allows = reader_ends_as _ _ _ _ _ c.take_words-words.result (taken_at _ _ _ (sight_of c.args.seat.now.me.0) _ _ b t.took) refl (search rules) }
 
 pub returns-then-began-eq1 : goal.returns-then-began-eq1
 returns-then-began-eq1 c =

@@ -37,4 +37,4 @@ invariant_of-result g c =
     let board = ap (cells_of table) (all ∙ sym copy) in
     let made = c.in_ok-cells.ensures in
     let words = made.0 ∙ c.deref.ensures.len ∙ c.in_ok-zeros.ensures.len ∙ c.in-Some.ensures.1 in
-    (subst AreApart board apart, made.5 ∙ sym (ap length copy), omega (arith, made.5, words), omega (arith, made.5, c.in-Some.ensures.0))
+    (subst AreApart board apart, made.5 ∙ sym (ap length copy), (omega (arith, made.5, words), omega (arith, made.5, c.in-Some.ensures.0)))

@@ -6,5 +6,5 @@ use Rattle.top_cell.proofs.screen.Screen.glance.Goals as goal
 pub try_times-requires : goal.try_times-requires
 try_times-requires g c =
     let on = subst (λ (w : ScreenAt). IsOn c.args.board.now w.place) (sym c.self.view_is) c.requires.own in
-    let e = c.cells-cells.ensures in
+    let e = c.cells.ensures in
     record { seat = seat_on c.args.board.now _ _ c.self.inside.seat on e.table e.count e.words; screen = c.self.invariant.0; tries = c.requires.tries }

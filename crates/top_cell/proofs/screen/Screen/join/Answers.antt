@@ -11,7 +11,7 @@ join-requires g c =
     let on = subst (λ (w : ScreenAt). IsOn c.args.board.now w.place) s c.requires.own in
     let there = subst (λ (w : ScreenAt). IsOn c.args.board.now w.place) t c.requires.other in
     let same = subst (λ (z : ScreenAt × ScreenAt). z.1.place.locate ≡ z.0.place.locate) (λ i. (s i, t i)) c.requires.same in
-    let e = c.cells-cells.ensures in
+    let e = c.cells.ensures in
     record {
       cell = seat_on c.args.board.now _ _ c.self.inside.seat on e.table e.count e.words;
       other = (e.table _ _ there ∙ sym (e.table _ _ on), e.apart _ _ _ _ there on same, c.other.invariant.4);

@@ -6,7 +6,7 @@ use Rattle.top_cell.proofs.steps.Opened.put.Goals as goal
 pub put_word-requires-clause-seat : goal.put_word-requires-clause-seat
 put_word-requires-clause-seat g c =
     let on = subst (λ (w : ChangeAt). IsOn c.args.board.now w.place) (sym c.self.view_is) c.requires.own in
-    let e = c.cells-cells.ensures in
+    let e = c.cells.ensures in
     seat_on c.args.board.now _ _ c.self.inside.seat on e.table e.count e.words
 
 pub put_word-requires-clause-writing : goal.put_word-requires-clause-writing
