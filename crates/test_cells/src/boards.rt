@@ -253,7 +253,7 @@ fn a_glance_is_busy_during_a_change(rt: HostRuntime) -> Result<(), Fail> {
 // That the writer is in the middle of its second change, and that a screen stands before the first message.
 const IN_SECOND_CHANGE: (Glance, u32) = (Err(Busy { count: 3 }), 0);
 
-// Publishes the message at which the writer stands once more.
+// Publishes the message at which the writer stands once more. The day is there for the proof alone.
 fn publish_again<A: Allocator + Copy>(
     _day: &Day<A>,
     machine: &Plain<A>,

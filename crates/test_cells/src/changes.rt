@@ -48,7 +48,7 @@ fn put_and_glance<A: Allocator>(
     (screen.glance(board, 3), screen.message())
 }
 
-// Ends a change, of which all words were put.
+// Ends a change, of which all words were put. The day and the machine are there for the proof alone.
 fn end_change<A: Allocator>(
     _day: &Day<A>,
     _machine: &Plain<A>,

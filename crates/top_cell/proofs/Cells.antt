@@ -17,6 +17,7 @@ use Rattle.top_cell.specs.Splits.{screen_beside, seat_beside}
 use Rattle.top_cell.specs.Rule.{CellHolds, CellRule, new_cell}
 use Rattle.top_cell.proofs.BaseMoves.{one_spent_more, opened_beside}
 use Rattle.top_cell.specs.declared.rule.DayStock.{DayStock}
+use Rattle.top_cell.specs.declared.seat.TheConstants.{STRIDE}
 use Rattle.top_cell.specs.declared.rule.Standing.{Standing}
 use Rattle.top_cell.specs.declared.rule.Standing.TheVariants.{Opener, At}
 use Rattle.top_cell.specs.declared.rule.View.{View}
@@ -24,31 +25,31 @@ use Rattle.top_cell.specs.declared.rule.View.TheVariants.{Unopened, Spent}
 
 -- ---- words
 
-pub word_in : (cell k : ℕ) (words : List ℕ) → k < 5 → slice_index (cell_words cell words) k ≡ slice_index words (cell * 8 + k)
-word_in cell k words few = get_or-take 5 (drop (cell * 8) words) k 0 few ∙ get_or-drop (cell * 8) words k 0
+pub word_in : (cell k : ℕ) (words : List ℕ) → k < 5 → slice_index (cell_words cell words) k ≡ slice_index words (cell * STRIDE + k)
+word_in cell k words few = get_or-take 5 (drop (cell * STRIDE) words) k 0 few ∙ get_or-drop (cell * STRIDE) words k 0
 
-set_own : (cell k n : ℕ) (words : List ℕ) → k < 5 → cell_words cell (set words (cell * 8 + k) n) ≡ set (cell_words cell words) k n
+set_own : (cell k n : ℕ) (words : List ℕ) → k < 5 → cell_words cell (set words (cell * STRIDE + k) n) ≡ set (cell_words cell words) k n
 set_own cell k n words few =
-    ap (take 5) (drop-set-add (cell * 8) words k n) ∙ take-set-lt 5 (drop (cell * 8) words) k n few
+    ap (take 5) (drop-set-add (cell * STRIDE) words k n) ∙ take-set-lt 5 (drop (cell * STRIDE) words) k n few
 
 -- a word before a cell
-set_below : (cell i n : ℕ) (words : List ℕ) → i < cell * 8 → cell_words cell (set words i n) ≡ cell_words cell words
-set_below cell i n words below = ap (take 5) (drop-set-lt (cell * 8) words i n below)
+set_below : (cell i n : ℕ) (words : List ℕ) → i < cell * STRIDE → cell_words cell (set words i n) ≡ cell_words cell words
+set_below cell i n words below = ap (take 5) (drop-set-lt (cell * STRIDE) words i n below)
 
 -- a word after the first five of a cell
-set_above : (cell k n : ℕ) (words : List ℕ) → 5 ≤ k → cell_words cell (set words (cell * 8 + k) n) ≡ cell_words cell words
+set_above : (cell k n : ℕ) (words : List ℕ) → 5 ≤ k → cell_words cell (set words (cell * STRIDE + k) n) ≡ cell_words cell words
 set_above cell k n words above =
-    ap (take 5) (drop-set-add (cell * 8) words k n) ∙ take-set-le 5 (drop (cell * 8) words) k n above
+    ap (take 5) (drop-set-add (cell * STRIDE) words k n) ∙ take-set-le 5 (drop (cell * STRIDE) words) k n above
 
-after_cell : (own cell k : ℕ) → cell < own → own * 8 + k ≡ cell * 8 + ((own * 8 + k) - cell * 8)
+after_cell : (own cell k : ℕ) → cell < own → own * STRIDE + k ≡ cell * STRIDE + ((own * STRIDE + k) - cell * STRIDE)
 after_cell own cell k below = omega arith
 
-set_other : (own cell k n : ℕ) (words : List ℕ) → cell ≢ own → k < 5 → cell_words cell (set words (own * 8 + k) n) ≡ cell_words cell words
+set_other : (own cell k n : ℕ) (words : List ℕ) → cell ≢ own → k < 5 → cell_words cell (set words (own * STRIDE + k) n) ≡ cell_words cell words
 set_other own cell k n words apart few =
     dite (dec_le (suc own) cell)
-    (λ below. set_below cell (own * 8 + k) n words (omega (arith, below, few)))
+    (λ below. set_below cell (own * STRIDE + k) n words (omega (arith, below, few)))
     (λ not. let above : cell < own = grind (arith, not, apart) in
-    ap (λ i. cell_words cell (set words i n)) (after_cell own cell k above) ∙ set_above cell ((own * 8 + k) - cell * 8) n words (omega (arith, above, few)))
+    ap (λ i. cell_words cell (set words i n)) (after_cell own cell k above) ∙ set_above cell ((own * STRIDE + k) - cell * STRIDE) n words (omega (arith, above, few)))
 
 -- ---- views
 
@@ -120,7 +121,7 @@ module _ {S : Type 0} (cells : ℕ) where
   -- a step of a cell is one of its board
   pub lifts : (slots id own : ℕ) (v : View) (c : List (ℕ × S)) (k : ℕ) (f : ℕ → ℕ) (then : ℕ → Me S View → Type 0)
       → own < cells → k < 5 → Allows CellRule slots id (v, c) k f then
-      → Allows (BoardRule cells) slots id (At own v, c) (own * 8 + k) f (λ r m. IsAt own m.0 × then r (view_of m.0, m.1))
+      → Allows (BoardRule cells) slots id (At own v, c) (own * STRIDE + k) f (λ r m. IsAt own m.0 × then r (view_of m.0, m.1))
   lifts slots id own v c k f then inside few allows st h long at fits =
       let is = word_in own k st.words few in
       let t = allows (as_cell own st) (h own inside) long (seen_there own id v st.views at) (subst (λ n. n < 18446744073709551616) (sym is) fits) in (
@@ -128,19 +129,19 @@ module _ {S : Type 0} (cells : ℕ) where
         t.1,
         t.2,
         (λ cell below. dite (ℕ_discrete cell own)
-            (λ same. subst (λ j. CellHolds (cell_words j (set st.words (own * 8 + k) (f (slice_index st.words (own * 8 + k))))) (map (known_of j) (set st.views id (At own t.0)))) (sym same)
+            (λ same. subst (λ j. CellHolds (cell_words j (set st.words (own * STRIDE + k) (f (slice_index st.words (own * STRIDE + k))))) (map (known_of j) (set st.views id (At own t.0)))) (sym same)
             (subst (λ (z : List ℕ × List View). CellHolds z.0 z.1)
-            (λ i. (sym (set_own own k (f (slice_index st.words (own * 8 + k))) st.words few ∙ ap (λ n. set (cell_words own st.words) k (f n)) (sym is)) i, sym (set_known own id t.0 st.views) i)) t.3))
+            (λ i. (sym (set_own own k (f (slice_index st.words (own * STRIDE + k))) st.words few ∙ ap (λ n. set (cell_words own st.words) k (f n)) (sym is)) i, sym (set_known own id t.0 st.views) i)) t.3))
             (λ apart. subst (λ (z : List ℕ × List View). CellHolds z.0 z.1)
-            (λ i. (sym (set_other own cell k (f (slice_index st.words (own * 8 + k))) st.words apart few) i, sym (others_known own cell id v t.0 st.views apart at) i)) (h cell below))),
+            (λ i. (sym (set_other own cell k (f (slice_index st.words (own * STRIDE + k))) st.words apart few) i, sym (others_known own cell id v t.0 st.views apart at) i)) (h cell below))),
         (refl, subst (λ n. then n (t.0, carried_after c t.1)) is t.4),
       )
 
   pub lifts_as : (slots id own : ℕ) (me : Me S Standing) (k : ℕ) (f : ℕ → ℕ) (then : ℕ → Me S View → Type 0)
       → IsAt own me.0 → own < cells → k < 5 → Allows CellRule slots id (seen me) k f then
-      → Allows (BoardRule cells) slots id me (own * 8 + k) f (λ r m. IsAt (cell_of me.0) m.0 × then r (seen m))
+      → Allows (BoardRule cells) slots id me (own * STRIDE + k) f (λ r m. IsAt (cell_of me.0) m.0 × then r (seen m))
   lifts_as slots id own me k f then is inside few allows =
-      subst (λ (z : Me S Standing). Allows (BoardRule cells) slots id z (own * 8 + k) f (λ r m. IsAt (cell_of z.0) m.0 × then r (seen m)))
+      subst (λ (z : Me S Standing). Allows (BoardRule cells) slots id z (own * STRIDE + k) f (λ r m. IsAt (cell_of z.0) m.0 × then r (seen m)))
       (λ i. (sym is i, me.1)) (lifts slots id own (view_of me.0) me.1 k f then inside few allows)
 
   -- so is a split
@@ -190,9 +191,9 @@ module _ {S : Type 0} (cells : ℕ) where
   opens_as id next s stock is = subst (λ z. Splits {S = S} (BoardRule cells) id z (next_opener z) (opened stock z)) (sym is) (opens id next stock)
 
   -- a new board
-  pub new_board : (words : List ℕ) (slots : List S) → words ≡ replicate (cells * 8) 0 → BoardRule cells (opening words slots (Opener 0))
+  pub new_board : (words : List ℕ) (slots : List S) → words ≡ replicate (cells * STRIDE) 0 → BoardRule cells (opening words slots (Opener 0))
   new_board words slots zeros cell below = new_cell record {
     opener = 0;
-    zeros = ap (λ ws. cell_words cell ws) zeros ∙ (ap (take 5) (drop-replicate (cell * 8) (cells * 8) 0) ∙ take-replicate 5 (cells * 8 - cell * 8) 0 (omega (arith, below)));
+    zeros = ap (λ ws. cell_words cell ws) zeros ∙ (ap (take 5) (drop-replicate (cell * STRIDE) (cells * STRIDE) 0) ∙ take-replicate 5 (cells * STRIDE - cell * STRIDE) 0 (omega (arith, below)));
     each = only_opener (known_of cell (Opener 0)) (known_from cell 0 zero-le);
   }

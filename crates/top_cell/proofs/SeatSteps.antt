@@ -6,6 +6,7 @@ use Rattle.top_cell.specs.Cells.{BoardRule, IsAt, cell_of, seen}
 use Rattle.top_cell.specs.Rule.{CellRule}
 use Rattle.top_cell.specs.Seats.{CellSeat, IsSeatOf}
 use Rattle.top_cell.proofs.Cells.{lifts_as}
+use Rattle.top_cell.specs.declared.seat.TheConstants.{STRIDE}
 use Rattle.top_cell.specs.declared.rule.Standing.{Standing}
 use Rattle.top_cell.specs.declared.rule.View.{View}
 
@@ -13,7 +14,7 @@ use Rattle.top_cell.specs.declared.rule.View.{View}
 pub steps_as : (table own_table : TableId) (count slots id own : ℕ) (me : Me (Unit {0}) Standing) (seat : CellSeat) (k : ℕ) (f : ℕ → ℕ) (then : Me (Unit {0}) View → ℕ → Me (Unit {0}) View → Type 0)
     → record { table_id = own_table; id = id; index = own; me = seen me } ≡ seat → IsAt own me.0 → IsSeatOf table count seat → k < 5
     → Allows CellRule slots seat.id seat.me k f (then seat.me)
-    → (own_table ≡ table) × (own * 8 + k < table.words) × Allows (BoardRule count) slots id me (own * 8 + k) f (λ r m. IsAt (cell_of me.0) m.0 × then (seen me) r (seen m))
+    → (own_table ≡ table) × (own * STRIDE + k < table.words) × Allows (BoardRule count) slots id me (own * STRIDE + k) f (λ r m. IsAt (cell_of me.0) m.0 × then (seen me) r (seen m))
 steps_as table own_table count slots id own me seat k f then is here of few allows =
     let s = sym is in
     let mine = subst (λ (w : CellSeat). IsSeatOf table count w) s of in

@@ -30,9 +30,9 @@ pub record ChangeAt : Type 0 where
   pub to : ℕ
   pub put : ℕ
 
--- a screen, which stands at a message: its seat on the board's table, how often it has loaded the count or a word there, how
--- often it has loaded the count, has begun a try and has won one, the last count that it has loaded, and the even one
--- at which its last try began
+-- a screen, which stands at a message: its seat on the board's table, how often it has loaded the count or a word
+-- there, how often it has loaded the count, has begun a try and has won one, the last count that it has loaded, and
+-- the even one at which its last try began
 pub record ScreenAt : Type 0 where
   pub place : Place
   pub seat : ℕ

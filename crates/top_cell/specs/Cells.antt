@@ -1,8 +1,9 @@
--- The cells of a board, which lie one after another in one table. Each has eight words, as many as a line of
+-- The cells of a board, which lie one after another in one table. Each has STRIDE words, as many as a line of
 -- memory, and uses the first five. Each seat of the table but the first is of one cell. All is of this project.
 use Rattle.std.specs.Prelude.{◌≡◌, ◌*◌, ◌^◌, ◌<◌, ℕ, List, cond, drop, map, nat_eq, nat_lt, take}
 use Rattle.atomic_table.specs.Seated.{TableId}
 use Rattle.atomic_table.specs.Table.{State, Me}
+use Rattle.top_cell.specs.declared.seat.TheConstants.{STRIDE}
 use Rattle.top_cell.specs.declared.rule.Standing.{Standing}
 use Rattle.top_cell.specs.declared.rule.Standing.TheVariants.{Opener, At}
 use Rattle.top_cell.specs.declared.rule.View.{View}
@@ -11,7 +12,7 @@ use Rattle.top_cell.specs.Rule.{CellHolds, Turns}
 
 -- the words of a cell
 abbrev pub cell_words : ℕ → List ℕ → List ℕ
-cell_words cell words = take 5 (drop (cell * 8) words)
+cell_words cell words = take 5 (drop (cell * STRIDE) words)
 
 -- what is known of a cell at a seat of the board: nothing at a seat of another cell
 abbrev pub known_of : ℕ → Standing → View
@@ -23,9 +24,9 @@ abbrev pub BoardRule : {S : Type 0} → ℕ → State S Standing → Type 0
 BoardRule count s =
     (cell : ℕ) → cell < count → CellHolds (cell_words cell s.words) (map (known_of cell) s.views)
 
--- the table has eight words for each of this many cells, and 64 bits count them
+-- the table has STRIDE words for each of this many cells, and 64 bits count them
 abbrev pub HasCells : TableId → ℕ → Type 0
-HasCells table count = (count * 8 ≡ table.words) × (count * 8 < 2 ^ 64)
+HasCells table count = (count * STRIDE ≡ table.words) × (count * STRIDE < 2 ^ 64)
 
 -- ---- parts of what is known at a seat
 

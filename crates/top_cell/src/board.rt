@@ -100,7 +100,7 @@ impl<'a, A: Allocator + Copy> Board<'a, A> {
             AreNew day.now.payloads (locates_of_day day.now.payloads) made.0 made.1.items) }
     {
         let count = locates.len();
-        // No memory has as many words as 64 bits don't count.
+        // It always is one, since a day has few stocks; the proof does without that.
         let Some(words) = count.checked_mul(STRIDE) else {
             return Err(AllocError);
         };

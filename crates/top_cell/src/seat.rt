@@ -86,8 +86,8 @@ impl Seat {
         cells.peek(self.index * STRIDE + word)
     }
 
-    /// A seat of a screen of the same cell, beside this one. The library loads the table's first word meanwhile, here and
-    /// in a join, and ignores what it finds.
+    /// A seat of a screen of the same cell, beside this one. The library loads the table's first word meanwhile, here
+    /// and in a join, and ignores what it finds.
     pub(crate) fn split(&mut self, cells: &Words) -> Seat
         requires cell { IsSeatOf cells.now.table_id cells.now.key self.old }
         requires splits { MaySplit self.old }
