@@ -40,7 +40,7 @@ fn reach<A: Allocator + Copy>(
         listed (map (λ list. list.items) lists.new.items) code
         ≡ listed (map (λ list. list.items) lists.old.items) code) }
 {
-    for k in lists.len()..usize::from(locate) + 1 {
+    for _ in lists.len()..usize::from(locate) + 1 {
         lists.push(Vec::new(alloc))?;
     }
     Ok(())

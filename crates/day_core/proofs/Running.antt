@@ -11,7 +11,8 @@ use Rattle.std.proofs.lemmas.Map.Views.{Contains-from_any}
 use Rattle.std.proofs.lemmas.List.Kept.{AllPairs-from_increasing, IsStrictlyIncreasing-filter}
 use Rattle.itch_layouts.specs.Shapes.{shape_of}
 use Rattle.itch_table.specs.declared.outcome.Outcome.{Outcome}
-use Rattle.itch_table.specs.declared.outcome.Part.TheVariants.{Locate}
+use Rattle.itch_table.specs.declared.outcome.Part.{Part}
+use Rattle.itch_table.specs.declared.outcome.Part.TheVariants.{Locate, Nowhere}
 use Rattle.itch_table.specs.After.{after, outcome}
 use Rattle.itch_table.specs.Held.{one_stock}
 use Rattle.itch_table.specs.Machine.{MayGrow, shape_adds_row}
@@ -66,6 +67,11 @@ code_once workers worker day i j li lj same =
         | inr neither ↦ omega arith
       ]
     ]
+
+-- a part of a worker's is a stock
+pub own_code : (workers worker : ℕ) (own : Part) → is_own workers worker own ≡ true → (locate : ℕ) × (own ≡ Locate locate)
+own_code workers worker (Locate locate) is = (locate, refl)
+own_code workers worker (Nowhere outcome) is = let never : ⊥ = cc in absurd never
 
 -- that of a message of the worker's stocks is among them
 pub code_there : (workers worker : ℕ) (day : List (List ℕ)) (n locate : ℕ) → 1 ≤ n → n ≤ length day → locate < 0x1_0000 → part_at day n ≡ Locate locate → is_own workers worker (Locate locate) ≡ true

@@ -8,11 +8,11 @@ ghost use Rattle.day_core.specs.declared.dealing.TheConstants.{CHUNKS};
 
 use crate::merging::Piece;
 use crate::ordering::{empty_lists, give};
-use crate::seeing::{LOCATES, mark, none_seen};
+use crate::seeing::{mark, none_seen};
 use crate::worker_count::WorkerCount;
 use binaryfile::Day;
 use itch_layouts::{Msg, Shape, read_msg};
-use itch_table::{Part, part};
+use itch_table::{LOCATES, Part, part};
 use rayon::prelude::*;
 use std::alloc::{AllocError, Allocator};
 use std::thread::Threads;

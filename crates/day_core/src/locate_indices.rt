@@ -3,6 +3,7 @@ ghost use Rattle.std.specs.Prelude.{◌≡◌, ◌<◌, IfOk, MatchOption, lengt
 ghost use Rattle.std.specs.List.{Contains};
 ghost use Rattle.std.specs.List.Sorted.{IsStrictlyIncreasing};
 
+use itch_table::LOCATES;
 use std::alloc::{AllocError, Allocator};
 use std::marker::Model;
 
@@ -38,7 +39,7 @@ impl<A: Allocator + Copy> LocateIndices<A> {
         requires { IsStrictlyIncreasing locates.items }
         ensures { IfOk result (λ indices. indices ≡ locates.items) }
     {
-        let mut table = zeros(alloc, 0x1_0000)?;
+        let mut table = zeros(alloc, LOCATES)?;
         for (index, locate) in locates.iter().enumerate() {
             table[usize::from(*locate)] = index as u16;
         }
@@ -47,6 +48,15 @@ impl<A: Allocator + Copy> LocateIndices<A> {
 }
 
 impl<A: Allocator> LocateIndices<A> {
+    /// Where a locate code stands in the list, which has it.
+    pub fn index_in(&self, locate: u16) -> usize
+        requires { Contains self.now locate }
+        ensures within { result < length self.now }
+        ensures there { slice_index self.now result ≡ locate }
+    {
+        usize::from(self.table[usize::from(locate)])
+    }
+
     /// Where a locate code stands in the list; none where it isn't in it.
     pub fn index_of(&self, locate: u16) -> Option<usize>
         ensures { MatchOption result (¬ Contains self.now locate)

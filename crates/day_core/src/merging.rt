@@ -70,9 +70,7 @@ fn place_all<A: Allocator + Copy>(
         (λ fault. Found (length slots.old.items) before list.now fault) }
 {
     for piece in list {
-        if let Err(fault) = place(slots, *piece) {
-            return Err(fault);
-        }
+        place(slots, *piece)?;
     }
     Ok(())
 }
@@ -115,9 +113,7 @@ pub fn merge<A: Allocator + Copy>(
     let mut slots = vec![in alloc; None; messages as usize]?;
     let outcomes = Vec::with_capacity(alloc, messages as usize)?;
     for list in &pieces {
-        if let Err(fault) = place_all(&mut slots, list) {
-            return Err(fault);
-        }
+        place_all(&mut slots, list)?;
     }
     gathered(outcomes, &slots)
 }

@@ -30,7 +30,7 @@ pub(crate) fn empty_lists<T: Drop, A: Allocator + Copy>(
     ensures { IfOk result (λ lists. map (λ list. list.items) lists.items ≡ replicate workers []) }
 {
     let mut lists = Vec::with_capacity(alloc, workers as usize)?;
-    for k in 0..workers {
+    for _ in 0..workers {
         lists.push(Vec::new(alloc))?;
     }
     Ok(lists)

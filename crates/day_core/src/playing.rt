@@ -97,11 +97,7 @@ pub fn play<R: Threads + Sync, A: Allocator + Copy + Send + Sync>(
     ensures seen { IfOk result (λ seen. seen.items ≡ seen_by day.now.payloads workers events.now) }
     ensures workers { IsErrOf result SplitFault.Workers ↔ ((workers ≡ 0) ⊎ (64 < workers)) }
 {
-    match split(rt, alloc, day, workers) {
-        Ok(parts) => {
-            let turns = Turns::new(alloc, &parts)?;
-            Ok(watch(alloc, turns, events)?)
-        }
-        Err(fault) => Err(fault),
-    }
+    let parts = split(rt, alloc, day, workers)?;
+    let turns = Turns::new(alloc, &parts)?;
+    Ok(watch(alloc, turns, events)?)
 }

@@ -9,9 +9,10 @@ use crate::locate_indices::LocateIndices;
 use crate::merging::Piece;
 use crate::parts::Parts;
 use binaryfile::{Day, Place};
-use itch_table::{Part, part};
+use itch_table::locate_of;
 use std::alloc::{AllocError, Allocator};
 use std::marker::Model;
+use std::mem;
 use stock_machine::Stock;
 
 /// What a worker's turn did.
@@ -45,8 +46,10 @@ pub struct Runner<'p, A: Allocator> {
     done: usize,
     // A place of the day, after the last message that was looked for.
     near: Place,
-    // Messages that were found ahead of their turns, and how many turns were taken since.
+    // Messages that were found ahead of their turns: those whose turns come next, and those after them. How many turns
+    // were taken since.
     ahead: Vec<FoundMessage<'p>, A>,
+    farther: Vec<FoundMessage<'p>, A>,
     turns_since: usize,
     indices: LocateIndices<A>,
     stocks: Vec<Stock<A>, A>,
@@ -63,7 +66,8 @@ impl<'p, A: Allocator> Model for Runner<'p, A> {
 
     ghost invariant = { λ r. IsRunner (state_in r.parts.now r.worker r.done) r.indices r.stocks.items
         × IsPlace r.parts.now.day r.near
-        × All (λ f. IsFound r.parts.now.day r.indices f.message f.payload.now f.index) r.ahead.items };
+        × All (λ f. IsFound r.parts.now.day r.indices f.message f.payload.now f.index) r.ahead.items
+        × All (λ f. IsFound r.parts.now.day r.indices f.message f.payload.now f.index) r.farther.items };
 }
 
 // The locate codes of a worker's stocks.
@@ -100,6 +104,7 @@ fn new_stocks<A: Allocator + Copy>(
 }
 
 // Finds a worker's message, from a place of the day. Another one, for the message after it, is left there.
+#[inline(always)]
 fn find_message<'d, A: Allocator>(
     day: &'d Day<A>,
     near: &mut Place,
@@ -113,10 +118,7 @@ fn find_message<'d, A: Allocator>(
     ensures found { IsFound day.now.payloads indices.now message result.payload.now result.index }
 {
     let payload = day.payload_near(near, message);
-    let Part::Locate(locate) = part(payload) else {
-        unreachable!()
-    };
-    let index = indices.index_of(locate).unwrap();
+    let index = indices.index_in(locate_of(payload));
     FoundMessage {
         message,
         payload,
@@ -124,7 +126,31 @@ fn find_message<'d, A: Allocator>(
     }
 }
 
-// The same, where the message may have been found ahead: after as many others as turns were taken since.
+// Finds messages one after another, and adds them to those that were found ahead, up to where memory is refused.
+fn find_all<'d, A: Allocator + Copy>(
+    day: &'d Day<A>,
+    near: &mut Place,
+    indices: &LocateIndices<A>,
+    messages: &[u32],
+    ahead: &mut Vec<FoundMessage<'d>, A>,
+)
+    requires own { All (IsOwnMessage day.now.payloads indices.now) messages.now }
+    requires near { IsPlace day.now.payloads near.old }
+    requires ahead { All (λ f. IsFound day.now.payloads indices.now f.message f.payload.now f.index)
+        ahead.old.items }
+    ensures near { IsPlace day.now.payloads near.new }
+    ensures ahead { All (λ f. IsFound day.now.payloads indices.now f.message f.payload.now f.index)
+        ahead.new.items }
+{
+    for message in messages {
+        let found = find_message(day, near, indices, *message);
+        if ahead.push(found).is_err() {
+            return;
+        }
+    }
+}
+
+// Finds a message, where it may have been found ahead: after as many others as turns were taken since.
 fn next_message<'d, A: Allocator>(
     day: &'d Day<A>,
     near: &mut Place,
@@ -162,6 +188,7 @@ impl<'p, A: Allocator + Copy> Runner<'p, A> {
             done: 0,
             near: Place::first(),
             ahead: Vec::with_capacity(alloc, MOST_AHEAD)?,
+            farther: Vec::with_capacity(alloc, MOST_AHEAD)?,
             turns_since: 0,
             indices,
             stocks,
@@ -174,6 +201,7 @@ impl<'p, A: Allocator + Copy> Runner<'p, A> {
     /// An error comes only where a message is left that would be applied and may need a new order or trade. It leaves
     /// the worker as it was, so that its next turn tries the same message. The stock's best bid and ask after the
     /// message are those of its machine: `stock_at(turned.index)`.
+    #[inline(always)]
     pub fn turn(&mut self) -> Result<Option<Turned>, AllocError>
         ensures turned { IfOk result (TakesTurn self.old self.new) }
         ensures err { OnErr result (self.new ≡ self.old) }
@@ -204,63 +232,49 @@ impl<'p, A: Allocator + Copy> Runner<'p, A> {
 }
 
 impl<'p, A: Allocator + Copy> Runner<'p, A> {
-    /// Finds the worker's next messages, of which it takes [`MOST_AHEAD`] at most, so that their turns needn't look for
-    /// them. No contract says what was found: a turn looks for its message where it isn't there.
+    /// Finds the messages that come after the worker's next [`MOST_AHEAD`], as many again at most, so that their turns
+    /// needn't look for them: the next ones are those that the call before this one found. A caller makes a call before
+    /// each [`MOST_AHEAD`] turns. No contract says what was found: a turn looks for its message where it isn't there.
     pub fn look_ahead(&mut self)
         ensures { self.new ≡ self.old }
     {
-        self.ahead.clear();
-        self.turns_since = 0;
-        let mut near = self.near;
-        for index in 0..MOST_AHEAD {
-            let Some(found) = self.message_ahead(&mut near, index) else {
-                break;
-            };
-            if self.ahead.push(found).is_err() {
-                break;
-            }
-        }
-        self.near = near;
-    }
-
-    // The message to come that is this many after the worker's next one, looked for from a place of the day; none after
-    // its last message.
-    fn message_ahead(&self, near: &mut Place, after: usize) -> Option<FoundMessage<'p>>
-        requires { IsPlace self.now.day near.old }
-        ensures near { IsPlace self.now.day near.new }
-        ensures found { IfSome result (λ f. IsFound self.now.day (worker_locates self.now) f.message
-            f.payload.now f.index) }
-    {
-        let index = self.done.saturating_add(after);
         let own = self.parts.own(self.worker);
-        if index >= own.len() {
-            return None;
-        }
-        let message = own[index];
-        Some(find_message(self.parts.day(), near, &self.indices, message))
+        let start = own.len().min(self.done.saturating_add(MOST_AHEAD));
+        let end = own.len().min(start.saturating_add(MOST_AHEAD));
+        mem::swap(&mut self.ahead, &mut self.farther);
+        self.turns_since = 0;
+        self.farther.clear();
+        find_all(
+            self.parts.day(),
+            &mut self.near,
+            &self.indices,
+            &own[start..end],
+            &mut self.farther,
+        );
     }
 
-    /// Which of the worker's stocks the message is of that was found ahead at this index, in the order of the messages;
-    /// none where fewer were found.
+    /// Which of the worker's stocks the message is of that the last call found at this index, in the order of the
+    /// messages; none where fewer were found.
     pub fn stock_ahead(&self, index: usize) -> Option<usize>
         ensures { IfSome result (λ stock. stock < length (worker_locates self.now)) }
     {
-        let found = self.ahead.get(index)?;
+        let found = self.farther.get(index)?;
         Some(found.index)
     }
 
-    /// Reads what the messages that were found ahead are likely to need of their stocks' machines, so that the
+    /// Reads what the messages that the last call found are likely to need of their stocks' machines, so that the
     /// processor has fetched that memory when their turns come. It changes nothing, and what it returns means nothing:
     /// it is there to be used, so that the reads aren't left out.
     pub fn touch_ahead(&self) -> u64 {
         let mut sum: u64 = 0;
-        for found in &self.ahead {
+        for found in &self.farther {
             sum = sum.wrapping_add(self.stocks[found.index].touch(found.payload));
         }
         sum
     }
 
-    /// Reads the rows that they are likely to need, in the same way.
+    /// Reads the rows that the worker's next messages are likely to need, those that the call before the last one found,
+    /// in the same way: where these rows are is known by machines that were read a while ago.
     pub fn touch_rows_ahead(&self) -> u64 {
         let mut sum: u64 = 0;
         for found in &self.ahead {
@@ -306,6 +320,15 @@ impl<'p, A: Allocator> Runner<'p, A> {
         ensures { result.now ≡ machine_at self.now (slice_index (worker_locates self.now) index) }
     {
         &self.stocks[index]
+    }
+
+    /// The machine of one of the worker's stocks, by its locate code; none where it isn't one of them.
+    pub fn stock(&self, locate: u16) -> Option<&Stock<A>>
+        ensures { MatchOption result (¬ Contains (worker_locates self.now) locate)
+            (λ stock. stock.now ≡ machine_at self.now locate) }
+    {
+        let index = self.index_of(locate)?;
+        Some(self.stock_at(index))
     }
 
     /// The index of a stock among the worker's; none where it isn't one of them.

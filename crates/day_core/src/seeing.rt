@@ -2,13 +2,11 @@
 ghost use Rattle.std.specs.Prelude.{ℕ, ◌≡◌, ◌<◌, ◌≤◌, ◌||◌, false, IfOk, filter, length, slice_index_or};
 ghost use Rattle.std.specs.List.{range_with_len};
 ghost use Rattle.itch_table.specs.Shows.{locates_of_day};
+ghost use Rattle.itch_table.specs.declared.parts.TheConstants.{LOCATES};
 
 use binaryfile::Day;
-use itch_table::{Part, part};
+use itch_table::{LOCATES, Part, part};
 use std::alloc::{AllocError, Allocator};
-
-/// How many locate codes there are.
-pub(crate) const LOCATES: usize = 1 << 16;
 
 /// At each of this many locate codes that no message of its stock was seen.
 pub(crate) fn none_seen<A: Allocator + Copy>(
@@ -40,7 +38,7 @@ pub(crate) fn locates_seen<A: Allocator + Copy>(
     alloc: A,
     seen: &[bool],
 ) -> Result<Vec<u16, A>, AllocError>
-    requires { length seen.now ≤ 0x1_0000 }
+    requires { length seen.now ≤ LOCATES }
     ensures { IfOk result (λ locates. locates.items
         ≡ filter (λ locate. slice_index_or seen.now locate false) (range_with_len 0 (length seen.now))) }
 {

@@ -74,9 +74,6 @@ impl<'p, A: Allocator + Copy> WorkerCells<'p, A> {
         ensures { MatchOption result (¬ Contains (worker_locates self.now) locate)
             (λ stock. stock.now ≡ machine_at self.now locate) }
     {
-        match self.runner.index_of(locate) {
-            Some(index) => Some(self.runner.stock_at(index)),
-            None => None,
-        }
+        self.runner.stock(locate)
     }
 }

@@ -148,7 +148,8 @@ fn answer_command<A: Allocator + Copy>(
     ensures err { IsBeforeOrAfter debugger.old (reply_to debugger.old command) debugger.new result }
 {
     match command {
-        Command::Blank | Command::Quit => Ok(()),
+        Command::Blank => Ok(()),
+        Command::Quit => unreachable!(),
         Command::Goto(n) => goto(alloc, text, debugger, n),
         Command::Step => step(alloc, text, debugger),
         Command::Back => back(alloc, text, debugger),

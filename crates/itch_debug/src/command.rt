@@ -39,7 +39,7 @@ pub enum Command {
 }
 
 /// The most bytes of a line.
-const LONGEST_LINE: usize = 1000;
+pub(crate) const LONGEST_LINE: usize = 1000;
 
 // The locate code that a word writes.
 #[tactic(auto, using(crate::proofs::Numbers::numbers))]

@@ -6,6 +6,7 @@ ghost use Rattle.itch_debug.specs.Going.{session_of};
 ghost use Rattle.itch_debug.specs.Runs.{EndsEarly, Halts, Stands, Unfinished};
 ghost use Rattle.itch_debug.specs.Sessions.{answers, reply_of};
 
+use crate::command::LONGEST_LINE;
 use crate::session::{Next, put_answer};
 use binaryfile::{Sink, send};
 use debugger::Debugger;
@@ -13,8 +14,8 @@ use itch_engine::ProgFault;
 use std::alloc::Allocator;
 use std::io::Write;
 
-// How many bytes of a line are kept, one more than a line may have.
-const KEPT: usize = 1001;
+// How many bytes of a line are kept: one more than a line may have, so that a longer one is known.
+const KEPT: usize = LONGEST_LINE + 1;
 
 /// A session over a day, and the line that has begun.
 #[derive(Drop)]

@@ -2,6 +2,8 @@
 use Rattle.std.specs.Prelude.{◌≡◌, ◌≢◌, ◌⊎◌, ℕ, List, [], ◌∷◌, ◌++◌, length, slice_index, Some, None}
 use Rattle.itch_layouts.specs.Layouts.{Layout, size_of, Value, Number, Bytes, values_at}
 use Rattle.itch_layouts.specs.Layouts as layouts
+use Rattle.itch_layouts.specs.declared.kind.Kind.{Kind}
+use Rattle.itch_layouts.specs.declared.kind.Kind.TheVariants as kind
 use Rattle.itch_layouts.specs.declared.message.Head.{Head}
 use Rattle.itch_layouts.specs.declared.message.Msg.{Msg}
 use Rattle.itch_layouts.specs.declared.message.Msg.TheVariants as msg
@@ -93,3 +95,30 @@ Reads payload (Known m) = Means payload m
 Reads payload Unknown = (length payload ≡ 0) ⊎ (size_of (slice_index payload 0) ≡ None)
 Reads payload BadLength =
     (size : ℕ) × (size_of (slice_index payload 0) ≡ Some size) × (length payload ≢ size)
+
+-- a payload is of the kind of its layout, or what it is read as is known without its fields
+abbrev pub IsKind : List ℕ → Kind → Type 0
+IsKind payload kind.System = IsOf layouts.system payload
+IsKind payload kind.Directory = IsOf layouts.directory payload
+IsKind payload kind.Trading = IsOf layouts.trading payload
+IsKind payload kind.Regsho = IsOf layouts.regsho payload
+IsKind payload kind.Participant = IsOf layouts.participant payload
+IsKind payload kind.Decline = IsOf layouts.decline payload
+IsKind payload kind.Breach = IsOf layouts.breach payload
+IsKind payload kind.Ipo = IsOf layouts.ipo payload
+IsKind payload kind.Collar = IsOf layouts.collar payload
+IsKind payload kind.Operational = IsOf layouts.operational payload
+IsKind payload kind.Add = IsOf layouts.add payload
+IsKind payload kind.AddMpid = IsOf layouts.add_mpid payload
+IsKind payload kind.Execute = IsOf layouts.execute payload
+IsKind payload kind.ExecutePrice = IsOf layouts.execute_price payload
+IsKind payload kind.Cancel = IsOf layouts.cancel payload
+IsKind payload kind.Delete = IsOf layouts.delete payload
+IsKind payload kind.Replace = IsOf layouts.replace payload
+IsKind payload kind.Trade = IsOf layouts.trade payload
+IsKind payload kind.Cross = IsOf layouts.cross payload
+IsKind payload kind.Broken = IsOf layouts.broken payload
+IsKind payload kind.Imbalance = IsOf layouts.imbalance payload
+IsKind payload kind.Retail = IsOf layouts.retail payload
+IsKind payload kind.Unknown = Reads payload Unknown
+IsKind payload kind.BadLength = Reads payload BadLength

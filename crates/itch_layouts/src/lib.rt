@@ -10,6 +10,9 @@
 //! }
 //! ```
 //!
+//! Code that acts on every message chooses by its kind, [`kind_of`], and reads of its fields what it needs by the function
+//! of [`readers`] for that kind.
+//!
 //! [`write_msg`] appends the payload of a message. [`layout_of_kind`] and [`layout_of_mnemonic`] look a layout up in
 //! the table, for code that walks the fields of every type alike.
 //!
@@ -19,16 +22,18 @@
 mod at_offset;
 mod field;
 mod field_value;
+mod kind;
 mod laws;
 mod layout;
 mod layout_table;
 mod message;
 mod nanos;
-mod readers;
+pub mod readers;
 mod shape;
 mod writer;
 
 pub use field::{Field, Form};
+pub use kind::{Kind, kind_of};
 pub use laws::{one_layout, one_message, one_payload, one_shape};
 pub use layout::Layout;
 pub use layout_table::{head_fields, layout_of_kind, layout_of_mnemonic, size_of_kind};

@@ -1,8 +1,10 @@
-//! The message that a payload means, by its layout.
+//! The fields of payloads, one function for the messages of each kind: for code that knows the kind of a payload by
+//! [`kind_of`](crate::kind_of), and reads of its fields what it needs.
 ghost use Rattle.std.specs.Prelude.{◌≡◌, ◌<◌, length, map};
 ghost use Rattle.itch_layouts.specs.Layouts.{head_fields, value_at};
 ghost use Rattle.itch_layouts.specs.Layouts as layouts;
 ghost use Rattle.itch_layouts.specs.Means.{head_values, IsOf, Means};
+ghost use Rattle.itch_layouts.specs.declared.message.Msg.{Msg};
 
 use crate::at_offset::{array_at, byte_at, nanos_at, u16_at, u32_at, u64_at};
 use crate::message::*;
@@ -20,23 +22,23 @@ fn head_of(payload: &[u8]) -> Head
     }
 }
 
-/// The message that a payload of the layout `system` means.
+/// The head and the fields of a payload of the layout `system`.
 #[inline(always)]
-pub(crate) fn system_of(payload: &[u8]) -> Msg
+pub fn system_of(payload: &[u8]) -> (Head, System)
     requires { IsOf layouts.system payload.now }
-    ensures { Means payload.now result }
+    ensures { Means payload.now (Msg.System result.0 result.1) }
 {
     let system = System {
         event: byte_at(payload, 11),
     };
-    Msg::System(head_of(payload), system)
+    (head_of(payload), system)
 }
 
-/// The message that a payload of the layout `directory` means.
+/// The head and the fields of a payload of the layout `directory`.
 #[inline(always)]
-pub(crate) fn directory_of(payload: &[u8]) -> Msg
+pub fn directory_of(payload: &[u8]) -> (Head, Directory)
     requires { IsOf layouts.directory payload.now }
-    ensures { Means payload.now result }
+    ensures { Means payload.now (Msg.Directory result.0 result.1) }
 {
     let directory = Directory {
         stock: array_at(payload, 11),
@@ -54,14 +56,14 @@ pub(crate) fn directory_of(payload: &[u8]) -> Msg
         leverage: u32_at(payload, 34),
         inverse: byte_at(payload, 38),
     };
-    Msg::Directory(head_of(payload), directory)
+    (head_of(payload), directory)
 }
 
-/// The message that a payload of the layout `trading` means.
+/// The head and the fields of a payload of the layout `trading`.
 #[inline(always)]
-pub(crate) fn trading_of(payload: &[u8]) -> Msg
+pub fn trading_of(payload: &[u8]) -> (Head, TradingAction)
     requires { IsOf layouts.trading payload.now }
-    ensures { Means payload.now result }
+    ensures { Means payload.now (Msg.Trading result.0 result.1) }
 {
     let trading = TradingAction {
         stock: array_at(payload, 11),
@@ -69,27 +71,27 @@ pub(crate) fn trading_of(payload: &[u8]) -> Msg
         reserved: byte_at(payload, 20),
         reason: array_at(payload, 21),
     };
-    Msg::Trading(head_of(payload), trading)
+    (head_of(payload), trading)
 }
 
-/// The message that a payload of the layout `regsho` means.
+/// The head and the fields of a payload of the layout `regsho`.
 #[inline(always)]
-pub(crate) fn regsho_of(payload: &[u8]) -> Msg
+pub fn regsho_of(payload: &[u8]) -> (Head, Regsho)
     requires { IsOf layouts.regsho payload.now }
-    ensures { Means payload.now result }
+    ensures { Means payload.now (Msg.Regsho result.0 result.1) }
 {
     let regsho = Regsho {
         stock: array_at(payload, 11),
         action: byte_at(payload, 19),
     };
-    Msg::Regsho(head_of(payload), regsho)
+    (head_of(payload), regsho)
 }
 
-/// The message that a payload of the layout `participant` means.
+/// The head and the fields of a payload of the layout `participant`.
 #[inline(always)]
-pub(crate) fn participant_of(payload: &[u8]) -> Msg
+pub fn participant_of(payload: &[u8]) -> (Head, Participant)
     requires { IsOf layouts.participant payload.now }
-    ensures { Means payload.now result }
+    ensures { Means payload.now (Msg.Participant result.0 result.1) }
 {
     let participant = Participant {
         mpid: array_at(payload, 11),
@@ -98,40 +100,40 @@ pub(crate) fn participant_of(payload: &[u8]) -> Msg
         mode: byte_at(payload, 24),
         state: byte_at(payload, 25),
     };
-    Msg::Participant(head_of(payload), participant)
+    (head_of(payload), participant)
 }
 
-/// The message that a payload of the layout `decline` means.
+/// The head and the fields of a payload of the layout `decline`.
 #[inline(always)]
-pub(crate) fn decline_of(payload: &[u8]) -> Msg
+pub fn decline_of(payload: &[u8]) -> (Head, Decline)
     requires { IsOf layouts.decline payload.now }
-    ensures { Means payload.now result }
+    ensures { Means payload.now (Msg.Decline result.0 result.1) }
 {
     let decline = Decline {
         level1: u64_at(payload, 11),
         level2: u64_at(payload, 19),
         level3: u64_at(payload, 27),
     };
-    Msg::Decline(head_of(payload), decline)
+    (head_of(payload), decline)
 }
 
-/// The message that a payload of the layout `breach` means.
+/// The head and the fields of a payload of the layout `breach`.
 #[inline(always)]
-pub(crate) fn breach_of(payload: &[u8]) -> Msg
+pub fn breach_of(payload: &[u8]) -> (Head, Breach)
     requires { IsOf layouts.breach payload.now }
-    ensures { Means payload.now result }
+    ensures { Means payload.now (Msg.Breach result.0 result.1) }
 {
     let breach = Breach {
         level: byte_at(payload, 11),
     };
-    Msg::Breach(head_of(payload), breach)
+    (head_of(payload), breach)
 }
 
-/// The message that a payload of the layout `ipo` means.
+/// The head and the fields of a payload of the layout `ipo`.
 #[inline(always)]
-pub(crate) fn ipo_of(payload: &[u8]) -> Msg
+pub fn ipo_of(payload: &[u8]) -> (Head, Ipo)
     requires { IsOf layouts.ipo payload.now }
-    ensures { Means payload.now result }
+    ensures { Means payload.now (Msg.Ipo result.0 result.1) }
 {
     let ipo = Ipo {
         stock: array_at(payload, 11),
@@ -139,14 +141,14 @@ pub(crate) fn ipo_of(payload: &[u8]) -> Msg
         qualifier: byte_at(payload, 23),
         price: u32_at(payload, 24),
     };
-    Msg::Ipo(head_of(payload), ipo)
+    (head_of(payload), ipo)
 }
 
-/// The message that a payload of the layout `collar` means.
+/// The head and the fields of a payload of the layout `collar`.
 #[inline(always)]
-pub(crate) fn collar_of(payload: &[u8]) -> Msg
+pub fn collar_of(payload: &[u8]) -> (Head, Collar)
     requires { IsOf layouts.collar payload.now }
-    ensures { Means payload.now result }
+    ensures { Means payload.now (Msg.Collar result.0 result.1) }
 {
     let collar = Collar {
         stock: array_at(payload, 11),
@@ -155,28 +157,28 @@ pub(crate) fn collar_of(payload: &[u8]) -> Msg
         lower: u32_at(payload, 27),
         extension: u32_at(payload, 31),
     };
-    Msg::Collar(head_of(payload), collar)
+    (head_of(payload), collar)
 }
 
-/// The message that a payload of the layout `operational` means.
+/// The head and the fields of a payload of the layout `operational`.
 #[inline(always)]
-pub(crate) fn operational_of(payload: &[u8]) -> Msg
+pub fn operational_of(payload: &[u8]) -> (Head, Operational)
     requires { IsOf layouts.operational payload.now }
-    ensures { Means payload.now result }
+    ensures { Means payload.now (Msg.Operational result.0 result.1) }
 {
     let operational = Operational {
         stock: array_at(payload, 11),
         market: byte_at(payload, 19),
         action: byte_at(payload, 20),
     };
-    Msg::Operational(head_of(payload), operational)
+    (head_of(payload), operational)
 }
 
-/// The message that a payload of the layout `add` means.
+/// The head and the fields of a payload of the layout `add`.
 #[inline(always)]
-pub(crate) fn add_of(payload: &[u8]) -> Msg
+pub fn add_of(payload: &[u8]) -> (Head, Add)
     requires { IsOf layouts.add payload.now }
-    ensures { Means payload.now result }
+    ensures { Means payload.now (Msg.Add result.0 result.1) }
 {
     let add = Add {
         reference: u64_at(payload, 11),
@@ -185,14 +187,14 @@ pub(crate) fn add_of(payload: &[u8]) -> Msg
         stock: array_at(payload, 24),
         price: u32_at(payload, 32),
     };
-    Msg::Add(head_of(payload), add)
+    (head_of(payload), add)
 }
 
-/// The message that a payload of the layout `add_mpid` means.
+/// The head and the fields of a payload of the layout `add_mpid`.
 #[inline(always)]
-pub(crate) fn add_mpid_of(payload: &[u8]) -> Msg
+pub fn add_mpid_of(payload: &[u8]) -> (Head, AddMpid)
     requires { IsOf layouts.add_mpid payload.now }
-    ensures { Means payload.now result }
+    ensures { Means payload.now (Msg.AddMpid result.0 result.1) }
 {
     let add_mpid = AddMpid {
         reference: u64_at(payload, 11),
@@ -202,28 +204,28 @@ pub(crate) fn add_mpid_of(payload: &[u8]) -> Msg
         price: u32_at(payload, 32),
         attribution: array_at(payload, 36),
     };
-    Msg::AddMpid(head_of(payload), add_mpid)
+    (head_of(payload), add_mpid)
 }
 
-/// The message that a payload of the layout `execute` means.
+/// The head and the fields of a payload of the layout `execute`.
 #[inline(always)]
-pub(crate) fn execute_of(payload: &[u8]) -> Msg
+pub fn execute_of(payload: &[u8]) -> (Head, Execute)
     requires { IsOf layouts.execute payload.now }
-    ensures { Means payload.now result }
+    ensures { Means payload.now (Msg.Execute result.0 result.1) }
 {
     let execute = Execute {
         reference: u64_at(payload, 11),
         shares: u32_at(payload, 19),
         match_no: u64_at(payload, 23),
     };
-    Msg::Execute(head_of(payload), execute)
+    (head_of(payload), execute)
 }
 
-/// The message that a payload of the layout `execute_price` means.
+/// The head and the fields of a payload of the layout `execute_price`.
 #[inline(always)]
-pub(crate) fn execute_price_of(payload: &[u8]) -> Msg
+pub fn execute_price_of(payload: &[u8]) -> (Head, ExecutePrice)
     requires { IsOf layouts.execute_price payload.now }
-    ensures { Means payload.now result }
+    ensures { Means payload.now (Msg.ExecutePrice result.0 result.1) }
 {
     let execute_price = ExecutePrice {
         reference: u64_at(payload, 11),
@@ -232,39 +234,39 @@ pub(crate) fn execute_price_of(payload: &[u8]) -> Msg
         printable: byte_at(payload, 31),
         price: u32_at(payload, 32),
     };
-    Msg::ExecutePrice(head_of(payload), execute_price)
+    (head_of(payload), execute_price)
 }
 
-/// The message that a payload of the layout `cancel` means.
+/// The head and the fields of a payload of the layout `cancel`.
 #[inline(always)]
-pub(crate) fn cancel_of(payload: &[u8]) -> Msg
+pub fn cancel_of(payload: &[u8]) -> (Head, Cancel)
     requires { IsOf layouts.cancel payload.now }
-    ensures { Means payload.now result }
+    ensures { Means payload.now (Msg.Cancel result.0 result.1) }
 {
     let cancel = Cancel {
         reference: u64_at(payload, 11),
         shares: u32_at(payload, 19),
     };
-    Msg::Cancel(head_of(payload), cancel)
+    (head_of(payload), cancel)
 }
 
-/// The message that a payload of the layout `delete` means.
+/// The head and the fields of a payload of the layout `delete`.
 #[inline(always)]
-pub(crate) fn delete_of(payload: &[u8]) -> Msg
+pub fn delete_of(payload: &[u8]) -> (Head, Delete)
     requires { IsOf layouts.delete payload.now }
-    ensures { Means payload.now result }
+    ensures { Means payload.now (Msg.Delete result.0 result.1) }
 {
     let delete = Delete {
         reference: u64_at(payload, 11),
     };
-    Msg::Delete(head_of(payload), delete)
+    (head_of(payload), delete)
 }
 
-/// The message that a payload of the layout `replace` means.
+/// The head and the fields of a payload of the layout `replace`.
 #[inline(always)]
-pub(crate) fn replace_of(payload: &[u8]) -> Msg
+pub fn replace_of(payload: &[u8]) -> (Head, Replace)
     requires { IsOf layouts.replace payload.now }
-    ensures { Means payload.now result }
+    ensures { Means payload.now (Msg.Replace result.0 result.1) }
 {
     let replace = Replace {
         reference: u64_at(payload, 11),
@@ -272,14 +274,14 @@ pub(crate) fn replace_of(payload: &[u8]) -> Msg
         shares: u32_at(payload, 27),
         price: u32_at(payload, 31),
     };
-    Msg::Replace(head_of(payload), replace)
+    (head_of(payload), replace)
 }
 
-/// The message that a payload of the layout `trade` means.
+/// The head and the fields of a payload of the layout `trade`.
 #[inline(always)]
-pub(crate) fn trade_of(payload: &[u8]) -> Msg
+pub fn trade_of(payload: &[u8]) -> (Head, NonCrossTrade)
     requires { IsOf layouts.trade payload.now }
-    ensures { Means payload.now result }
+    ensures { Means payload.now (Msg.Trade result.0 result.1) }
 {
     let trade = NonCrossTrade {
         reference: u64_at(payload, 11),
@@ -289,14 +291,14 @@ pub(crate) fn trade_of(payload: &[u8]) -> Msg
         price: u32_at(payload, 32),
         match_no: u64_at(payload, 36),
     };
-    Msg::Trade(head_of(payload), trade)
+    (head_of(payload), trade)
 }
 
-/// The message that a payload of the layout `cross` means.
+/// The head and the fields of a payload of the layout `cross`.
 #[inline(always)]
-pub(crate) fn cross_of(payload: &[u8]) -> Msg
+pub fn cross_of(payload: &[u8]) -> (Head, Cross)
     requires { IsOf layouts.cross payload.now }
-    ensures { Means payload.now result }
+    ensures { Means payload.now (Msg.Cross result.0 result.1) }
 {
     let cross = Cross {
         shares: u64_at(payload, 11),
@@ -305,26 +307,26 @@ pub(crate) fn cross_of(payload: &[u8]) -> Msg
         match_no: u64_at(payload, 31),
         cross_type: byte_at(payload, 39),
     };
-    Msg::Cross(head_of(payload), cross)
+    (head_of(payload), cross)
 }
 
-/// The message that a payload of the layout `broken` means.
+/// The head and the fields of a payload of the layout `broken`.
 #[inline(always)]
-pub(crate) fn broken_of(payload: &[u8]) -> Msg
+pub fn broken_of(payload: &[u8]) -> (Head, Broken)
     requires { IsOf layouts.broken payload.now }
-    ensures { Means payload.now result }
+    ensures { Means payload.now (Msg.Broken result.0 result.1) }
 {
     let broken = Broken {
         match_no: u64_at(payload, 11),
     };
-    Msg::Broken(head_of(payload), broken)
+    (head_of(payload), broken)
 }
 
-/// The message that a payload of the layout `imbalance` means.
+/// The head and the fields of a payload of the layout `imbalance`.
 #[inline(always)]
-pub(crate) fn imbalance_of(payload: &[u8]) -> Msg
+pub fn imbalance_of(payload: &[u8]) -> (Head, Imbalance)
     requires { IsOf layouts.imbalance payload.now }
-    ensures { Means payload.now result }
+    ensures { Means payload.now (Msg.Imbalance result.0 result.1) }
 {
     let imbalance = Imbalance {
         paired: u64_at(payload, 11),
@@ -337,18 +339,18 @@ pub(crate) fn imbalance_of(payload: &[u8]) -> Msg
         cross_type: byte_at(payload, 48),
         variation: byte_at(payload, 49),
     };
-    Msg::Imbalance(head_of(payload), imbalance)
+    (head_of(payload), imbalance)
 }
 
-/// The message that a payload of the layout `retail` means.
+/// The head and the fields of a payload of the layout `retail`.
 #[inline(always)]
-pub(crate) fn retail_of(payload: &[u8]) -> Msg
+pub fn retail_of(payload: &[u8]) -> (Head, Retail)
     requires { IsOf layouts.retail payload.now }
-    ensures { Means payload.now result }
+    ensures { Means payload.now (Msg.Retail result.0 result.1) }
 {
     let retail = Retail {
         stock: array_at(payload, 11),
         interest: byte_at(payload, 19),
     };
-    Msg::Retail(head_of(payload), retail)
+    (head_of(payload), retail)
 }

@@ -1,11 +1,11 @@
 //! The shape of a payload, and the message that it means.
-ghost use Rattle.std.specs.Prelude.{◌≡◌, ◌≢◌, ℕ, Some, length, slice_index};
-ghost use Rattle.itch_layouts.specs.Layouts.{size_of};
+ghost use Rattle.std.specs.Prelude.{◌≡◌, length};
 ghost use Rattle.itch_layouts.specs.Encoding.{Fits};
 ghost use Rattle.itch_layouts.specs.Means.{Means, Reads};
 ghost use Rattle.itch_layouts.specs.Shapes.{shape_of};
 ghost use Rattle.itch_layouts.specs.declared.message.Msg.{Msg};
 
+use crate::kind::{Kind, kind_of};
 use crate::message::Msg;
 use crate::readers;
 
@@ -20,58 +20,43 @@ pub enum Shape {
     BadLength,
 }
 
-// The shape of a payload whose type has a layout of another size.
-fn bad_length(_payload: &[u8], _size: usize) -> Shape
-    requires size { size_of (slice_index _payload.now 0) ≡ Some _size }
-    requires other { length _payload.now ≢ _size }
-    ensures { Reads _payload.now result }
-{
-    Shape::BadLength
-}
-
-// The shape of a payload whose type has a layout of this size, where a reader gives its message.
-macro_rules! sized {
-    ($payload:ident $size:literal $reader:ident) => {
-        if $payload.len() == $size {
-            Shape::Known(readers::$reader($payload))
-        } else {
-            bad_length($payload, $size)
-        }
-    };
+// The shape of a payload of this kind, whose fields are read by its reader.
+macro_rules! known {
+    ($payload:ident $reader:ident $message:ident) => {{
+        let (head, message) = readers::$reader($payload);
+        Shape::Known(Msg::$message(head, message))
+    }};
 }
 
 // The shape of a payload.
-#[tactic(auto, using(std::proofs::lemmas::Bool::Decides::nat_tests), unfolding(crate::specs::Layouts::size_of, crate::specs::Layouts::layout_of_kind))]
 fn read_shape(payload: &[u8]) -> Shape
     ensures { Reads payload.now result }
 {
-    let Some(kind) = payload.first() else {
-        return Shape::Unknown;
-    };
-    match *kind {
-        b'S' => sized!(payload 12 system_of),
-        b'R' => sized!(payload 39 directory_of),
-        b'H' => sized!(payload 25 trading_of),
-        b'Y' => sized!(payload 20 regsho_of),
-        b'L' => sized!(payload 26 participant_of),
-        b'V' => sized!(payload 35 decline_of),
-        b'W' => sized!(payload 12 breach_of),
-        b'K' => sized!(payload 28 ipo_of),
-        b'J' => sized!(payload 35 collar_of),
-        b'h' => sized!(payload 21 operational_of),
-        b'A' => sized!(payload 36 add_of),
-        b'F' => sized!(payload 40 add_mpid_of),
-        b'E' => sized!(payload 31 execute_of),
-        b'C' => sized!(payload 36 execute_price_of),
-        b'X' => sized!(payload 23 cancel_of),
-        b'D' => sized!(payload 19 delete_of),
-        b'U' => sized!(payload 35 replace_of),
-        b'P' => sized!(payload 44 trade_of),
-        b'Q' => sized!(payload 40 cross_of),
-        b'B' => sized!(payload 19 broken_of),
-        b'I' => sized!(payload 50 imbalance_of),
-        b'N' => sized!(payload 20 retail_of),
-        _ => Shape::Unknown,
+    match kind_of(payload) {
+        Kind::Unknown => Shape::Unknown,
+        Kind::BadLength => Shape::BadLength,
+        Kind::System => known!(payload system_of System),
+        Kind::Directory => known!(payload directory_of Directory),
+        Kind::Trading => known!(payload trading_of Trading),
+        Kind::Regsho => known!(payload regsho_of Regsho),
+        Kind::Participant => known!(payload participant_of Participant),
+        Kind::Decline => known!(payload decline_of Decline),
+        Kind::Breach => known!(payload breach_of Breach),
+        Kind::Ipo => known!(payload ipo_of Ipo),
+        Kind::Collar => known!(payload collar_of Collar),
+        Kind::Operational => known!(payload operational_of Operational),
+        Kind::Add => known!(payload add_of Add),
+        Kind::AddMpid => known!(payload add_mpid_of AddMpid),
+        Kind::Execute => known!(payload execute_of Execute),
+        Kind::ExecutePrice => known!(payload execute_price_of ExecutePrice),
+        Kind::Cancel => known!(payload cancel_of Cancel),
+        Kind::Delete => known!(payload delete_of Delete),
+        Kind::Replace => known!(payload replace_of Replace),
+        Kind::Trade => known!(payload trade_of Trade),
+        Kind::Cross => known!(payload cross_of Cross),
+        Kind::Broken => known!(payload broken_of Broken),
+        Kind::Imbalance => known!(payload imbalance_of Imbalance),
+        Kind::Retail => known!(payload retail_of Retail),
     }
 }
 

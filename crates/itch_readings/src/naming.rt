@@ -1,14 +1,12 @@
 //! The stocks of a day, and how they are named.
 ghost use Rattle.std.specs.Prelude.{◌≡◌, ◌≤◌, IfOk, length, slice_get};
 ghost use Rattle.itch_readings.specs.Naming.{AreListed, NamedHaveMessages, first_with, has_messages, has_symbol, locate_of, symbol_by};
+ghost use Rattle.itch_table.specs.declared.parts.TheConstants.{LOCATES};
 
 use binaryfile::Day;
 use itch_layouts::{Msg, Shape, read_msg};
-use itch_table::{Part, part};
+use itch_table::{LOCATES, Part, part};
 use std::alloc::{AllocError, Allocator};
-
-// How many locate codes there are.
-const LOCATES: usize = 1 << 16;
 
 /// A stock as a user names it.
 #[derive(Debug, Clone, Copy, PartialEq, Eq)]
@@ -91,7 +89,7 @@ fn has_messages(listed: &[Listed], locate: u16) -> bool
 
 // The first locate code whose stock has a symbol.
 fn first_with(listed: &[Listed], symbol: &[u8; 8]) -> Option<u16>
-    requires { length listed.now ≤ 0x1_0000 }
+    requires { length listed.now ≤ LOCATES }
     ensures { result ≡ first_with symbol.now 0 listed.now }
 {
     let mut code = 0u32;
@@ -107,7 +105,7 @@ fn first_with(listed: &[Listed], symbol: &[u8; 8]) -> Option<u16>
 /// The locate code of a stock that is named, by what a day's messages say of each stock; none where the day has no
 /// message of it. By a symbol it is the first stock, by locate code, that has the symbol.
 pub fn locate_of(listed: &[Listed], name: StockName) -> Option<u16>
-    requires { length listed.now ≤ 0x1_0000 }
+    requires { length listed.now ≤ LOCATES }
     ensures { result ≡ locate_of listed.now name }
 {
     match name {

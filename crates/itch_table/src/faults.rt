@@ -3,9 +3,7 @@ ghost use Rattle.std.specs.Prelude.{◌≡◌, ◌∷◌, [], Some, IfOk};
 ghost use Rattle.std.specs.Result.{result_err};
 ghost use Rattle.std.specs.List.{list_any};
 ghost use Rattle.itch_table.specs.World.{directory, live, stock_row};
-ghost use Rattle.itch_table.specs.Held.{Holds, HoldsPart};
-ghost use Rattle.itch_table.specs.Machine.{named_order, row_found};
-ghost use Rattle.itch_table.specs.Parts.{part_of_message};
+ghost use Rattle.itch_table.specs.Held.{Holds};
 ghost use Rattle.itch_table.specs.Trades.{is_unbroken};
 ghost use Rattle.itch_table.specs.Table.{are_left, checks, first_fault, has_left, has_shares, has_side, is_live, is_new, is_printable, is_unspent, listed, names_stock, refuse_unless, same_stock};
 
@@ -94,8 +92,8 @@ fn has_left(row: &OrderRow, shares: u32) -> Result<(), Fault>
     refuse_unless(shares <= row.shares, Fault::TooManyShares)
 }
 
-// The directory row, where there is one, names this stock.
-fn keeps_stock<S: Store>(store: &S, locate: u16, stock: &[u8; 8]) -> Result<(), Fault>
+/// The directory row, where there is one, names this stock.
+pub(crate) fn keeps_stock<S: Store>(store: &S, locate: u16, stock: &[u8; 8]) -> Result<(), Fault>
     requires { Holds (S.held store.now) locate }
     ensures { result_err result ≡
         refuse_unless (same_stock stock.now (directory (S.held store.now).world locate)) Fault.LocateTaken }
@@ -115,8 +113,8 @@ fn has_trade<S: Store>(store: &S, locate: u16, match_no: u64) -> Result<(), Faul
     refuse_unless(store.has_unbroken(locate, match_no), Fault::NoTrade)
 }
 
-// The checks of every message that names a stock.
-fn check_stock<S: Store>(store: &S, locate: u16, stock: &[u8; 8]) -> Result<(), Fault>
+/// The checks of every message that names a stock.
+pub(crate) fn check_stock<S: Store>(store: &S, locate: u16, stock: &[u8; 8]) -> Result<(), Fault>
     requires { Holds (S.held store.now) locate }
     ensures { let w = (S.held store.now).world in
         result_err result ≡ first_fault (listed w locate ∷ names_stock w locate stock.now ∷ []) }
@@ -124,8 +122,13 @@ fn check_stock<S: Store>(store: &S, locate: u16, stock: &[u8; 8]) -> Result<(), 
     names_stock(listed(store, locate)?, stock)
 }
 
-// The checks of a message that names a stock and a side.
-fn check_side<S: Store>(store: &S, locate: u16, stock: &[u8; 8], side: u8) -> Result<(), Fault>
+/// The checks of a message that names a stock and a side.
+pub(crate) fn check_side<S: Store>(
+    store: &S,
+    locate: u16,
+    stock: &[u8; 8],
+    side: u8,
+) -> Result<(), Fault>
     requires { Holds (S.held store.now) locate }
     ensures { let w = (S.held store.now).world in
         result_err result ≡ first_fault (listed w locate ∷ names_stock w locate stock.now
@@ -135,8 +138,8 @@ fn check_side<S: Store>(store: &S, locate: u16, stock: &[u8; 8], side: u8) -> Re
     has_side(side)
 }
 
-// The checks of a new order.
-fn check_add<S: Store>(
+/// The checks of a new order.
+pub(crate) fn check_add<S: Store>(
     store: &S,
     locate: u16,
     reference: u64,
@@ -155,8 +158,8 @@ fn check_add<S: Store>(
     is_unspent(store, locate, reference)
 }
 
-// The checks of a message that takes shares off an order, which find that order.
-fn check_shares<S: Store>(
+/// The checks of a message that takes shares off an order, which find that order.
+pub(crate) fn check_shares<S: Store>(
     store: &S,
     locate: u16,
     reference: u64,
@@ -174,8 +177,8 @@ fn check_shares<S: Store>(
     Ok(found)
 }
 
-// The checks of an execution at a price of its own, which find the order.
-fn check_execute_price<S: Store>(
+/// The checks of an execution at a price of its own, which find the order.
+pub(crate) fn check_execute_price<S: Store>(
     store: &S,
     head: &Head,
     execute: &ExecutePrice,
@@ -193,8 +196,8 @@ fn check_execute_price<S: Store>(
     Ok(found)
 }
 
-// The checks of a delete, which find the order.
-fn check_delete<S: Store>(store: &S, locate: u16, reference: u64) -> Result<Found, Fault>
+/// The checks of a delete, which find the order.
+pub(crate) fn check_delete<S: Store>(store: &S, locate: u16, reference: u64) -> Result<Found, Fault>
     requires { Holds (S.held store.now) locate }
     ensures fault { let w = (S.held store.now).world in
         result_err result ≡ first_fault (listed w locate ∷ is_live w locate reference ∷ []) }
@@ -204,8 +207,12 @@ fn check_delete<S: Store>(store: &S, locate: u16, reference: u64) -> Result<Foun
     is_live(store, locate, reference)
 }
 
-// The checks of a replacement, which find the order that is replaced.
-fn check_replace<S: Store>(store: &S, head: &Head, replace: &Replace) -> Result<Found, Fault>
+/// The checks of a replacement, which find the order that is replaced.
+pub(crate) fn check_replace<S: Store>(
+    store: &S,
+    head: &Head,
+    replace: &Replace,
+) -> Result<Found, Fault>
     requires { Holds (S.held store.now) head.now.locate }
     ensures fault { let w = (S.held store.now).world in
         result_err result ≡ first_fault (checks (Msg.Replace head.now replace.now) w) }
@@ -220,8 +227,8 @@ fn check_replace<S: Store>(store: &S, head: &Head, replace: &Replace) -> Result<
     Ok(found)
 }
 
-// The checks of a broken trade message.
-fn check_broken<S: Store>(store: &S, locate: u16, match_no: u64) -> Result<(), Fault>
+/// The checks of a broken trade message.
+pub(crate) fn check_broken<S: Store>(store: &S, locate: u16, match_no: u64) -> Result<(), Fault>
     requires { Holds (S.held store.now) locate }
     ensures { let w = (S.held store.now).world in
         result_err result ≡ first_fault (listed w locate
@@ -229,54 +236,4 @@ fn check_broken<S: Store>(store: &S, locate: u16, match_no: u64) -> Result<(), F
 {
     listed(store, locate)?;
     has_trade(store, locate, match_no)
-}
-
-/// Checks a message, up to the first fault; where there is none it returns the order that the message changes, if it
-/// changes one.
-pub(crate) fn check<S: Store>(store: &S, msg: &Msg) -> Result<Option<Found>, Fault>
-    requires { HoldsPart (S.held store.now) (part_of_message msg.now) }
-    ensures fault { result_err result ≡ first_fault (checks msg.now (S.held store.now).world) }
-    ensures named { IfOk result (λ found. row_found found ≡ named_order msg.now (S.held store.now).world) }
-{
-    match msg {
-        Msg::System(_, _) | Msg::Decline(_, _) | Msg::Breach(_, _) | Msg::Ipo(_, _) => {}
-        Msg::Directory(head, m) => keeps_stock(store, head.locate, &m.stock)?,
-        Msg::Trading(head, m) => check_stock(store, head.locate, &m.stock)?,
-        Msg::Regsho(head, m) => check_stock(store, head.locate, &m.stock)?,
-        Msg::Participant(head, m) => check_stock(store, head.locate, &m.stock)?,
-        Msg::Collar(head, m) => check_stock(store, head.locate, &m.stock)?,
-        Msg::Operational(head, m) => check_stock(store, head.locate, &m.stock)?,
-        Msg::Add(head, m) => {
-            check_add(store, head.locate, m.reference, m.side, m.shares, &m.stock)?
-        }
-        Msg::AddMpid(head, m) => {
-            check_add(store, head.locate, m.reference, m.side, m.shares, &m.stock)?
-        }
-        Msg::Execute(head, m) => {
-            let found = check_shares(store, head.locate, m.reference, m.shares)?;
-            return Ok(Some(found));
-        }
-        Msg::ExecutePrice(head, m) => {
-            let found = check_execute_price(store, head, m)?;
-            return Ok(Some(found));
-        }
-        Msg::Cancel(head, m) => {
-            let found = check_shares(store, head.locate, m.reference, m.shares)?;
-            return Ok(Some(found));
-        }
-        Msg::Delete(head, m) => {
-            let found = check_delete(store, head.locate, m.reference)?;
-            return Ok(Some(found));
-        }
-        Msg::Replace(head, m) => {
-            let found = check_replace(store, head, m)?;
-            return Ok(Some(found));
-        }
-        Msg::Trade(head, m) => check_side(store, head.locate, &m.stock, m.side)?,
-        Msg::Cross(head, m) => check_stock(store, head.locate, &m.stock)?,
-        Msg::Broken(head, m) => check_broken(store, head.locate, m.match_no)?,
-        Msg::Imbalance(head, m) => check_stock(store, head.locate, &m.stock)?,
-        Msg::Retail(head, m) => check_stock(store, head.locate, &m.stock)?,
-    }
-    Ok(None)
 }

@@ -87,20 +87,13 @@ impl<A: Allocator + Copy> Book<A> {
             .wrapping_add(self.levels.touch())
     }
 
-    /// Reads the orders and levels that most messages about an order look for first, in the same way.
+    /// Reads the orders and levels that most messages look for first, in the same way.
     pub fn touch_rows(&self) -> u64 {
-        self.orders.touch_rows().wrapping_add(self.touch_best())
-    }
-
-    /// Reads those that most new orders look for, in the same way.
-    pub fn touch_last(&self) -> u64 {
-        self.orders.touch_last().wrapping_add(self.touch_best())
-    }
-
-    // Reads the best levels.
-    fn touch_best(&self) -> u64 {
         let top = self.top();
-        top.bid_shares.wrapping_add(top.ask_shares)
+        self.orders
+            .touch_rows()
+            .wrapping_add(top.bid_shares)
+            .wrapping_add(top.ask_shares)
     }
 
     /// How many orders live: at most 2^32 - 1.

@@ -222,24 +222,16 @@ impl<A: Allocator + Copy> RisingOrders<A> {
         self.rows.len() as u64
     }
 
-    /// Reads orders near the end of the list, where searches begin. What it returns means nothing.
+    /// Reads orders near the end of the list that searches look at first. What it returns means nothing.
     pub fn touch_rows(&self) -> u64 {
         let len = self.rows.len();
         let mut sum: u64 = 0;
-        for back in [1, 4, 12] {
+        for back in [1, 7, 15] {
             if let Some(row) = self.rows.get(len.saturating_sub(back)) {
                 sum = sum.wrapping_add(u64::from(row.distance));
             }
         }
         sum
-    }
-
-    /// Reads the order that came last. What it returns means nothing.
-    pub fn touch_last(&self) -> u64 {
-        match self.rows.last() {
-            Some(row) => u64::from(row.distance),
-            None => 0,
-        }
     }
 
     /// Adds an order that has shares, and returns true; or returns false where its reference isn't above those of all

@@ -97,11 +97,6 @@ impl<A: Allocator + Copy> OrderTable<A> {
         self.rising.touch_rows()
     }
 
-    /// Reads the order that came last. What it returns means nothing.
-    pub fn touch_last(&self) -> u64 {
-        self.rising.touch_last()
-    }
-
     /// How many orders live.
     pub fn len(&self) -> usize
         ensures { result ≡ maps.len self.now }

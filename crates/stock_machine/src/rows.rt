@@ -80,15 +80,11 @@ impl<A: Allocator + Copy> Rows<A> {
 
     /// Reads rows that a message is likely to look for first. What it returns means nothing.
     pub fn touch_rows(&self, payload: &[u8]) -> u64 {
+        let all = self.book.touch_rows();
         match payload {
-            [b'A' | b'F', ..] => self.book.touch_last().wrapping_add(self.spent.touch_rows()),
-            [b'U', ..] => self.book.touch_rows().wrapping_add(self.spent.touch_rows()),
-            [b'E' | b'C', ..] => self
-                .book
-                .touch_rows()
-                .wrapping_add(self.trades.touch_rows()),
-            [b'P', ..] => self.trades.touch_rows(),
-            _ => self.book.touch_rows(),
+            [b'A' | b'F' | b'U', ..] => all.wrapping_add(self.spent.touch_rows()),
+            [b'E' | b'C' | b'P', ..] => all.wrapping_add(self.trades.touch_rows()),
+            _ => all,
         }
     }
 

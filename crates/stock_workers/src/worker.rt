@@ -79,6 +79,7 @@ impl<'p, A: Allocator + Copy> Worker<'p, A> {
     /// An error comes only where a message is left that would be applied and may need a new order or trade. Nothing was
     /// published and the worker is as it was, so that its next turn comes to the gate with the same message again. It
     /// may wait at the gate, and for nothing else.
+    #[inline(always)]
     pub fn turn<R: Threads + Wait + Sync, G: Gate>(
         &mut self,
         rt: &R,
@@ -104,12 +105,13 @@ impl<'p, A: Allocator + Copy> Worker<'p, A> {
 }
 
 impl<'p, A: Allocator + Copy> Worker<'p, A> {
-    /// Finds the worker's next messages and reads what they are likely to need, where `wait` is 0, so that the
-    /// processor fetches the memory of all of them at once: a publish waits for all reads before it, so turns by
+    /// Finds messages that the worker comes to soon and reads what they are likely to need, where `wait` is 0, so that
+    /// the processor fetches the memory of all of them at once: a publish waits for all reads before it, so turns by
     /// themselves would wait for the memory of one message after another. First the machines are read, then the cells,
-    /// and then the rows that the machines lead to, each in a loop of its own, so short that the processor is in all of
-    /// its rounds at once. A worker of few stocks does without. Nothing that is seen of the worker changes. It returns
-    /// what `wait` is after the next turn; the number depends on what was read, so that the reads aren't left out.
+    /// and then the rows that machines lead to which were read one call ago, each in a loop of its own, so short that
+    /// the processor is in all of its rounds at once. A worker of few stocks does without. Nothing that is seen of the
+    /// worker changes. It returns what `wait` is after the next turn; the number depends on what was read, so that the
+    /// reads aren't left out.
     pub(crate) fn look_ahead(&mut self, board: &Board<'_, A>, wait: usize) -> usize
         requires { All (IsOn board.now) self.old.places }
         ensures { self.new ≡ self.old }
@@ -137,9 +139,7 @@ impl<'p, A: Allocator + Copy> Worker<'p, A> {
     {
         let mut sum: u64 = 0;
         for index in 0..MOST_AHEAD {
-            if let Some(stock) = self.runner.stock_ahead(index)
-                && stock < self.writers.len()
-            {
+            if let Some(stock) = self.runner.stock_ahead(index) {
                 sum = sum.wrapping_add(self.writers[stock].touch(board));
             }
         }
@@ -154,10 +154,7 @@ impl<'p, A: Allocator> Worker<'p, A> {
         ensures { MatchOption result (¬ Contains (worker_locates self.now.state) locate)
             (λ stock. stock.now ≡ machine_at self.now.state locate) }
     {
-        match self.runner.index_of(locate) {
-            Some(index) => Some(self.runner.stock_at(index)),
-            None => None,
-        }
+        self.runner.stock(locate)
     }
 
     /// The writer of one of the worker's stocks, at the last of its messages that the worker has done, of one of the

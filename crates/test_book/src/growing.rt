@@ -5,7 +5,7 @@ use order_book::Book;
 use std::alloc::{AllocError, Allocator, Global};
 use std::test::Fail;
 use test_refusing::{Refusal, Refusing, Tried, refuse_any, refuse_each};
-use test_support::{same, same_list};
+use test_support::{LISTINGS, Listing, same, same_list};
 
 // These of the numbers from 1 to 100 are each other, and neither rise nor fall.
 fn scattered(number: u32) -> u32 {
@@ -149,19 +149,6 @@ fn both_sided<A: Allocator + Copy>(alloc: A) -> Result<Book<A>, Fail> {
     make_all(&mut book, &both_sides())?;
     Ok(book)
 }
-
-// A list that a book makes.
-#[derive(Debug, Clone, Copy, PartialEq, Eq)]
-enum Listing {
-    Orders,
-    Levels(Side),
-}
-
-const LISTINGS: [Listing; 3] = [
-    Listing::Orders,
-    Listing::Levels(Side::Buy),
-    Listing::Levels(Side::Sell),
-];
 
 // The first of the orders of both sides, by their references.
 const FIRST: Order = Order {

@@ -7,18 +7,7 @@ use std::alloc::{AllocError, Allocator, Global};
 use std::test::Fail;
 use std::thread::Threads;
 use test_refusing::{Refusal, Refusing, Tried, refuse_any, refuse_each};
-use test_support::{AAPL, MSFT, same, same_list};
-
-// What becomes of the messages of the two stocks.
-const OUTCOMES: [Outcome; 7] = [
-    Outcome::Applied,
-    Outcome::Applied,
-    Outcome::Applied,
-    Outcome::Applied,
-    Outcome::Applied,
-    Outcome::Refused(Fault::NoDirectory),
-    Outcome::Refused(Fault::ReferenceUnknown),
-];
+use test_support::{AAPL, MSFT, OF_TWO_STOCKS, same, same_list};
 
 // A stock without orders.
 const NO_TOP: Top = Top {
@@ -95,7 +84,7 @@ fn a_worker_does_its_messages_in_order(rt: HostRuntime) -> Result<(), Fail> {
 
 // What a replay of the two stocks returns.
 fn same_day<A: Allocator + Copy>(replayed: &ReplayedDay<A>) -> Result<(), Fail> {
-    same_list("the outcomes", &replayed.outcomes, &OUTCOMES)?;
+    same_list("the outcomes", &replayed.outcomes, &OF_TWO_STOCKS)?;
     let [one, two, three] = replayed.stocks.as_slice() else {
         return Err(Fail::new("not three stocks"));
     };

@@ -6,7 +6,7 @@ use std::alloc::{AllocError, Allocator, Global};
 use std::test::Fail;
 use stock_machine::Stock;
 use test_refusing::{Refusal, Refusing, Tried, refuse_any, refuse_each};
-use test_support::{AAPL, GROWING, Growing, payload_of, same, same_list};
+use test_support::{AAPL, GROWING, Growing, LISTINGS, Listing, payload_of, same, same_list};
 
 // The directory message, and one that adds a bid.
 fn one_bid() -> [Msg; 2] {
@@ -190,19 +190,6 @@ fn both_sides() -> [Msg; 9] {
         AAPL.trading(b'T', *b"    "),
     ]
 }
-
-// A list that a machine makes.
-#[derive(Debug, Clone, Copy, PartialEq, Eq)]
-enum Listing {
-    Orders,
-    Levels(Side),
-}
-
-const LISTINGS: [Listing; 3] = [
-    Listing::Orders,
-    Listing::Levels(Side::Buy),
-    Listing::Levels(Side::Sell),
-];
 
 // The first of the orders of both sides, by their references.
 const FIRST: Order = Order {

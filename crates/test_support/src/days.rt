@@ -2,6 +2,7 @@
 use crate::messages::{AAPL, MSFT, Ticker, payload_of};
 use binaryfile::Day;
 use itch_layouts::Msg;
+use itch_table::{Fault, Outcome};
 use std::alloc::Allocator;
 use std::test::Fail;
 
@@ -53,6 +54,17 @@ pub fn two_stocks<A: Allocator + Copy>(alloc: A) -> Result<Day<A>, Fail> {
         ],
     )
 }
+
+/// What becomes of the messages of [`two_stocks`].
+pub const OF_TWO_STOCKS: [Outcome; 7] = [
+    Outcome::Applied,
+    Outcome::Applied,
+    Outcome::Applied,
+    Outcome::Applied,
+    Outcome::Applied,
+    Outcome::Refused(Fault::NoDirectory),
+    Outcome::Refused(Fault::ReferenceUnknown),
+];
 
 /// One stock with a bid above its ask.
 pub fn crossed_book<A: Allocator + Copy>(alloc: A) -> Result<Day<A>, Fail> {

@@ -1,6 +1,7 @@
-//! Messages that may need an order or a trade more.
+//! Messages that may need an order or a trade more, and lists that take memory.
 use crate::messages::AAPL;
 use itch_layouts::Msg;
+use itch_table::Side;
 
 /// A kind of message that may need an order or a trade more.
 #[derive(Debug, Clone, Copy, PartialEq, Eq)]
@@ -48,3 +49,19 @@ impl Growing {
         }
     }
 }
+
+/// A list that a book or a machine makes, which takes memory.
+#[derive(Debug, Clone, Copy, PartialEq, Eq)]
+pub enum Listing {
+    /// The live orders.
+    Orders,
+    /// The levels of a side.
+    Levels(Side),
+}
+
+/// All of these lists.
+pub const LISTINGS: [Listing; 3] = [
+    Listing::Orders,
+    Listing::Levels(Side::Buy),
+    Listing::Levels(Side::Sell),
+];

@@ -15,9 +15,9 @@ mod spending;
 mod worked;
 
 pub use comparing::{same, same_bytes, same_list};
-pub use days::{add_entry, crossed_book, day_of, day_with, two_stocks};
+pub use days::{OF_TWO_STOCKS, add_entry, crossed_book, day_of, day_with, two_stocks};
 pub use devices::{Failure, Narrow, Pieces};
-pub use growing::{GROWING, Growing};
+pub use growing::{GROWING, Growing, LISTINGS, Listing};
 pub use machine::{Known, known_of, take};
 pub use messages::{AAPL, MSFT, Ticker, head, payload_of, system};
 pub use script::{Line, follow};

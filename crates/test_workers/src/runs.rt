@@ -11,8 +11,8 @@ use stock_machine::Stock;
 use stock_workers::{FreeGate, Replayed, RunFault, run};
 use test_refusing::{Refusal, Refusing};
 use test_support::{
-    ASKED, crossed_book, day_with, same, same_list, spent_references, spent_up_to, system,
-    two_stocks,
+    ASKED, OF_TWO_STOCKS, crossed_book, day_with, same, same_list, spent_references, spent_up_to,
+    system, two_stocks,
 };
 use top_cell::{Board, Reading};
 
@@ -29,20 +29,9 @@ pub fn replayed<R: Threads + Wait + Sync>(
     ))
 }
 
-// What became of the messages of two stocks.
-const OUTCOMES: [Outcome; 7] = [
-    Outcome::Applied,
-    Outcome::Applied,
-    Outcome::Applied,
-    Outcome::Applied,
-    Outcome::Applied,
-    Outcome::Refused(Fault::NoDirectory),
-    Outcome::Refused(Fault::ReferenceUnknown),
-];
-
 /// Compares all that the day of two stocks makes.
 pub fn same_two_stocks<A: Allocator + Copy>(alloc: A, replayed: &Replayed<A>) -> Result<(), Fail> {
-    same_list("the outcomes", &replayed.outcomes, &OUTCOMES)?;
+    same_list("the outcomes", &replayed.outcomes, &OF_TWO_STOCKS)?;
     let counts = (replayed.stocks.len(), replayed.writers.len());
     same(
         "stocks, writers and the event",

@@ -1,13 +1,13 @@
 -- What a writer and a screen know of their seats.
 use Rattle.std.specs.Prelude.{◌≡◌, ◌<◌, ◌≤◌, ◌^◌, ℕ, List, [], length}
 use Rattle.atomic_table.specs.Seated.{TableId}
-use Rattle.atomic_table.specs.Table.{Joins, Me, Splits}
+use Rattle.atomic_table.specs.Table.{Allows, Joins, Me, Splits}
 use Rattle.top_cell.specs.declared.rule.View.{View}
 use Rattle.top_cell.specs.declared.rule.View.TheVariants.{Spent}
 use Rattle.top_cell.specs.Cells.{HasCells}
 use Rattle.top_cell.specs.Joins.{joined}
 use Rattle.top_cell.specs.Splits.{screen_beside}
-use Rattle.top_cell.specs.Rule.{CellRule, IsIdle, IsScreen, IsWriting, change_of, number_in, number_of, stock_of}
+use Rattle.top_cell.specs.Rule.{CellRule, IsIdle, IsScreen, IsWriting, Turns, change_of, number_in, number_of, stock_of}
 
 -- a seat of a cell: the table, its number there, the cell's index on its board, and what is known at it
 pub record CellSeat : Type 0 where
@@ -33,6 +33,12 @@ seat_with seat view =
 abbrev pub IsSameSeat : CellSeat → CellSeat → Type 0
 IsSameSeat before after =
     (after.table_id ≡ before.table_id) × (after.id ≡ before.id) × (after.index ≡ before.index)
+
+-- the rule of a cell allows a step at this seat that changes a word of the cell in this way, after which the number
+-- that was found tells what is known at the seat
+abbrev pub MayStep : TableId → CellSeat → ℕ → (ℕ → ℕ) → (ℕ → View → View → Type 0) → Type 0
+MayStep table seat word change by =
+    Allows CellRule table.slots seat.id seat.me word change (λ n me. Turns (by n) seat.me me)
 
 -- the rule of a cell allows that a screen's seat comes beside this one
 abbrev pub MaySplit : CellSeat → Type 0

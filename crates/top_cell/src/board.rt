@@ -100,7 +100,7 @@ impl<'a, A: Allocator + Copy> Board<'a, A> {
             AreNew day.now.payloads (locates_of_day day.now.payloads) made.0 made.1.items) }
     {
         let count = locates.len();
-        // It always is one, since a day has few stocks; the proof does without that.
+        // There are at most 2^16 stocks, so the product always fits; the proof doesn't use that.
         let Some(words) = count.checked_mul(STRIDE) else {
             return Err(AllocError);
         };

@@ -1,9 +1,8 @@
 //! The seats of a cell, and the steps that are made at them.
 ghost use Rattle.std.specs.Prelude.{◌≡◌, ◌+◌, ◌%◌, ◌<◌, ◌^◌, []};
-ghost use Rattle.atomic_table.specs.Table.{Allows};
 ghost use Rattle.top_cell.specs.Joins.{joined};
-ghost use Rattle.top_cell.specs.Rule.{CellRule, Turns};
-ghost use Rattle.top_cell.specs.Seats.{IsSameSeat, IsSeatOf, MayJoin, MaySplit, new_seat, seat_with};
+ghost use Rattle.top_cell.specs.Rule.{Turns};
+ghost use Rattle.top_cell.specs.Seats.{IsSameSeat, IsSeatOf, MayJoin, MaySplit, MayStep, new_seat, seat_with};
 ghost use Rattle.top_cell.specs.Splits.{screen_beside};
 
 use crate::kinds::Kind;
@@ -46,8 +45,7 @@ impl Seat {
     pub(crate) fn load<M: Kind>(&mut self, cells: &Words, word: usize) -> u64
         requires cell { IsSeatOf cells.now.table_id cells.now.key self.old }
         requires word { word < 5 }
-        requires allows { Allows CellRule cells.now.table_id.slots self.old.id self.old.me word (λ n. n)
-            (λ n me. Turns (M.by n) self.old.me me) }
+        requires allows { MayStep cells.now.table_id self.old word (λ n. n) M.by }
         ensures same { IsSameSeat self.old self.new }
         ensures turns { Turns (M.by result) self.old.me self.new.me }
     {
@@ -58,8 +56,7 @@ impl Seat {
     pub(crate) fn store<M: Kind>(&mut self, cells: &Words, word: usize, new: u64)
         requires cell { IsSeatOf cells.now.table_id cells.now.key self.old }
         requires word { word < 5 }
-        requires allows { Allows CellRule cells.now.table_id.slots self.old.id self.old.me word (λ _. new)
-            (λ _ me. Turns (M.by new) self.old.me me) }
+        requires allows { MayStep cells.now.table_id self.old word (λ _. new) (λ _. M.by new) }
         ensures same { IsSameSeat self.old self.new }
         ensures turns { Turns (M.by new) self.old.me self.new.me }
     {
@@ -70,8 +67,7 @@ impl Seat {
     pub(crate) fn fetch_add<M: Kind>(&mut self, cells: &Words, word: usize, more: u64) -> u64
         requires cell { IsSeatOf cells.now.table_id cells.now.key self.old }
         requires word { word < 5 }
-        requires allows { Allows CellRule cells.now.table_id.slots self.old.id self.old.me word
-            (λ n. (n + more) % 2 ^ 64) (λ n me. Turns (M.by n) self.old.me me) }
+        requires allows { MayStep cells.now.table_id self.old word (λ n. (n + more) % 2 ^ 64) M.by }
         ensures same { IsSameSeat self.old self.new }
         ensures turns { Turns (M.by result) self.old.me self.new.me }
     {

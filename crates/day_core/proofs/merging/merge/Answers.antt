@@ -1,24 +1,26 @@
 use Rattle.std.proofs.Common.{◌≡◌, ap, ◌∙◌, length, map, arith, rules}
 use Rattle.std.proofs.lemmas.List.{take_all}
-use Rattle.std.proofs.lemmas.Result.{IfErr-weaker, IfOk-weaker}
+use Rattle.std.proofs.lemmas.Result.{err_from_is_err_and, IfErr-weaker, IfOk-weaker}
 use Rattle.day_core.specs.Merging.{AreFilled, Holds, joined}
 use Rattle.day_core.proofs.Merged.{first_fault, joined_more, merged_all, least_missing}
 use Rattle.day_core.proofs.merging.merge.Given as given
 use Rattle.day_core.proofs.merging.merge.Goals as goal
 
-pub returns-in-Err-clause-fault : goal.returns-in-Err-clause-fault
-returns-in-Err-clause-fault g c =
-    let found = c.in-Err.ensures.placed _ c.loop-list.invariant.placed in
+pub returns-in_err-place_all-clause-fault : goal.returns-in_err-place_all-clause-fault
+returns-in_err-place_all-clause-fault g c =
+    let found = c.in_err-place_all.ensures.placed _ c.loop-list.invariant.placed in
     let list = c.deref.ensures.value ∙ ap (λ v. v.items) c.list-item.is in
-    let fault = first_fault (λ v. v.items) _ c.loop-list.list-index _ (omega arith) _ _ c.in-Err.fault list found in
-    rw (← c.deref-list-items.ensures.value, ← c.loop-list.invariant.long) fault
+    let fault = first_fault (λ v. v.items) _ c.loop-list.list-index _ (omega arith) _ _ _ list found in
+    let exit = err_from_is_err_and c.from_residual-in_err-place_all.result c.from_residual-in_err-place_all.ensures.1 in
+    let same : exit.0 ≡ c.in_err-place_all.field-0.0 = exit.2 in
+    rw (exit.1, same, ← c.deref-list-items.ensures.value, ← c.loop-list.invariant.long) fault
 
 pub loop-list-preserved : goal.loop-list-preserved
 loop-list-preserved g c = record {
   long = search rules;
   placed =
       let list = c.deref.ensures.value ∙ ap (λ v. v.items) c.list-item.is in
-      let placed = c.in_default.ensures.placed _ c.loop-list.invariant.placed in
+      let placed = c.in_ok-place_all.ensures.placed _ c.loop-list.invariant.placed in
       let more = joined_more (λ v. v.items) c.deref-list-items.result.now c.loop-list.list-index c.list-item.result (omega arith) in
       rw (more, ← list) placed;
 }

@@ -2,5 +2,5 @@ use Rattle.std.proofs.Common.{◌≡◌, map, []}
 use Rattle.std.specs.Prelude.{replicate}
 use Rattle.day_core.proofs.ordering.empty_lists.Given as goal
 
-abbrev pub invariant-loop-k : goal.invariant-loop-k
-invariant-loop-k g l = map (λ list. list.items) l.lists.items ≡ replicate l.k []
+abbrev pub invariant-loop : goal.invariant-loop
+invariant-loop g l = map (λ list. list.items) l.lists.items ≡ replicate l.counter []

@@ -11,4 +11,4 @@ pub invariant_of-result : goal.invariant_of-result
 invariant_of-result g c =
     let codes = c.in_ok-indices.ensures in
     let stocks = c.in_ok-stocks.ensures ∙ ap (map new_machine) (c.deref.ensures.value ∙ sym codes) in
-    (runner_new c.args.parts.now c.args.worker _ _ (codes ∙ c.in_ok-locates.ensures) stocks, c.first.ensures c.args.parts.now.day, λ i f within. absurd (omega (arith, within, ap length c.in_ok-with_capacity.ensures.items)))
+    (runner_new c.args.parts.now c.args.worker _ _ (codes ∙ c.in_ok-locates.ensures) stocks, c.first.ensures c.args.parts.now.day, λ i f within. absurd (omega (arith, within, ap length c.in_ok-with_capacity.ensures.items)), λ i f within. absurd (omega (arith, within, ap length c.in_ok-with_capacity-2.ensures.items)))

@@ -42,7 +42,7 @@ invariant_of-self g c =
     let place = c.next_message-found.result.index in
     let same : set inside.stocks.items place c.step.new.self ≡ inside.stocks.items =
     ap (set inside.stocks.items place) (c.in_err-outcome.ensures.err ∙ c.index_mut.ensures.value) ∙ set-get_or inside.stocks.items place c.index_mut.result.now in
-    (subst (λ (stocks : List StockMachine). IsRunner (state_in inside.parts.now inside.worker inside.done) inside.indices stocks) (sym same) c.self.invariant.0, subst (λ (day : List (List ℕ)). IsPlace day c.next_message-found.new.near) c.day-day.ensures c.next_message-found.ensures.near, c.self.invariant.2)
+    (subst (λ (stocks : List StockMachine). IsRunner (state_in inside.parts.now inside.worker inside.done) inside.indices stocks) (sym same) c.self.invariant.0, subst (λ (day : List (List ℕ)). IsPlace day c.next_message-found.new.near) c.day-day.ensures c.next_message-found.ensures.near, c.self.invariant.2, c.self.invariant.3)
 
 pub invariant_of-self-2 : goal.invariant_of-self-2
 invariant_of-self-2 g c =
@@ -50,7 +50,7 @@ invariant_of-self-2 g c =
     let found = c.next_message-found.ensures.found in
     let left = c.in_ok-outcome.ensures in
     let stepped = stock_stepped _ _ _ _ c.own-own.ensures c.self.invariant.0 _ (omega (arith, ap length c.own-own.ensures)) refl _ same _ c.index_mut.result.now found.within found.stock_is c.index_mut.ensures.value c.step.new.self c.in_ok-outcome.outcome _ found.payload_is c.step.ensures.locate left.steps left.ok in
-    (runner_after _ _ _ _ c.own-own.ensures c.self.invariant.0 _ (omega (arith, ap length c.own-own.ensures)) refl _ same _ c.index_mut.result.now found.within found.stock_is c.index_mut.ensures.value c.step.new.self stepped.0, subst (λ (day : List (List ℕ)). IsPlace day c.next_message-found.new.near) same c.next_message-found.ensures.near, c.self.invariant.2)
+    (runner_after _ _ _ _ c.own-own.ensures c.self.invariant.0 _ (omega (arith, ap length c.own-own.ensures)) refl _ same _ c.index_mut.result.now found.within found.stock_is c.index_mut.ensures.value c.step.new.self stepped.0, subst (λ (day : List (List ℕ)). IsPlace day c.next_message-found.new.near) same c.next_message-found.ensures.near, c.self.invariant.2, c.self.invariant.3)
 
 pub returns-clause-turned : goal.returns-clause-turned
 returns-clause-turned g c =

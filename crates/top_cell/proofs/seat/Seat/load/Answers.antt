@@ -1,7 +1,6 @@
-use Rattle.top_cell.specs.Rule.{Turns}
 use Rattle.top_cell.proofs.SeatSteps.{steps_as}
 use Rattle.top_cell.proofs.seat.Seat.load.Goals as goal
 
 pub load-requires : goal.load-requires
 load-requires g c =
-    steps_as _ _ _ _ _ _ _ _ _ (λ n. n) (λ me n m. Turns (g.M.Kind.by n) me m) c.self.view_is c.self.invariant c.requires.cell c.requires.word c.requires.allows
+    steps_as _ _ _ _ _ _ _ _ _ (λ n. n) g.M.Kind.by c.self.view_is c.self.invariant c.requires.cell c.requires.word c.requires.allows

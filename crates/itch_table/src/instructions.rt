@@ -1,0 +1,337 @@
+//! The instructions of the table: each makes its checks, in their order, and has its effect where all of them pass.
+ghost use Rattle.std.specs.Prelude.{◌≡◌, ◌≤◌, Some, None, OnErr, OnOk};
+ghost use Rattle.itch_layouts.specs.Shapes.{shape_of};
+ghost use Rattle.itch_table.specs.World.{live};
+ghost use Rattle.itch_table.specs.Held.{Holds, HoldsPart, on_world};
+ghost use Rattle.itch_table.specs.Instructions.{Follows, FollowsShape};
+ghost use Rattle.itch_table.specs.Parts.{part};
+ghost use Rattle.itch_table.specs.Table.{less_shares, with_trade};
+ghost use Rattle.itch_table.specs.declared.instructions.Unchanged.TheVariants.{Memory as OutOfMemory, Refused as RefusedBy};
+
+use crate::effects::{
+    row_of_add, row_of_add_mpid, set_regsho, set_trading, state_of, trade, with_directory,
+};
+use crate::faults::{
+    check_add, check_broken, check_delete, check_execute_price, check_replace, check_shares,
+    check_side, check_stock, keeps_stock,
+};
+use crate::order::Found;
+use crate::outcome::Fault;
+use crate::store::Store;
+use crate::trades::TradeRow;
+use itch_layouts::{
+    Add, AddMpid, Breach, Broken, Cancel, Collar, Cross, Decline, Delete, Directory, Execute,
+    ExecutePrice, Head, Imbalance, Ipo, Kind, Msg, NonCrossTrade, Operational, Participant, Regsho,
+    Replace, Retail, System, TradingAction, kind_of, readers,
+};
+use std::alloc::AllocError;
+
+/// Why a message left the rows as they were.
+#[derive(Clone, Copy)]
+pub(crate) enum Unchanged {
+    /// The table has no row for the payload's type.
+    Passed,
+    /// A check failed.
+    Refused(Fault),
+    /// Memory was refused.
+    Memory,
+}
+
+impl From<Fault> for Unchanged {
+    ghost from_gives = { λ fault unchanged. unchanged ≡ RefusedBy fault };
+
+    fn from(fault: Fault) -> Unchanged {
+        Unchanged::Refused(fault)
+    }
+}
+
+impl From<AllocError> for Unchanged {
+    ghost from_gives = { λ _ unchanged. unchanged ≡ OutOfMemory };
+
+    fn from(_error: AllocError) -> Unchanged {
+        Unchanged::Memory
+    }
+}
+
+// Sets the last event among the rows of all stocks.
+fn system<S: Store>(store: &mut S, head: &Head, m: &System) -> Result<(), Unchanged>
+    requires { (S.held store.old).own ≡ None }
+    ensures { Follows (S.held store.old) (Msg.System head.now m.now) (S.held store.new) result }
+{
+    store.set_event(m.event);
+    Ok(())
+}
+
+// Sets a stock's directory row.
+fn directory<S: Store>(store: &mut S, head: &Head, m: &Directory) -> Result<(), Unchanged>
+    requires { Holds (S.held store.old) head.now.locate }
+    ensures { Follows (S.held store.old) (Msg.Directory head.now m.now) (S.held store.new) result }
+{
+    keeps_stock(store, head.locate, &m.stock)?;
+    let row = with_directory(store.stock(head.locate).copied(), m);
+    store.set_stock(head.locate, row)?;
+    Ok(())
+}
+
+// Sets a stock's trading state.
+fn trading<S: Store>(store: &mut S, head: &Head, m: &TradingAction) -> Result<(), Unchanged>
+    requires { Holds (S.held store.old) head.now.locate }
+    ensures { Follows (S.held store.old) (Msg.Trading head.now m.now) (S.held store.new) result }
+{
+    check_stock(store, head.locate, &m.stock)?;
+    set_trading(store, head.locate, state_of(m));
+    Ok(())
+}
+
+// Sets a stock's short sale action.
+fn regsho<S: Store>(store: &mut S, head: &Head, m: &Regsho) -> Result<(), Unchanged>
+    requires { Holds (S.held store.old) head.now.locate }
+    ensures { Follows (S.held store.old) (Msg.Regsho head.now m.now) (S.held store.new) result }
+{
+    check_stock(store, head.locate, &m.stock)?;
+    set_regsho(store, head.locate, m.action);
+    Ok(())
+}
+
+// Adds an order without attribution.
+fn add<S: Store>(store: &mut S, head: &Head, m: &Add) -> Result<(), Unchanged>
+    requires here { Holds (S.held store.old) head.now.locate }
+    requires room { S.has_room store.old }
+    ensures { Follows (S.held store.old) (Msg.Add head.now m.now) (S.held store.new) result }
+{
+    check_add(store, head.locate, m.reference, m.side, m.shares, &m.stock)?;
+    store.add_order(head.locate, m.reference, row_of_add(m))?;
+    Ok(())
+}
+
+// Adds an order with attribution.
+fn add_mpid<S: Store>(store: &mut S, head: &Head, m: &AddMpid) -> Result<(), Unchanged>
+    requires here { Holds (S.held store.old) head.now.locate }
+    requires room { S.has_room store.old }
+    ensures { Follows (S.held store.old) (Msg.AddMpid head.now m.now) (S.held store.new) result }
+{
+    check_add(store, head.locate, m.reference, m.side, m.shares, &m.stock)?;
+    store.add_order(head.locate, m.reference, row_of_add_mpid(m))?;
+    Ok(())
+}
+
+// Takes shares off an order by a trade.
+fn take_by_trade<S: Store>(
+    store: &mut S,
+    locate: u16,
+    reference: u64,
+    found: Found,
+    shares: u32,
+    trade: TradeRow,
+) -> Result<(), AllocError>
+    requires here { Holds (S.held store.old) locate }
+    requires room { S.has_room store.old }
+    requires live { live (S.held store.old).world locate reference ≡ Some found.row }
+    requires enough { shares ≤ found.row.shares }
+    ensures ok { OnOk result (S.held store.new ≡ on_world
+        (λ w. with_trade (less_shares w locate reference found.row shares) locate trade) (S.held store.old)) }
+    ensures err { OnErr result (S.held store.new ≡ S.held store.old) }
+{
+    store.add_trade(locate, trade)?;
+    store.reduce_order(locate, reference, found, shares);
+    Ok(())
+}
+
+// Executes an order at its own price.
+fn execute<S: Store>(store: &mut S, head: &Head, m: &Execute) -> Result<(), Unchanged>
+    requires here { Holds (S.held store.old) head.now.locate }
+    requires room { S.has_room store.old }
+    ensures { Follows (S.held store.old) (Msg.Execute head.now m.now) (S.held store.new) result }
+{
+    let found = check_shares(store, head.locate, m.reference, m.shares)?;
+    let trade = trade(m.match_no, u64::from(m.shares), found.row.price, true);
+    take_by_trade(store, head.locate, m.reference, found, m.shares, trade)?;
+    Ok(())
+}
+
+// Executes an order at another price.
+fn execute_price<S: Store>(store: &mut S, head: &Head, m: &ExecutePrice) -> Result<(), Unchanged>
+    requires here { Holds (S.held store.old) head.now.locate }
+    requires room { S.has_room store.old }
+    ensures { Follows (S.held store.old) (Msg.ExecutePrice head.now m.now) (S.held store.new) result }
+{
+    let found = check_execute_price(store, head, m)?;
+    let printed = m.printable == b'Y';
+    let trade = trade(m.match_no, u64::from(m.shares), m.price, printed);
+    take_by_trade(store, head.locate, m.reference, found, m.shares, trade)?;
+    Ok(())
+}
+
+// Takes shares off an order.
+fn cancel<S: Store>(store: &mut S, head: &Head, m: &Cancel) -> Result<(), Unchanged>
+    requires { Holds (S.held store.old) head.now.locate }
+    ensures { Follows (S.held store.old) (Msg.Cancel head.now m.now) (S.held store.new) result }
+{
+    let found = check_shares(store, head.locate, m.reference, m.shares)?;
+    store.reduce_order(head.locate, m.reference, found, m.shares);
+    Ok(())
+}
+
+// Removes an order.
+fn delete<S: Store>(store: &mut S, head: &Head, m: &Delete) -> Result<(), Unchanged>
+    requires { Holds (S.held store.old) head.now.locate }
+    ensures { Follows (S.held store.old) (Msg.Delete head.now m.now) (S.held store.new) result }
+{
+    let found = check_delete(store, head.locate, m.reference)?;
+    store.remove_order(head.locate, m.reference, found);
+    Ok(())
+}
+
+// Puts an order in the place of another.
+fn replace<S: Store>(store: &mut S, head: &Head, m: &Replace) -> Result<(), Unchanged>
+    requires { Holds (S.held store.old) head.now.locate }
+    ensures { Follows (S.held store.old) (Msg.Replace head.now m.now) (S.held store.new) result }
+{
+    let found = check_replace(store, head, m)?;
+    let (old, new) = (m.reference, m.new_reference);
+    store.replace_order(head.locate, old, found, new, m.shares, m.price)?;
+    Ok(())
+}
+
+// Adds a trade that isn't of a displayed order.
+fn non_cross_trade<S: Store>(store: &mut S, head: &Head, m: &NonCrossTrade) -> Result<(), Unchanged>
+    requires here { Holds (S.held store.old) head.now.locate }
+    requires room { S.has_room store.old }
+    ensures { Follows (S.held store.old) (Msg.Trade head.now m.now) (S.held store.new) result }
+{
+    check_side(store, head.locate, &m.stock, m.side)?;
+    let trade = trade(m.match_no, u64::from(m.shares), m.price, true);
+    store.add_trade(head.locate, trade)?;
+    Ok(())
+}
+
+// Adds the trade of a cross.
+fn cross<S: Store>(store: &mut S, head: &Head, m: &Cross) -> Result<(), Unchanged>
+    requires here { Holds (S.held store.old) head.now.locate }
+    requires room { S.has_room store.old }
+    ensures { Follows (S.held store.old) (Msg.Cross head.now m.now) (S.held store.new) result }
+{
+    check_stock(store, head.locate, &m.stock)?;
+    let trade = trade(m.match_no, m.shares, m.price, true);
+    store.add_trade(head.locate, trade)?;
+    Ok(())
+}
+
+// Breaks trades.
+fn broken<S: Store>(store: &mut S, head: &Head, m: &Broken) -> Result<(), Unchanged>
+    requires { Holds (S.held store.old) head.now.locate }
+    ensures { Follows (S.held store.old) (Msg.Broken head.now m.now) (S.held store.new) result }
+{
+    check_broken(store, head.locate, m.match_no)?;
+    store.break_trades(head.locate, m.match_no);
+    Ok(())
+}
+
+// The levels of the market-wide circuit breaker, which change no rows.
+fn decline<S: Store>(store: &mut S, head: &Head, m: &Decline) -> Result<(), Unchanged>
+    ensures { Follows (S.held store.old) (Msg.Decline head.now m.now) (S.held store.new) result }
+{
+    Ok(())
+}
+
+// A breach of one of these levels, which changes no rows.
+fn breach<S: Store>(store: &mut S, head: &Head, m: &Breach) -> Result<(), Unchanged>
+    ensures { Follows (S.held store.old) (Msg.Breach head.now m.now) (S.held store.new) result }
+{
+    Ok(())
+}
+
+// An offering's quoting period, which changes no rows.
+fn ipo<S: Store>(store: &mut S, head: &Head, m: &Ipo) -> Result<(), Unchanged>
+    ensures { Follows (S.held store.old) (Msg.Ipo head.now m.now) (S.held store.new) result }
+{
+    Ok(())
+}
+
+// Checks a market participant's position, which changes nothing.
+fn participant<S: Store>(store: &mut S, head: &Head, m: &Participant) -> Result<(), Unchanged>
+    requires { Holds (S.held store.old) head.now.locate }
+    ensures { Follows (S.held store.old) (Msg.Participant head.now m.now) (S.held store.new) result }
+{
+    check_stock(store, head.locate, &m.stock)?;
+    Ok(())
+}
+
+// Checks an auction collar, which changes nothing.
+fn collar<S: Store>(store: &mut S, head: &Head, m: &Collar) -> Result<(), Unchanged>
+    requires { Holds (S.held store.old) head.now.locate }
+    ensures { Follows (S.held store.old) (Msg.Collar head.now m.now) (S.held store.new) result }
+{
+    check_stock(store, head.locate, &m.stock)?;
+    Ok(())
+}
+
+// Checks an operational halt, which changes nothing.
+fn operational<S: Store>(store: &mut S, head: &Head, m: &Operational) -> Result<(), Unchanged>
+    requires { Holds (S.held store.old) head.now.locate }
+    ensures { Follows (S.held store.old) (Msg.Operational head.now m.now) (S.held store.new) result }
+{
+    check_stock(store, head.locate, &m.stock)?;
+    Ok(())
+}
+
+// Checks a net order imbalance indicator, which changes nothing.
+fn imbalance<S: Store>(store: &mut S, head: &Head, m: &Imbalance) -> Result<(), Unchanged>
+    requires { Holds (S.held store.old) head.now.locate }
+    ensures { Follows (S.held store.old) (Msg.Imbalance head.now m.now) (S.held store.new) result }
+{
+    check_stock(store, head.locate, &m.stock)?;
+    Ok(())
+}
+
+// Checks a retail price improvement indicator, which changes nothing.
+fn retail<S: Store>(store: &mut S, head: &Head, m: &Retail) -> Result<(), Unchanged>
+    requires { Holds (S.held store.old) head.now.locate }
+    ensures { Follows (S.held store.old) (Msg.Retail head.now m.now) (S.held store.new) result }
+{
+    check_stock(store, head.locate, &m.stock)?;
+    Ok(())
+}
+
+// What the instruction of a kind makes of a payload of that kind, of whose fields it reads what it needs.
+macro_rules! followed {
+    ($store:ident $payload:ident $reader:ident $instruction:ident) => {{
+        let (head, m) = readers::$reader($payload);
+        $instruction($store, &head, &m)
+    }};
+}
+
+/// Follows a payload of any bytes: the first check of its message that fails refuses it, and else it has its effect.
+/// Each instruction makes its growth before any change.
+pub(crate) fn follow_payload<S: Store>(store: &mut S, payload: &[u8]) -> Result<(), Unchanged>
+    requires here { HoldsPart (S.held store.old) (part payload.now) }
+    requires room { S.has_room store.old }
+    ensures { FollowsShape (S.held store.old) (shape_of payload.now) (S.held store.new) result }
+{
+    match kind_of(payload) {
+        Kind::Unknown => Err(Unchanged::Passed),
+        Kind::BadLength => Err(Unchanged::Refused(Fault::WrongLength)),
+        Kind::System => followed!(store payload system_of system),
+        Kind::Directory => followed!(store payload directory_of directory),
+        Kind::Trading => followed!(store payload trading_of trading),
+        Kind::Regsho => followed!(store payload regsho_of regsho),
+        Kind::Participant => followed!(store payload participant_of participant),
+        Kind::Decline => followed!(store payload decline_of decline),
+        Kind::Breach => followed!(store payload breach_of breach),
+        Kind::Ipo => followed!(store payload ipo_of ipo),
+        Kind::Collar => followed!(store payload collar_of collar),
+        Kind::Operational => followed!(store payload operational_of operational),
+        Kind::Add => followed!(store payload add_of add),
+        Kind::AddMpid => followed!(store payload add_mpid_of add_mpid),
+        Kind::Execute => followed!(store payload execute_of execute),
+        Kind::ExecutePrice => followed!(store payload execute_price_of execute_price),
+        Kind::Cancel => followed!(store payload cancel_of cancel),
+        Kind::Delete => followed!(store payload delete_of delete),
+        Kind::Replace => followed!(store payload replace_of replace),
+        Kind::Trade => followed!(store payload trade_of non_cross_trade),
+        Kind::Cross => followed!(store payload cross_of cross),
+        Kind::Broken => followed!(store payload broken_of broken),
+        Kind::Imbalance => followed!(store payload imbalance_of imbalance),
+        Kind::Retail => followed!(store payload retail_of retail),
+    }
+}
