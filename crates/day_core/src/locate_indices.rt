@@ -48,7 +48,7 @@ impl<A: Allocator + Copy> LocateIndices<A> {
 }
 
 impl<A: Allocator> LocateIndices<A> {
-    /// Where a locate code stands in the list, which has it.
+    /// Where a locate code stands in the list, which the caller knows to have it.
     pub fn index_in(&self, locate: u16) -> usize
         requires { Contains self.now locate }
         ensures within { result < length self.now }

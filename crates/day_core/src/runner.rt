@@ -9,7 +9,7 @@ use crate::locate_indices::LocateIndices;
 use crate::merging::Piece;
 use crate::parts::Parts;
 use binaryfile::{Day, Place};
-use itch_table::locate_of;
+use itch_table::locate_in;
 use std::alloc::{AllocError, Allocator};
 use std::marker::Model;
 use std::mem;
@@ -118,7 +118,7 @@ fn find_message<'d, A: Allocator>(
     ensures found { IsFound day.now.payloads indices.now message result.payload.now result.index }
 {
     let payload = day.payload_near(near, message);
-    let index = indices.index_in(locate_of(payload));
+    let index = indices.index_in(locate_in(payload));
     FoundMessage {
         message,
         payload,
@@ -253,8 +253,8 @@ impl<'p, A: Allocator + Copy> Runner<'p, A> {
         );
     }
 
-    /// Which of the worker's stocks the message is of that the last call found at this index, in the order of the
-    /// messages; none where fewer were found.
+    /// Which of the worker's stocks the message is of that the last [`Runner::look_ahead`] found at this index, in the
+    /// order of the messages; none where fewer were found.
     pub fn stock_ahead(&self, index: usize) -> Option<usize>
         ensures { IfSome result (λ stock. stock < length (worker_locates self.now)) }
     {
@@ -262,9 +262,9 @@ impl<'p, A: Allocator + Copy> Runner<'p, A> {
         Some(found.index)
     }
 
-    /// Reads what the messages that the last call found are likely to need of their stocks' machines, so that the
-    /// processor has fetched that memory when their turns come. It changes nothing, and what it returns means nothing:
-    /// it is there to be used, so that the reads aren't left out.
+    /// Reads what the messages that the last [`Runner::look_ahead`] found are likely to need of their stocks' machines,
+    /// so that the processor has fetched that memory when their turns come. It changes nothing, and what it returns
+    /// means nothing: it is there to be used, so that the reads aren't left out.
     pub fn touch_ahead(&self) -> u64 {
         let mut sum: u64 = 0;
         for found in &self.farther {
@@ -273,8 +273,8 @@ impl<'p, A: Allocator + Copy> Runner<'p, A> {
         sum
     }
 
-    /// Reads the rows that the worker's next messages are likely to need, those that the call before the last one found,
-    /// in the same way: where these rows are is known by machines that were read a while ago.
+    /// Reads the rows that the worker's next messages are likely to need, in the same way: those of the messages that the
+    /// [`Runner::look_ahead`] before the last one found, whose machines were read then.
     pub fn touch_rows_ahead(&self) -> u64 {
         let mut sum: u64 = 0;
         for found in &self.ahead {

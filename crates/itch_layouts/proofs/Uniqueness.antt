@@ -35,7 +35,7 @@ known_by payload m (Some d) makes h =
     ap (λ (b : Bool). cond b (Known (d.message (values_at d.layout payload))) BadLength) size ∙ ap (λ (vs : List Value). Known (d.message vs)) values ∙ ap Known makes.1
 
 -- a payload that means a message is of that shape
-pub shape_of_means : (payload : List ℕ) (m : Msg) → Means payload m → shape_of payload ≡ Known m
+shape_of_means : (payload : List ℕ) (m : Msg) → Means payload m → shape_of payload ≡ Known m
 unfolding shape_of
 shape_of_means [] m h = let some : 0 < (layout_of m).size = not_empty m in absurd (omega (arith, h.0.1))
 shape_of_means (kind ∷ rest) m h =

@@ -96,7 +96,7 @@ Reads payload Unknown = (length payload ≡ 0) ⊎ (size_of (slice_index payload
 Reads payload BadLength =
     (size : ℕ) × (size_of (slice_index payload 0) ≡ Some size) × (length payload ≢ size)
 
--- a payload is of the kind of its layout, or what it is read as is known without its fields
+-- a payload is of a message's kind where it is of its layout, and unknown or of a bad length where it reads so
 abbrev pub IsKind : List ℕ → Kind → Type 0
 IsKind payload kind.System = IsOf layouts.system payload
 IsKind payload kind.Directory = IsOf layouts.directory payload

@@ -5,7 +5,8 @@ ghost use Rattle.itch_layouts.specs.Means.{IsKind};
 
 /// What a payload is, by its type and its length: a message of one of 22 types, or none.
 ///
-/// The fields of a message are read by the function of [`readers`](crate::readers) for its kind.
+/// The fields of a message are read by the function of [`readers`](crate::readers) for its kind. A layout's `kind` is
+/// the byte that such messages begin with.
 #[derive(Debug, Clone, Copy, PartialEq, Eq)]
 pub enum Kind {
     /// A system event message.
@@ -86,10 +87,10 @@ macro_rules! sized {
 pub fn kind_of(payload: &[u8]) -> Kind
     ensures { IsKind payload.now result }
 {
-    let Some(kind) = payload.first() else {
+    let Some(first) = payload.first() else {
         return Kind::Unknown;
     };
-    match *kind {
+    match *first {
         b'S' => sized!(payload 12 System),
         b'R' => sized!(payload 39 Directory),
         b'H' => sized!(payload 25 Trading),

@@ -1,5 +1,8 @@
 //! The fields of payloads, one function for the messages of each kind: for code that knows the kind of a payload by
-//! [`kind_of`](crate::kind_of), and reads of its fields what it needs.
+//! [`kind_of`](crate::kind_of). The caller passes a payload of that kind. Each function is inlined where it is called,
+//! so that a field which isn't used there isn't read.
+//!
+//! Nasdaq TotalView-ITCH 5.0, "Message Formats".
 ghost use Rattle.std.specs.Prelude.{◌≡◌, ◌<◌, length, map};
 ghost use Rattle.itch_layouts.specs.Layouts.{head_fields, value_at};
 ghost use Rattle.itch_layouts.specs.Layouts as layouts;

@@ -1,5 +1,5 @@
 //! The shape of a payload, and the message that it means.
-ghost use Rattle.std.specs.Prelude.{◌≡◌, length};
+ghost use Rattle.std.specs.Prelude.{◌≡◌};
 ghost use Rattle.itch_layouts.specs.Encoding.{Fits};
 ghost use Rattle.itch_layouts.specs.Means.{Means, Reads};
 ghost use Rattle.itch_layouts.specs.Shapes.{shape_of};

@@ -1,6 +1,6 @@
 -- The part of a payload by its type, its length and its locate code.
 use Rattle.std.proofs.Common.{◌≡◌, ◌≢◌, ◌∙◌, ◌==◌, ◌<◌, ℕ, ltb, List, [], ◌∷◌, length, map, get_or, Option, Some, None, Bool, true, false, cond, inl, inr, option_map, sym, ap, refl, arith}
-use Rattle.std.proofs.lemmas.Bool.{cases_eq, eq-eqb, eqb-true, ltb-true}
+use Rattle.std.proofs.lemmas.Bool.{eq-eqb, eqb-true, ltb-true}
 use Rattle.std.specs.Int.{w16, from_be_bytes}
 use Rattle.std.specs.List.{find}
 use Rattle.itch_layouts.specs.Layouts.{bytes_at, number_at, size_of, values_at}
@@ -97,24 +97,5 @@ stock_part payload size is same stock =
     known_part payload size is same
     ∙ ap (λ (b : Bool). cond b (Nowhere Applied) (Locate (number_at 1 2 payload))) stock
     ∙ ap Locate (sym (read_locate payload (long_size payload size is same)))
-
--- a payload whose part is a stock has a locate code after its type, which is that stock's
-pub located : (payload : List ℕ) (locate : ℕ) → part payload ≡ Locate locate
-    → (2 < length payload) × (part payload ≡ Locate (from_be_bytes w16 (get_or payload 1 0 ∷ get_or payload 2 0 ∷ [])))
-located payload locate is = by_size (size_of (get_or payload 0 0)) refl
-  where
-    Located : Type 0
-    Located = (2 < length payload) × (part payload ≡ Locate (from_be_bytes w16 (get_or payload 1 0 ∷ get_or payload 2 0 ∷ [])))
-
-    by_market : (size : ℕ) (b : Bool) → size_of (get_or payload 0 0) ≡ Some size → length payload ≡ size → is_of_no_stock (get_or payload 0 0) ≡ b → Located
-    by_market size true known same market = let never : ⊥ = let other = market_part payload size known same market in cc in absurd never
-    by_market size false known same stock = (long_size payload size known same, stock_part payload size known same stock)
-
-    by_size : (o : Option ℕ) → size_of (get_or payload 0 0) ≡ o → Located
-    by_size None none = let never : ⊥ = let other = unknown_part payload none in cc in absurd never
-    by_size (Some size) known = elim (cases_eq (length payload) size) [
-      | inl same ↦ by_market size (is_of_no_stock (get_or payload 0 0)) known same refl
-      | inr other ↦ let never : ⊥ = let refused = refused_part payload size known other in cc in absurd never
-    ]
 
 pub ruleset reading = (empty_part, unknown_part, refused_part, market_part, stock_part, long_size)

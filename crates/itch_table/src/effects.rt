@@ -1,4 +1,4 @@
-//! The rows that effects of the table make, and those that change what is known of a stock.
+//! The rows that effects of the table make, and the effects that change what is known of a stock.
 ghost use Rattle.std.specs.Prelude.{◌≡◌, Some, None};
 ghost use Rattle.itch_table.specs.World.{stock_row};
 ghost use Rattle.itch_table.specs.Held.{Holds, on_world};

@@ -6,7 +6,7 @@ ghost use Rattle.itch_table.specs.Held.{Holds, HoldsPart, on_world};
 ghost use Rattle.itch_table.specs.Instructions.{Follows, FollowsShape};
 ghost use Rattle.itch_table.specs.Parts.{part};
 ghost use Rattle.itch_table.specs.Table.{less_shares, with_trade};
-ghost use Rattle.itch_table.specs.declared.instructions.Unchanged.TheVariants.{Memory as OutOfMemory, Refused as RefusedBy};
+ghost use Rattle.itch_table.specs.declared.instructions.Unchanged.TheVariants.{Memory as MemoryRefused, Refused as RefusedBy};
 
 use crate::effects::{
     row_of_add, row_of_add_mpid, set_regsho, set_trading, state_of, trade, with_directory,
@@ -29,7 +29,7 @@ use std::alloc::AllocError;
 /// Why a message left the rows as they were.
 #[derive(Clone, Copy)]
 pub(crate) enum Unchanged {
-    /// The table has no row for the payload's type.
+    /// The payload is of no type that has a layout.
     Passed,
     /// A check failed.
     Refused(Fault),
@@ -46,7 +46,7 @@ impl From<Fault> for Unchanged {
 }
 
 impl From<AllocError> for Unchanged {
-    ghost from_gives = { λ _ unchanged. unchanged ≡ OutOfMemory };
+    ghost from_gives = { λ _ unchanged. unchanged ≡ MemoryRefused };
 
     fn from(_error: AllocError) -> Unchanged {
         Unchanged::Memory
@@ -182,7 +182,7 @@ fn delete<S: Store>(store: &mut S, head: &Head, m: &Delete) -> Result<(), Unchan
     Ok(())
 }
 
-// Puts an order in the place of another.
+// Replaces an order by a new one.
 fn replace<S: Store>(store: &mut S, head: &Head, m: &Replace) -> Result<(), Unchanged>
     requires { Holds (S.held store.old) head.now.locate }
     ensures { Follows (S.held store.old) (Msg.Replace head.now m.now) (S.held store.new) result }
@@ -293,7 +293,7 @@ fn retail<S: Store>(store: &mut S, head: &Head, m: &Retail) -> Result<(), Unchan
     Ok(())
 }
 
-// What the instruction of a kind makes of a payload of that kind, of whose fields it reads what it needs.
+// What the instruction of a kind makes of a payload of that kind, whose fields a reader takes apart.
 macro_rules! followed {
     ($store:ident $payload:ident $reader:ident $instruction:ident) => {{
         let (head, m) = readers::$reader($payload);

@@ -44,7 +44,7 @@ pub use laws::{
 pub use levels::levels_of;
 pub use order::{Found, Level, Order, OrderRow, Side, Top};
 pub use outcome::{Fault, Outcome, Part};
-pub use parts::{LOCATES, is_of_stock, locate_of, part};
+pub use parts::{LOCATES, is_of_stock, locate_in, part};
 pub use plain::Plain;
 pub use status::{Status, StockRow, Totals, Trading};
 pub use store::Store;

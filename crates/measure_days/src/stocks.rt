@@ -1,6 +1,6 @@
 //! A machine for each stock of a day.
 use binaryfile::Day;
-use itch_table::{Outcome, Part, part};
+use itch_table::{LOCATES, Outcome, Part, part};
 use std::alloc::{AllocError, Allocator};
 use stock_machine::Stock;
 
@@ -26,7 +26,7 @@ impl Tally {
 
 // A list with room for the machine of each locate code, whose index is the code.
 fn machines<A: Allocator + Copy>(alloc: A) -> Result<Vec<Option<Stock<A>>, A>, AllocError> {
-    let mut machines = Vec::with_capacity(alloc, 1 << 16)?;
+    let mut machines = Vec::with_capacity(alloc, LOCATES)?;
     for _ in 0..=u16::MAX {
         machines.push(None)?;
     }
