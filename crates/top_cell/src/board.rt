@@ -55,7 +55,7 @@ fn open<J: Naming, A: Allocator>(
     opener: &mut atomic_table::Seat<(), Standing>,
     day: &Day<A>,
     locate: u16,
-    index: usize,
+    index: u16,
 ) -> TopWriter
     requires stock { J.stock ≡ day_stock day.now.payloads locate }
     requires own { (opener.old.table_id ≡ cells.now.table_id) × (0 < cells.now.table_id.words) }
@@ -108,7 +108,7 @@ impl<'a, A: Allocator + Copy> Board<'a, A> {
         let (cells, mut opener) = Cells::of_words(alloc, &zeros, &(count as u64))?;
         let mut writers = Vec::with_capacity(*alloc, count)?;
         for locate in locates {
-            let index = writers.len();
+            let index = writers.len() as u16;
             let writer = open::<Brand, A>(&cells.shared, &mut opener, day, *locate, index);
             writers.push(writer)?;
         }

@@ -1,5 +1,6 @@
 //! The seats of a cell, and the steps that are made at them.
-ghost use Rattle.std.specs.Prelude.{◌≡◌, ◌+◌, ◌%◌, ◌<◌, ◌^◌, []};
+ghost use Rattle.std.specs.Prelude.{◌≡◌, ◌+◌, ◌*◌, ◌%◌, ◌<◌, ◌^◌, []};
+ghost use Rattle.top_cell.specs.declared.seat.TheConstants.{STRIDE};
 ghost use Rattle.top_cell.specs.Joins.{joined};
 ghost use Rattle.top_cell.specs.Rule.{Turns};
 ghost use Rattle.top_cell.specs.Seats.{IsSameSeat, IsSeatOf, MayJoin, MaySplit, MayStep, new_seat, seat_with};
@@ -20,7 +21,8 @@ pub(crate) const STRIDE: usize = 8;
 #[derive(Drop)]
 pub struct Seat {
     pub(crate) table_seat: atomic_table::Seat<(), Standing>,
-    pub(crate) index: usize,
+    // In two bytes, so that a writer takes eight.
+    pub(crate) index: u16,
 }
 
 impl Model for Seat {
@@ -40,6 +42,14 @@ impl Model for Seat {
     ghost invariant = { λ s. IsAt s.index s.table_seat.me.0 };
 }
 
+// Where a word of a cell lies in the table of its board, by the index of the cell.
+fn word_of(index: u16, word: usize) -> usize
+    requires { word < 5 }
+    ensures { result ≡ index * STRIDE + word }
+{
+    usize::from(index) * STRIDE + word
+}
+
 impl Seat {
     /// Loads a word of the cell.
     pub(crate) fn load<M: Kind>(&mut self, cells: &Words, word: usize) -> u64
@@ -49,7 +59,7 @@ impl Seat {
         ensures same { IsSameSeat self.old self.new }
         ensures turns { Turns (M.by result) self.old.me self.new.me }
     {
-        cells.load::<OfCell<M>>(&mut self.table_seat, self.index * STRIDE + word)
+        cells.load::<OfCell<M>>(&mut self.table_seat, word_of(self.index, word))
     }
 
     /// Stores a word of the cell.
@@ -60,7 +70,7 @@ impl Seat {
         ensures same { IsSameSeat self.old self.new }
         ensures turns { Turns (M.by new) self.old.me self.new.me }
     {
-        cells.store::<OfCell<M>>(&mut self.table_seat, self.index * STRIDE + word, new);
+        cells.store::<OfCell<M>>(&mut self.table_seat, word_of(self.index, word), new);
     }
 
     /// Adds to a word of the cell.
@@ -71,7 +81,7 @@ impl Seat {
         ensures same { IsSameSeat self.old self.new }
         ensures turns { Turns (M.by result) self.old.me self.new.me }
     {
-        cells.fetch_add::<OfCell<M>>(&mut self.table_seat, self.index * STRIDE + word, more)
+        cells.fetch_add::<OfCell<M>>(&mut self.table_seat, word_of(self.index, word), more)
     }
 
     /// Reads a word of the cell, which tells nothing.
@@ -79,7 +89,7 @@ impl Seat {
         requires cell { IsSeatOf cells.now.table_id cells.now.key self.now }
         requires word { word < 5 }
     {
-        cells.peek(self.index * STRIDE + word)
+        cells.peek(word_of(self.index, word))
     }
 
     /// A seat of a screen of the same cell, beside this one. The library loads the table's first word meanwhile, here
