@@ -7,6 +7,7 @@ use Rattle.std.proofs.lemmas.List.Folds.{list_any_at}
 use Rattle.std.proofs.lemmas.Map.Views.{Contains-from_any}
 use Rattle.std.proofs.lemmas.List.FromFn.{filter_of_map_range_with_len_more, get_or-range_with_len, length-range_with_len}
 use Rattle.itch_table.proofs.DayLocates.{any_picked}
+pub use Rattle.rayon.proofs.ToStd.{filter-map}
 
 -- one number more
 pub kept_more : (p : ℕ → Bool) (a n last : ℕ) → a + n ≡ last

@@ -7,6 +7,7 @@ mod Placing
 pub mod Progress
 pub mod Running
 mod Whole
+pub mod Refused
 pub mod StocksByWorker
 pub mod Showing
 mod Turning

@@ -7,49 +7,48 @@ use Rattle.std.proofs.lemmas.List.{drop_more, get_or-set_same, get_or-replicate,
 use Rattle.std.proofs.lemmas.List.Elements.{filter_more}
 use Rattle.std.proofs.lemmas.List.FromFn.{get_or-map-range_with_len, get_or-range_with_len, length-map-range_with_len, length-range_with_len, map-range_with_len_more}
 use Rattle.std.proofs.lemmas.Nat.{mod_below}
-use Rattle.itch_table.specs.declared.outcome.Outcome.{Outcome}
-use Rattle.itch_table.specs.After.{outcome}
 use Rattle.itch_table.specs.Shows.{locates_of_day}
 use Rattle.day_core.specs.declared.merging.Piece.{Piece}
 use Rattle.day_core.specs.declared.runner.Turned.{Turned}
-use Rattle.day_core.specs.Owners.{locates_by, machine_of, own_locates, own_of, owner, progress}
-use Rattle.day_core.specs.Replaying.{each_worker, for_own_stocks, last_machine}
+use Rattle.day_core.specs.Owners.{locates_by, machine_of, own_locates, own_of, owner, piece_of, progress}
+use Rattle.day_core.specs.Replaying.{each_worker, for_own_stocks, is_refused, last_machine, refused_among}
 use Rattle.day_core.specs.Splitting.{Split}
 use Rattle.day_core.specs.Workers.{TakesTurn, WorkerState, machine_at, worker_messages, worker_locates}
 use Rattle.day_core.proofs.Progress.{machine_last}
+use Rattle.day_core.proofs.Refused.{among_more}
 use Rattle.day_core.proofs.Running.{code_owner, codes_are, map_by_all, map_same}
 
 -- ---- a worker's way
 
--- a worker has come from one state to another, and what became of its messages was noted
-pub record HasDone (first now : WorkerState) (outs : List Outcome) : Type 0 where
+-- a worker has come from one state to another, and those of its messages that were refused were noted
+pub record HasDone (first now : WorkerState) (refused : List Piece) : Type 0 where
   pub same : now ≡ record first { done = now.done }
   pub within : now.done ≤ length (worker_messages first)
-  pub noted : outs ≡ map (outcome first.day) (take now.done (worker_messages first))
+  pub noted : refused ≡ refused_among first.day (take now.done (worker_messages first))
 
-pub does_none : (first : WorkerState) (outs : List Outcome) → first.done ≡ 0 → outs ≡ [] → HasDone first first outs
-does_none first outs none empty = record { same = refl; within = omega (arith, none); noted = rw (none, empty) refl }
+pub does_none : (first : WorkerState) (refused : List Piece) → first.done ≡ 0 → refused ≡ [] → HasDone first first refused
+does_none first refused none empty = record { same = refl; within = omega (arith, none); noted = rw (none, empty) refl }
 
-pub does_more : (first now new : WorkerState) (turned : Turned) (outs more : List Outcome) → HasDone first now outs → TakesTurn now new (Some turned) → more ≡ outs ++ turned.piece.outcome ∷ [] → HasDone first new more
-does_more first now new turned outs more has takes pushed =
+pub does_more : (first now new : WorkerState) (turned : Turned) (refused more : List Piece) → HasDone first now refused → TakesTurn now new (Some turned)
+    → more ≡ refused ++ cond (is_refused turned.piece.outcome) (turned.piece ∷ []) [] → HasDone first new more
+does_more first now new turned refused more has takes pushed =
     let own = worker_messages first in
-    let f = outcome first.day in
     let to : new ≡ record first { done = now.done + 1 } =
     takes.1 ∙ ap (λ (s : WorkerState). let z : WorkerState = record s { done = now.done + 1 } in z) has.same
     in
     let done : new.done ≡ now.done + 1 = ap (λ (s : WorkerState). s.done) to in
     let lt : now.done < length own = omega (arith, takes.0.more, ap (λ (s : WorkerState). length (worker_messages s)) has.same) in
-    let one : turned.piece.outcome ≡ f (get_or own now.done 0) =
-    ap (λ (p : Piece). p.outcome) takes.0.piece ∙ ap (λ (s : WorkerState). outcome s.day (get_or (worker_messages s) now.done 0)) has.same
+    let one : turned.piece ≡ piece_of first.day (get_or own now.done 0) =
+    takes.0.piece ∙ ap (λ (s : WorkerState). piece_of s.day (get_or (worker_messages s) now.done 0)) has.same
     in
-    let noted : more ≡ map f (take (now.done + 1) own) =
-    pushed ∙ ap₂ (λ (os : List Outcome) (o : Outcome). os ++ o ∷ []) has.noted one
-    ∙ sym (ap (map f) (take_more own now.done 0 lt) ∙ map-append f (take now.done own) _)
+    let noted : more ≡ refused_among first.day (take (now.done + 1) own) =
+    pushed ∙ ap₂ (λ (ps : List Piece) (p : Piece). ps ++ cond (is_refused p.outcome) (p ∷ []) []) has.noted one
+    ∙ sym (ap (refused_among first.day) (take_more own now.done 0 lt) ∙ among_more first.day (take now.done own) (get_or own now.done 0))
     in
     record {
       same = to ∙ ap (λ (d : ℕ). let s : WorkerState = record first { done = d } in s) (sym done);
       within = omega (arith, done, lt);
-      noted = noted ∙ ap (λ (d : ℕ). map f (take d own)) (sym done);
+      noted = noted ∙ ap (λ (d : ℕ). refused_among first.day (take d own)) (sym done);
     }
 
 -- where it has done all of them its stocks are those after the day
@@ -60,16 +59,16 @@ through s is = map_same (machine_at s) (last_machine s.day) (worker_locates s) (
     ap (λ (d : ℕ). machine_of s.day locate (progress s.day s.workers locate d)) (is ∙ ap (λ (w : ℕ). length (own_of s.workers w s.day)) (sym mine))
     ∙ machine_last s.day s.workers locate)
 
-pub stocks_through : (first now : WorkerState) (outs : List Outcome) → HasDone first now outs → now.done ≡ length (worker_messages now)
+pub stocks_through : (first now : WorkerState) (refused : List Piece) → HasDone first now refused → now.done ≡ length (worker_messages now)
     → map (machine_at now) (worker_locates now) ≡ map (last_machine first.day) (worker_locates first)
-stocks_through first now outs has is =
+stocks_through first now refused has is =
     through now is ∙ ap (λ (s : WorkerState). map (last_machine s.day) (worker_locates s)) has.same
 
-pub outcomes_through : (first now : WorkerState) (outs : List Outcome) → HasDone first now outs → now.done ≡ length (worker_messages now)
-    → outs ≡ map (outcome first.day) (worker_messages first)
-outcomes_through first now outs has is =
+pub refused_through : (first now : WorkerState) (refused : List Piece) → HasDone first now refused → now.done ≡ length (worker_messages now)
+    → refused ≡ refused_among first.day (worker_messages first)
+refused_through first now refused has is =
     let all = is ∙ ap (λ (s : WorkerState). length (worker_messages s)) has.same in
-    has.noted ∙ ap (map (outcome first.day)) (take_all now.done (worker_messages first) (omega (arith, all)))
+    has.noted ∙ ap (refused_among first.day) (take_all now.done (worker_messages first) (omega (arith, all)))
 
 -- ---- what all workers have, one after another
 

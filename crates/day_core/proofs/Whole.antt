@@ -1,18 +1,15 @@
--- The outcomes of all workers' messages and of those of no stock, put at their indices, are those of the day.
-use Rattle.std.proofs.Common.{◌≡◌, ◌≢◌, ℕ, ◌+◌, ◌-◌, ◌<◌, ◌≤◌, List, length, true, get_or, set, filter, refl, sym, ap, ◌∙◌, arith, inl, inr}
-use Rattle.std.specs.List.{Contains, range_with_len}
-use Rattle.std.proofs.lemmas.Bool.{cases_eq, eq-eqb}
+-- The outcomes of messages of a day, put at their indices, are those of the day where each message has its own.
+use Rattle.std.proofs.Common.{◌≡◌, ◌≢◌, ℕ, ◌+◌, ◌-◌, ◌<◌, ◌≤◌, List, Bool, length, true, get_or, set, map, filter, refl, sym, ap, ◌∙◌, arith, inl, inr}
+use Rattle.std.specs.List.{All, range_with_len}
+use Rattle.std.proofs.lemmas.Bool.{cases_eq}
 use Rattle.std.proofs.lemmas.List.{get_or-map, get_or-set_other, get_or-set_same, length-map}
 use Rattle.std.proofs.lemmas.List.FromFn.{get_or-range_with_len, length-range_with_len}
-use Rattle.std.proofs.lemmas.Nat.{mod_below}
 use Rattle.itch_table.specs.declared.outcome.Outcome.{Outcome}
-use Rattle.itch_table.specs.declared.outcome.Part.{Part}
-use Rattle.itch_table.specs.declared.outcome.Part.TheVariants.{Locate, Nowhere}
+use Rattle.itch_table.specs.declared.outcome.Outcome.TheVariants.{Applied}
 use Rattle.itch_table.specs.After.{outcome, outcomes}
 use Rattle.day_core.specs.declared.merging.Piece.{Piece}
-use Rattle.day_core.specs.Owners.{fixed_pieces, is_nowhere, is_own, own_of, owner, part_at, piece_of}
-use Rattle.day_core.specs.Replaying.{HasOutcome, outcomes_by}
-use Rattle.day_core.specs.Splitting.{Split}
+use Rattle.day_core.specs.Owners.{fixed_pieces, is_nowhere, part_at, piece_of}
+use Rattle.day_core.specs.Replaying.{HasOutcome, IsPieceOf}
 use Rattle.day_core.proofs.Kept.{kept_there, kept_within}
 use Rattle.day_core.proofs.Running.{map_by_all}
 
@@ -26,56 +23,44 @@ placed day all m n o some within low is others d = elim (cases_eq n m) [
   | inr differ ↦ get_or-set_other all (m - 1) (n - 1) o d (λ e. differ (omega (arith, e, some, low))) ∙ others differ d
 ]
 
--- ---- a worker's messages, and those of no stock
+-- what stands for a piece where there is none
+abbrev pub no_piece : Piece
+no_piece = record { message = 0; outcome = Applied }
 
-pub own_outcome : (split : Split) (worker : ℕ) (outs : List Outcome) (i : ℕ) (d : Outcome) → outs ≡ outcomes_by split worker → i < length (own_of split.workers worker split.day)
-    → get_or outs i d ≡ outcome split.day (get_or (own_of split.workers worker split.day) i 0)
-own_outcome split worker outs i d are lt =
-    ap (λ (os : List Outcome). get_or os i d) are ∙ get_or-map (outcome split.day) (own_of split.workers worker split.day) i 0 d lt
+-- ---- those of a day's messages that pass a test, with their outcomes
 
-pub own_listed : (workers worker : ℕ) (day : List (List ℕ)) (m : ℕ) → 1 ≤ m → m ≤ length day → is_own workers worker (part_at day m) ≡ true
-    → Contains (own_of workers worker day) m
-unfolding own_of
-own_listed workers worker day m some within on = kept_there (λ n. is_own workers worker (part_at day n)) (length day) m some within on
+abbrev kept_pieces : List (List ℕ) → (ℕ → Bool) → List Piece
+kept_pieces day p = map (piece_of day) (filter p (range_with_len 1 (length day)))
 
-abbrev of_none : List (List ℕ) → List ℕ
-of_none day = filter (λ n. is_nowhere (part_at day n)) (range_with_len 1 (length day))
+module _ (day : List (List ℕ)) (p : ℕ → Bool) (pieces : List Piece) (are : pieces ≡ kept_pieces day p) where
+  abbrev numbers : List ℕ
+  numbers = filter p (range_with_len 1 (length day))
 
--- a message of no stock at an index of the list
-pub record IsFixed (day : List (List ℕ)) (piece : Piece) : Type 0 where
-  pub some : 1 ≤ piece.message
-  pub within : piece.message ≤ length day
-  pub has : piece.outcome ≡ outcome day piece.message
+  -- each is a message of the day
+  pub each_kept : All (IsPieceOf day) pieces
+  each_kept i d lt =
+      let inside : i < length numbers = omega (arith, lt, ap length are, length-map numbers (piece_of day)) in
+      let low = kept_within p 1 (length day) i 0 inside in
+      let here = ap (λ (ps : List Piece). get_or ps i d) are ∙ get_or-map (piece_of day) numbers i 0 d inside in
+      rw here (record { some = omega (arith, low); within = omega (arith, low); has = refl })
 
-pub fixed_at : (day : List (List ℕ)) (i : ℕ) (d : Piece) → i < length (fixed_pieces day) → IsFixed day (get_or (fixed_pieces day) i d)
+  pub all_within : (long : ℕ) → long ≡ length day → All (λ q. (1 ≤ q.message) × (q.message ≤ long)) pieces
+  all_within long is i d lt = let here = each_kept i d lt in (here.some, omega (arith, here.within, is))
+
+  -- and one that passes is among them
+  pub listed : (m : ℕ) → 1 ≤ m → m ≤ length day → p m ≡ true → (i : ℕ) × (i < length pieces) × ((d : Piece) → (get_or pieces i d).message ≡ m)
+  listed m some within on =
+      let at = kept_there p (length day) m some within on in (
+        at.0,
+        omega (arith, at.1, ap length are, length-map numbers (piece_of day)),
+        λ d. ap (λ (ps : List Piece). (get_or ps at.0 d).message) are ∙ ap (λ (q : Piece). q.message) (get_or-map (piece_of day) numbers at.0 m d at.1) ∙ at.2,
+      )
+
+pub fixed_are_kept : (day : List (List ℕ)) → fixed_pieces day ≡ kept_pieces day (λ n. is_nowhere (part_at day n))
 unfolding fixed_pieces
-fixed_at day i d lt =
-    let inside : i < length (of_none day) = omega (arith, lt, length-map (of_none day) (piece_of day)) in
-    let low = kept_within (λ n. is_nowhere (part_at day n)) 1 (length day) i 0 inside in
-    let here = get_or-map (piece_of day) (of_none day) i 0 d inside in
-    rw here (record { some = omega (arith, low); within = omega (arith, low); has = refl })
-
-pub fixed_listed : (day : List (List ℕ)) (m : ℕ) → 1 ≤ m → m ≤ length day → is_nowhere (part_at day m) ≡ true
-    → (i : ℕ) × (i < length (fixed_pieces day)) × ((d : Piece) → (get_or (fixed_pieces day) i d).message ≡ m)
-unfolding fixed_pieces
-fixed_listed day m some within on =
-    let at = kept_there (λ n. is_nowhere (part_at day n)) (length day) m some within on in (
-      at.0,
-      omega (arith, at.1, length-map (of_none day) (piece_of day)),
-      λ d. ap (λ (p : Piece). p.message) (get_or-map (piece_of day) (of_none day) at.0 m d at.1) ∙ at.2,
-    )
+fixed_are_kept day = refl
 
 -- ---- all messages
-
--- each is of one worker, or of none
-pub of_one : (split : Split) (m : ℕ) (P : Type 0) → 0 < split.workers
-    → ((worker : ℕ) → worker < split.workers → is_own split.workers worker (part_at split.day m) ≡ true → P)
-    → (is_nowhere (part_at split.day m) ≡ true → P) → P
-of_one split m P some own fixed = by_part (part_at split.day m) refl
-  where
-    by_part : (part : Part) → part_at split.day m ≡ part → P
-    by_part (Locate locate) is = own (owner split.workers locate) (omega (arith, mod_below locate split.workers some)) (rw is (eq-eqb _ _ refl))
-    by_part (Nowhere o) is = fixed (rw is refl)
 
 pub all_are : (day : List (List ℕ)) (all : List Outcome) → length all ≡ length day → ((m : ℕ) → 1 ≤ m → m ≤ length day → HasOutcome day all m) → all ≡ outcomes day
 all_are day all long each =

@@ -1,11 +1,13 @@
 -- What the workers of a day make of all of it. Of this project.
-use Rattle.std.specs.Prelude.{◌≡◌, ◌-◌, ℕ, List, Option, length, map, slice_index_or}
+use Rattle.std.specs.Prelude.{◌≡◌, ◌-◌, ◌≤◌, ℕ, Bool, true, false, List, Option, length, map, filter, slice_index_or}
 use Rattle.std.specs.List.{range_with_len}
 use Rattle.itch_table.specs.declared.outcome.Outcome.{Outcome}
+use Rattle.itch_table.specs.declared.outcome.Outcome.TheVariants.{Applied, Passed, Refused}
 use Rattle.itch_table.specs.After.{after, outcome, outcomes}
 use Rattle.itch_table.specs.Shows.{locates_of_day}
 use Rattle.stock_machine.specs.StockRows.{StockMachine}
-use Rattle.day_core.specs.Owners.{machine_of, own_locates, own_of}
+use Rattle.day_core.specs.declared.merging.Piece.{Piece}
+use Rattle.day_core.specs.Owners.{machine_of, own_locates, own_of, piece_of}
 use Rattle.day_core.specs.Splitting.{Split}
 
 -- a stock's machine after the whole day
@@ -20,11 +22,52 @@ pub record IsReplayed (day : List (List ℕ)) (all : List Outcome) (stocks : Lis
   pub stocks_are : stocks ≡ map (last_machine day) (locates_of_day day)
   pub event_is : event ≡ (after day (length day)).event
 
--- the outcomes of a worker's messages, by the messages' rising numbers
-abbrev pub outcomes_by : Split → ℕ → List Outcome
-outcomes_by split worker = map (outcome split.day) (own_of split.workers worker split.day)
+-- a piece is a message of a day with its outcome
+pub record IsPieceOf (day : List (List ℕ)) (piece : Piece) : Type 0 where
+  pub some : 1 ≤ piece.message
+  pub within : piece.message ≤ length day
+  pub has : piece.outcome ≡ outcome day piece.message
 
--- in a list with an index for each message of a day the outcome of this one, counted from 1, stands at its index
+-- an outcome is that of a message that was applied
+abbrev pub is_applied : Outcome → Bool
+is_applied Applied = true
+is_applied Passed = false
+is_applied (Refused fault) = false
+
+-- an outcome is that of a message that was passed over
+abbrev pub is_passed : Outcome → Bool
+is_passed Applied = false
+is_passed Passed = true
+is_passed (Refused fault) = false
+
+-- an outcome is that of a message that was refused
+abbrev pub is_refused : Outcome → Bool
+is_refused Applied = false
+is_refused Passed = false
+is_refused (Refused fault) = true
+
+-- the refused ones of these messages of a day, with their outcomes
+abbrev pub refused_among : List (List ℕ) → List ℕ → List Piece
+refused_among day numbers = map (piece_of day) (filter (λ n. is_refused (outcome day n)) numbers)
+
+-- the refused messages of a day, with their outcomes, by rising number
+abbrev pub refused_of : List (List ℕ) → List Piece
+refused_of day = refused_among day (range_with_len 1 (length day))
+
+-- the refused messages of a worker, with their outcomes, by rising number
+abbrev pub refused_by : Split → ℕ → List Piece
+refused_by split worker = refused_among split.day (own_of split.workers worker split.day)
+
+-- what a whole day makes, in short: its refused messages with their outcomes, by rising number, the machines
+-- of its stocks by rising locate code, and the last event
+pub record IsSummary (day : List (List ℕ)) (refused : List Piece) (stocks : List StockMachine)
+    (event : Option ℕ) : Type 0 where
+  pub refused_are : refused ≡ refused_of day
+  pub stocks_are : stocks ≡ map (last_machine day) (locates_of_day day)
+  pub event_is : event ≡ (after day (length day)).event
+
+-- in a list with an index for each message of a day the outcome of this one, counted from 1, stands at its
+-- index
 abbrev pub HasOutcome : List (List ℕ) → List Outcome → ℕ → Type 0
 HasOutcome day all message = (d : Outcome) → slice_index_or all (message - 1) d ≡ outcome day message
 

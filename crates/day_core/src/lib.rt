@@ -11,13 +11,14 @@
 //!
 //! `stock_workers` replays the parts in threads. [`Turns`] and [`play`] replay them without threads, in any order of
 //! the workers, and [`merge`] puts outcomes together that come in any order. [`Runner`] is one worker without threads.
-//! [`event_after`] is the last event code after one more payload.
+//! [`event_after`] is the last event code after one more payload. [`note_refused`], [`all_refused`] and
+//! [`outcomes_with`] are for callers that turn workers by themselves: the refused messages of each worker, of a day,
+//! and the outcomes of all messages of it.
 //!
 //! The effects of messages are those of Nasdaq TotalView-ITCH 5.0; the rest is of this project. An `AllocError` says
 //! that memory was refused.
 #![tactic(auto)]
 
-mod assembling;
 mod dealing;
 mod laws;
 mod locate_indices;
@@ -25,6 +26,7 @@ mod merging;
 mod ordering;
 mod parts;
 mod playing;
+mod refusals;
 mod replaying;
 mod runner;
 mod seeing;
@@ -33,14 +35,14 @@ mod turns;
 mod worker_cells;
 mod worker_count;
 
-pub use assembling::{ReplayedDay, assemble};
 pub use dealing::event_after;
 pub use laws::{days_come_to_their_end, looks_never_go_back, looks_show_their_stock};
 pub use merging::{MergeFault, Piece, merge};
 pub use ordering::{by_worker, in_order};
 pub use parts::Parts;
 pub use playing::{Event, Seen, play};
-pub use replaying::replay_parts;
+pub use refusals::{all_refused, note_refused, outcomes_with};
+pub use replaying::{ReplayedDay, replay_parts};
 pub use runner::{MOST_AHEAD, Runner, Turned};
 pub use seeing::locates;
 pub use splitting::{SplitFault, parts_of, split};

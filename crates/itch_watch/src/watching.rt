@@ -16,7 +16,7 @@ use std::alloc::{AllocError, Allocator};
 use std::sync::Wait;
 use std::sync::atomic::{AtomicU64, Ordering};
 use std::thread::{Threads, join, yield_now};
-use stock_workers::{Gate, Replayed, run_parts};
+use stock_workers::{Gate, Summary, summarize_parts};
 use top_cell::{Board, Reading, Screen, TopWriter};
 
 // How often a glance tries to read a cell before other threads get their turn.
@@ -135,7 +135,7 @@ fn look_and_replay<R: Threads + Wait + Sync, A: Allocator + Copy + Send + Sync, 
     ended: &AtomicU64,
 ) -> (
     Result<Vec<Reading, A>, AllocError>,
-    Result<Replayed<A>, AllocError>,
+    Result<Summary<A>, AllocError>,
 )
     requires screen { IsOn board.now screen.place }
     requires new { AreNew parts.now.day (locates_of_day parts.now.day) board.now writers.items }
@@ -148,12 +148,12 @@ fn look_and_replay<R: Threads + Wait + Sync, A: Allocator + Copy + Send + Sync, 
         ensures { IfOk result (λ readings.
             AreSeen screen.place.day screen.place.locate readings.items) }
     { watch(rt, alloc, board, screen, seen, ended) };
-    let replay = || -> Result<Replayed<A>, AllocError>
+    let replay = || -> Result<Summary<A>, AllocError>
         requires { AreNew parts.now.day (locates_of_day parts.now.day) board.now writers.items }
         ensures { IfOk result (λ made.
             made.writers.items ≡ map (at_last parts.entry.now.day) writers.items) }
     {
-        let replayed = run_parts(rt, alloc, parts, board, writers, gate);
+        let replayed = summarize_parts(rt, alloc, parts, board, writers, gate);
         ended.store(1, Ordering::SeqCst);
         replayed
     };

@@ -16,7 +16,7 @@ both_ok (Err e) P Q S p q f = tt
 
 -- what one worker that waited made, or that memory was refused
 abbrev pub Made : {A : Type 0} → Split → ℕ → List WriterAt → Result (Finished A) AllocError → Type 0
-Made split worker writers made = IfOk made (λ m. IsFinished split worker writers m.outcomes.items m.stocks.items m.writers.items)
+Made split worker writers made = IfOk made (λ m. IsFinished split worker writers m.refused.items m.stocks.items m.writers.items)
 
 -- how many workers wait
 many_wait : {A : Type 0} (split : Split) (writer : ℕ → WriterAt) (all : List (Waiting A)) → AreWaiting split writer all → length all ≡ split.workers

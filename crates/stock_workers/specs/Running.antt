@@ -2,9 +2,9 @@
 use Rattle.std.specs.Prelude.{◌≡◌, ◌<◌, ℕ, List, All, IfOk, Result, length, map, slice_index_or}
 use Rattle.std.specs.declared.alloc.AllocError.{AllocError}
 use Rattle.stock_machine.specs.StockRows.{StockMachine}
-use Rattle.itch_table.specs.declared.outcome.Outcome.{Outcome}
+use Rattle.day_core.specs.declared.merging.Piece.{Piece}
 use Rattle.day_core.specs.Owners.{last_message, own_locates}
-use Rattle.day_core.specs.Replaying.{each_worker, for_own_stocks, last_machine, outcomes_by}
+use Rattle.day_core.specs.Replaying.{each_worker, for_own_stocks, last_machine, refused_by}
 use Rattle.day_core.specs.Splitting.{Split}
 use Rattle.top_cell.specs.Boards.{CellId, IsOn, WriterAt}
 use Rattle.stock_workers.specs.Working.{WritersAt}
@@ -31,11 +31,11 @@ pub record AreWaiting {A : Type 0} (split : Split) (writer : ℕ → WriterAt) (
 abbrev pub at_last : List (List ℕ) → WriterAt → WriterAt
 at_last day w = record w { message = last_message day w.place.locate }
 
--- what a worker makes of all its messages: their outcomes, and the machines and the writers of its stocks
--- after them
-pub record IsFinished (split : Split) (worker : ℕ) (writers : List WriterAt) (outcomes : List Outcome)
+-- what a worker makes of all its messages: those that are refused, and the machines and the writers of its
+-- stocks after all of them
+pub record IsFinished (split : Split) (worker : ℕ) (writers : List WriterAt) (refused : List Piece)
     (stocks : List StockMachine) (after : List WriterAt) : Type 0 where
-  pub outcomes_are : outcomes ≡ outcomes_by split worker
+  pub refused_are : refused ≡ refused_by split worker
   pub stocks_are : stocks ≡ for_own_stocks (last_machine split.day) split worker
   pub writers_are : after ≡ map (at_last split.day) writers
 
@@ -46,5 +46,5 @@ pub record AreFinished {A : Type 0} (split : Split) (writer : ℕ → WriterAt)
   pub long : length made ≡ split.workers
   pub each : (worker : ℕ) (d : Result (Finished A) AllocError) → worker < split.workers
       → IfOk (slice_index_or made worker d)
-      (λ m. IsFinished split worker (for_own_stocks writer split worker) m.outcomes.items m.stocks.items
+      (λ m. IsFinished split worker (for_own_stocks writer split worker) m.refused.items m.stocks.items
       m.writers.items)

@@ -8,8 +8,7 @@ ghost use Rattle.stock_workers.specs.Running.{AreFinished, AreWaiting, IsFinishe
 
 use crate::gate::Gate;
 use crate::worker::Worker;
-use day_core::Parts;
-use itch_table::Outcome;
+use day_core::{Parts, Piece, note_refused};
 use std::alloc::{AllocError, Allocator};
 use std::sync::Wait;
 use std::thread::{Threads, map_vec};
@@ -24,10 +23,11 @@ pub(crate) struct Waiting<'p, A: Allocator> {
     pub writers: Vec<TopWriter, A>,
 }
 
-/// What one worker made of its messages: their outcomes, and the machines and the writers of its stocks after them.
+/// What one worker made of its messages: those that were refused, and the machines and the writers of its stocks after
+/// all of them.
 #[derive(Drop)]
 pub(crate) struct Finished<A: Allocator> {
-    pub outcomes: Vec<Outcome, A>,
+    pub refused: Vec<Piece, A>,
     pub stocks: Vec<Stock<A>, A>,
     pub writers: Vec<TopWriter, A>,
 }
@@ -42,23 +42,23 @@ fn finish<R: Threads + Wait + Sync, A: Allocator + Copy, G: Gate>(
 ) -> Result<Finished<A>, AllocError>
     requires { IsWaiting waiting.parts.now board.now waiting.worker waiting.writers.items }
     ensures { IfOk result (λ made. IsFinished waiting.entry.parts.now waiting.entry.worker
-        waiting.entry.writers.items made.outcomes.items made.stocks.items made.writers.items) }
+        waiting.entry.writers.items made.refused.items made.stocks.items made.writers.items) }
 {
     let Waiting {
         parts,
         worker: number,
         writers,
     } = waiting;
-    let mut outcomes = Vec::with_capacity(alloc, parts.own(number).len())?;
+    let mut refused = Vec::new(alloc);
     let mut worker = Worker::new(alloc, parts, number, writers)?;
     let mut wait = 0;
     while let Some(piece) = worker.turn(rt, board, gate)? {
-        outcomes.push(piece.outcome)?;
+        note_refused(&mut refused, piece)?;
         wait = worker.look_ahead(board, wait);
     }
     let (stocks, writers) = worker.into_stocks();
     Ok(Finished {
-        outcomes,
+        refused,
         stocks,
         writers,
     })
@@ -85,7 +85,7 @@ pub(crate) fn finish_all<R: Threads + Wait + Sync, A: Allocator + Copy + Send + 
                 × Frees A.Allocator A.dealloc_token
                 × IsWaiting waiting.parts.now board.now waiting.worker waiting.writers.items }
             ensures { IfOk result (λ made. IsFinished waiting.entry.parts.now waiting.entry.worker
-                waiting.entry.writers.items made.outcomes.items made.stocks.items made.writers.items) }
+                waiting.entry.writers.items made.refused.items made.stocks.items made.writers.items) }
         { finish(rt, alloc, board, gate, waiting) },
     )
 }

@@ -1,7 +1,7 @@
 //! A day, replayed by all of its workers beside each other.
 ghost use Rattle.std.specs.Prelude.{◌≡◌, ◌<◌, ◌⊎◌, ◌↔◌, ℕ, IfOk, IsErrOf, length, map};
 ghost use Rattle.itch_table.specs.Shows.{locates_of_day};
-ghost use Rattle.day_core.specs.Replaying.{IsReplayed, each_worker, for_own_stocks, last_machine, outcomes_by};
+ghost use Rattle.day_core.specs.Replaying.{IsReplayed, IsSummary, each_worker, for_own_stocks, last_machine, refused_by};
 ghost use Rattle.top_cell.specs.Boards.{AreNew, WriterAt};
 ghost use Rattle.stock_workers.specs.Running.{AreFinished, AreWaiting, at_last};
 ghost use Rattle.stock_workers.specs.declared.running.RunFault.TheVariants.{Memory};
@@ -9,7 +9,7 @@ ghost use Rattle.stock_workers.specs.declared.running.RunFault.TheVariants.{Memo
 use crate::forking::{Finished, Waiting, finish_all};
 use crate::gate::Gate;
 use binaryfile::Day;
-use day_core::{Parts, SplitFault, assemble, by_worker, in_order, split};
+use day_core::{Parts, Piece, SplitFault, all_refused, by_worker, in_order, outcomes_with, split};
 use itch_table::Outcome;
 use std::alloc::{AllocError, Allocator};
 use std::sync::Wait;
@@ -22,6 +22,20 @@ use top_cell::{Board, TopWriter};
 pub struct Replayed<A: Allocator> {
     /// What became of each message, in order.
     pub outcomes: Vec<Outcome, A>,
+    /// The machines of the stocks that have messages in the day, by rising locate code.
+    pub stocks: Vec<Stock<A>, A>,
+    /// The event code of the day's last system event message, where it has one.
+    pub event: Option<u8>,
+    /// The writers of these stocks, in the same order.
+    pub writers: Vec<TopWriter, A>,
+}
+
+/// What a whole day makes, in short, and the writers that have shown it: of its messages only the refused ones, so that
+/// no memory is taken for each message.
+#[derive(Drop)]
+pub struct Summary<A: Allocator> {
+    /// The refused messages with their outcomes, by rising number.
+    pub refused: Vec<Piece, A>,
     /// The machines of the stocks that have messages in the day, by rising locate code.
     pub stocks: Vec<Stock<A>, A>,
     /// The event code of the day's last system event message, where it has one.
@@ -50,7 +64,7 @@ impl From<AllocError> for RunFault {
 // What all workers made, by worker.
 #[derive(Drop)]
 struct Gathered<A: Allocator> {
-    outcomes: Vec<Vec<Outcome, A>, A>,
+    refused: Vec<Vec<Piece, A>, A>,
     stocks: Vec<Vec<Stock<A>, A>, A>,
     writers: Vec<Vec<TopWriter, A>, A>,
 }
@@ -86,8 +100,8 @@ fn gather<A: Allocator + Copy>(
     made: Vec<Result<Finished<A>, AllocError>, A>,
 ) -> Result<Gathered<A>, AllocError>
     requires { (writer : ℕ → WriterAt) × AreFinished parts.now writer made.items }
-    ensures outcomes { IfOk result (λ all. map (λ own. own.items) all.outcomes.items
-        ≡ each_worker (outcomes_by parts.now) parts.now) }
+    ensures refused { IfOk result (λ all. map (λ own. own.items) all.refused.items
+        ≡ each_worker (refused_by parts.now) parts.now) }
     ensures stocks { IfOk result (λ all. map (λ own. own.items) all.stocks.items
         ≡ each_worker (for_own_stocks (last_machine parts.now.day) parts.now) parts.now) }
     ensures writers { IfOk result (λ all. (writer : ℕ → WriterAt) → AreFinished parts.now writer made.items
@@ -96,23 +110,54 @@ fn gather<A: Allocator + Copy>(
         parts.now) }
 {
     let count = made.len();
-    let mut outcomes = Vec::with_capacity(alloc, count)?;
+    let mut refused = Vec::with_capacity(alloc, count)?;
     let mut stocks = Vec::with_capacity(alloc, count)?;
     let mut writers = Vec::with_capacity(alloc, count)?;
     for one in made {
         let finished = one?;
-        outcomes.push(finished.outcomes)?;
+        refused.push(finished.refused)?;
         stocks.push(finished.stocks)?;
         writers.push(finished.writers)?;
     }
     Ok(Gathered {
-        outcomes,
+        refused,
         stocks,
         writers,
     })
 }
 
-/// The same as [`run`], of a day that is split already: the caller passes its parts, one for each worker.
+/// The same as [`run_parts`] for callers, as a report, that need only the refused messages of all: it takes no memory
+/// for any other. Every other message of a stock was applied, and those of no stock are in [`Parts::fixed`];
+/// [`outcomes_with`] puts together the outcomes of all.
+///
+/// An error says that memory was refused, and the writers are gone then. It may wait at the gate, and for its threads.
+pub fn summarize_parts<R: Threads + Wait + Sync, A: Allocator + Copy + Send + Sync, G: Gate>(
+    rt: &R,
+    alloc: A,
+    parts: &Parts<'_, A>,
+    board: &Board<'_, A>,
+    writers: Vec<TopWriter, A>,
+    gate: &G,
+) -> Result<Summary<A>, AllocError>
+    requires { AreNew parts.now.day (locates_of_day parts.now.day) board.now writers.items }
+    ensures summary { IfOk result (λ made. IsSummary parts.now.day
+        made.refused.items made.stocks.items made.event) }
+    ensures writers { IfOk result (λ made.
+        made.writers.items ≡ map (at_last parts.now.day) writers.items) }
+{
+    let waiting = waiting_workers(alloc, parts, writers)?;
+    let made = finish_all(rt, alloc, board, gate, waiting)?;
+    let gathered = gather(alloc, parts, made)?;
+    Ok(Summary {
+        refused: all_refused(alloc, parts, gathered.refused)?,
+        stocks: in_order(alloc, parts, gathered.stocks)?,
+        event: parts.event(),
+        writers: in_order(alloc, parts, gathered.writers)?,
+    })
+}
+
+/// The same as [`run`], of a day that is split already: the caller passes its parts, one for each worker. An error says
+/// that memory was refused, and the writers are gone then.
 pub fn run_parts<R: Threads + Wait + Sync, A: Allocator + Copy + Send + Sync, G: Gate>(
     rt: &R,
     alloc: A,
@@ -127,16 +172,12 @@ pub fn run_parts<R: Threads + Wait + Sync, A: Allocator + Copy + Send + Sync, G:
     ensures writers { IfOk result (λ made.
         made.writers.items ≡ map (at_last parts.now.day) writers.items) }
 {
-    let waiting = waiting_workers(alloc, parts, writers)?;
-    let made = finish_all(rt, alloc, board, gate, waiting)?;
-    let gathered = gather(alloc, parts, made)?;
-    let replayed = assemble(alloc, parts, gathered.outcomes, gathered.stocks)?;
-    let writers = in_order(alloc, parts, gathered.writers)?;
+    let summary = summarize_parts(rt, alloc, parts, board, writers, gate)?;
     Ok(Replayed {
-        outcomes: replayed.outcomes,
-        stocks: replayed.stocks,
-        event: replayed.event,
-        writers,
+        outcomes: outcomes_with(alloc, parts, &summary.refused)?,
+        stocks: summary.stocks,
+        event: summary.event,
+        writers: summary.writers,
     })
 }
 

@@ -10,7 +10,7 @@ use std::sync::Wait;
 use std::sync::atomic::{AtomicU64, Ordering};
 use std::test::Fail;
 use std::thread::Threads;
-use stock_workers::Gate;
+use stock_workers::{FreeGate, Gate};
 use test_refusing::{Refusal, Refusing, Tried, refuse_each};
 use test_support::{FILE, Failure, Narrow, Pieces, REPORT, same, same_bytes};
 
@@ -142,6 +142,42 @@ fn outputs_are_the_same_for_all_numbers_of_workers(rt: HostRuntime) -> Result<()
     for (workers, own) in [(1, 7), (2, 5), (3, 1), (64, 1)] {
         try_replay(&rt, workers)?;
         try_watch(&rt, workers, own)?;
+    }
+    Ok(())
+}
+
+// A file of which several workers refuse messages: deletions of three stocks that have no directory row, between them a
+// payload of a wrong length and one of an unknown type, which are of no stock, a system event and the marker.
+const REFUSALS: &[u8] =
+    b"\x00\x13D\x00\x01\x00\x00\x00\x00\x00\x00\x00\x00\x00\x00\x00\x00\x00\x00\x00\x09\
+      \x00\x01D\
+      \x00\x13D\x00\x02\x00\x00\x00\x00\x00\x00\x00\x00\x00\x00\x00\x00\x00\x00\x00\x09\
+      \x00\x01z\
+      \x00\x13D\x00\x03\x00\x00\x00\x00\x00\x00\x00\x00\x00\x00\x00\x00\x00\x00\x00\x09\
+      \x00\x0cS\x00\x00\x00\x00\x00\x00\x00\x00\x00\x00O\
+      \x00\x00";
+
+// Its report: the refused messages stand by their numbers, whoever did them.
+const REFUSALS_REPORT: &[u8] = b"message 1 refused F2\n\
+      message 2 refused F1\n\
+      message 3 refused F2\n\
+      message 5 refused F2\n\
+      messages 6 applied 1 passed 1 refused 4 marked yes tail 0 event \"O\"\n";
+
+#[test]
+fn refused_messages_stand_by_their_numbers(rt: HostRuntime) -> Result<(), Fail> {
+    for workers in [1, 2, 3, 64] {
+        let mut output = Vec::new(rt.alloc());
+        let returned = replay_run(
+            &rt,
+            rt.alloc(),
+            &mut Feed::new(REFUSALS),
+            &mut Sink::new(&mut output),
+            worker_count(workers)?,
+            &FreeGate,
+        );
+        same("a result", &(workers, returned), &(workers, Ok(4)))?;
+        same_bytes("a report", &output, REFUSALS_REPORT)?;
     }
     Ok(())
 }

@@ -3,11 +3,12 @@ ghost use Rattle.std.specs.Prelude.{◌≡◌, ◌++◌, ◌<◌, ◌^◌, lengt
 ghost use Rattle.std.specs.List.{All, flat_map};
 ghost use Rattle.byte_strings.specs.Bytes.{AreBytes};
 ghost use Rattle.byte_strings.specs.Extending.{Extends};
-ghost use Rattle.day_core.specs.Replaying.{IsReplayed};
+ghost use Rattle.itch_table.specs.After.{outcomes};
+ghost use Rattle.day_core.specs.Replaying.{IsSummary};
 ghost use Rattle.itch_engine.specs.Report.{machine_lines, report_of_file, refused_count};
 ghost use Rattle.itch_engine.specs.Tallies.{IsTally};
 
-use crate::report::messages::{Tally, put_refused_lines, put_summary, tally_of};
+use crate::report::messages::{Tally, put_file_line, put_refused_lines, tally_of};
 use crate::report::stock::put_stock;
 use binaryfile::Day;
 use day_core::{Parts, WorkerCount, parts_of};
@@ -16,7 +17,7 @@ use std::alloc::{AllocError, Allocator};
 use std::sync::Wait;
 use std::thread::Threads;
 use stock_machine::Stock;
-use stock_workers::{Gate, Replayed, run_parts};
+use stock_workers::{Gate, Summary, summarize_parts};
 use top_cell::Board;
 
 /// The report of a day, and how many of its messages were refused.
@@ -26,18 +27,18 @@ pub(crate) struct Report<A: Allocator> {
     pub refused: u32,
 }
 
-// A day that is split, replayed by its workers in threads, on a board of its own.
+// What a day that is split makes in short, replayed by its workers in threads, on a board of its own.
 fn replay<R: Threads + Wait + Sync, A: Allocator + Copy + Send + Sync, G: Gate>(
     rt: &R,
     alloc: A,
     parts: &Parts<'_, A>,
     gate: &G,
-) -> Result<Replayed<A>, AllocError>
-    ensures { IfOk result (λ replayed. IsReplayed parts.now.day
-        replayed.outcomes.items replayed.stocks.items replayed.event) }
+) -> Result<Summary<A>, AllocError>
+    ensures { IfOk result (λ summary. IsSummary parts.now.day
+        summary.refused.items summary.stocks.items summary.event) }
 {
     let (board, writers) = Board::of_stocks(&alloc, parts.day(), parts.locates())?;
-    run_parts(rt, alloc, parts, &board, writers, gate)
+    summarize_parts(rt, alloc, parts, &board, writers, gate)
 }
 
 // Adds the lines of a stock.
@@ -79,27 +80,25 @@ fn put_stocks<A: Allocator + Copy>(
 fn report_text<A: Allocator + Copy>(
     alloc: A,
     day: &Day<A>,
-    replayed: &Replayed<A>,
+    summary: &Summary<A>,
     tally: Tally,
 ) -> Result<Vec<u8, A>, AllocError>
-    requires tally { IsTally replayed.now.outcomes.items tally }
-    requires few { length day.now.payloads < 2 ^ 32 }
+    requires tally { IsTally (outcomes day.now.payloads) tally }
     requires bytes { All AreBytes day.now.payloads }
-    requires replayed { IsReplayed day.now.payloads
-        replayed.now.outcomes.items replayed.now.stocks.items replayed.now.event }
+    requires summary { IsSummary day.now.payloads
+        summary.now.refused.items summary.now.stocks.items summary.now.event }
     ensures { IfOk result (λ text. text.items ≡ report_of_file day.now) }
 {
     let mut text = Vec::new(alloc);
-    put_refused_lines(&mut text, &replayed.outcomes)?;
-    put_summary(
+    put_refused_lines(&mut text, &summary.refused)?;
+    put_file_line(
         &mut text,
-        &replayed.outcomes,
         tally,
         day.marked(),
         day.tail().len(),
-        replayed.event,
+        summary.event,
     )?;
-    put_stocks(alloc, &mut text, &replayed.stocks)?;
+    put_stocks(alloc, &mut text, &summary.stocks)?;
     Ok(text)
 }
 
@@ -118,9 +117,9 @@ pub(crate) fn report_of_day<R: Threads + Wait + Sync, A: Allocator + Copy + Send
     ensures refused { IfOk result (λ found. found.refused ≡ refused_count day.now.payloads) }
 {
     let parts = parts_of(rt, alloc, day, workers)?;
-    let replayed = replay(rt, alloc, &parts, gate)?;
-    let tally = tally_of(&replayed.outcomes);
-    let text = report_text(alloc, day, &replayed, tally)?;
+    let summary = replay(rt, alloc, &parts, gate)?;
+    let tally = tally_of(&parts, &summary.refused);
+    let text = report_text(alloc, day, &summary, tally)?;
     Ok(Report {
         text,
         refused: tally.refused as u32,

@@ -1,51 +1,64 @@
 //! The lines of a report that speak of messages.
-ghost use Rattle.std.specs.Prelude.{◌≡◌, ◌++◌, ◌<◌, ◌^◌, length, OnOk};
+ghost use Rattle.std.specs.Prelude.{◌≡◌, ◌++◌, List, OnOk, count_by};
+ghost use Rattle.std.specs.List.{flat_map};
 ghost use Rattle.byte_strings.specs.Extending.{Extends};
-ghost use Rattle.itch_engine.specs.Report.{refused_line, refused_lines, counts, mark, summary_line};
+ghost use Rattle.itch_table.specs.After.{outcomes};
+ghost use Rattle.itch_table.specs.declared.outcome.Outcome.{Outcome};
+ghost use Rattle.day_core.specs.Replaying.{is_passed, refused_of};
+ghost use Rattle.itch_engine.specs.Report.{counts, file_line, mark, refused_line};
 ghost use Rattle.itch_engine.specs.Tallies.{IsTally};
 
 use crate::report::numbers::put_count;
 use crate::report::quoted_bytes::put_quoted_byte;
+use day_core::{Parts, Piece};
 use itch_table::Outcome;
 use std::alloc::{AllocError, Allocator};
 
-/// How many messages of a day were applied, passed over and refused.
+/// How many messages a day has, and how many of them were applied, passed over and refused.
 #[derive(Clone, Copy)]
 pub(crate) struct Tally {
+    pub messages: usize,
     pub applied: usize,
     pub passed: usize,
     pub refused: usize,
 }
 
-/// Counts what became of the messages of a day, in one pass.
-pub(crate) fn tally_of(outcomes: &[Outcome]) -> Tally
-    ensures { IsTally outcomes.now result }
+// How many of these messages were passed over.
+fn passed_among(pieces: &[Piece]) -> usize
+    ensures { result ≡ count_by (λ p. is_passed p.outcome) pieces.now }
 {
-    let mut tally = Tally {
-        applied: 0,
-        passed: 0,
-        refused: 0,
-    };
-    for outcome in outcomes {
-        match outcome {
-            Outcome::Applied => tally.applied += 1,
-            Outcome::Passed => tally.passed += 1,
-            Outcome::Refused(_) => tally.refused += 1,
+    let mut passed = 0;
+    for piece in pieces {
+        if let Outcome::Passed = piece.outcome {
+            passed += 1;
         }
     }
-    tally
+    passed
+}
+
+/// Counts what became of the messages of a day. The caller passes those that were refused. A message of a stock isn't
+/// passed over.
+pub(crate) fn tally_of<A: Allocator>(parts: &Parts<'_, A>, refused: &[Piece]) -> Tally
+    requires { refused.now ≡ refused_of parts.now.day }
+    ensures { IsTally (outcomes parts.now.day) result }
+{
+    let messages = parts.day().len() as usize;
+    let passed = passed_among(parts.fixed());
+    let refused = refused.len();
+    Tally {
+        messages,
+        applied: messages - passed - refused,
+        passed,
+        refused,
+    }
 }
 
 // Adds the line of a message, where it was refused.
-fn put_refused<A: Allocator>(
-    text: &mut Vec<u8, A>,
-    message: u32,
-    outcome: Outcome,
-) -> Result<(), AllocError>
-    ensures { Extends text.old text.new (refused_line message outcome) result }
+fn put_refused<A: Allocator>(text: &mut Vec<u8, A>, piece: Piece) -> Result<(), AllocError>
+    ensures { Extends text.old text.new (refused_line piece.message piece.outcome) result }
 {
-    if let Outcome::Refused(fault) = outcome {
-        put_count(text, b"message ", message)?;
+    if let Outcome::Refused(fault) = piece.outcome {
+        put_count(text, b"message ", piece.message)?;
         put_count(text, b" refused F", fault.number())?;
         text.push(b'\n')?;
     }
@@ -55,29 +68,22 @@ fn put_refused<A: Allocator>(
 /// Adds the lines of the refused messages of a day.
 pub(crate) fn put_refused_lines<A: Allocator>(
     text: &mut Vec<u8, A>,
-    outcomes: &[Outcome],
+    refused: &[Piece],
 ) -> Result<(), AllocError>
-    requires { length outcomes.now < 2 ^ 32 }
-    ensures { Extends text.old text.new (refused_lines 1 outcomes.now) result }
+    ensures { Extends text.old text.new
+        (flat_map (λ p. refused_line p.message p.outcome) refused.now) result }
 {
-    let mut message = 0u32;
-    for outcome in outcomes {
-        message += 1;
-        put_refused(text, message, *outcome)?;
+    for piece in refused {
+        put_refused(text, *piece)?;
     }
     Ok(())
 }
 
 // Adds how many messages there are, and how many became what.
-fn put_counts<A: Allocator>(
-    text: &mut Vec<u8, A>,
-    outcomes: &[Outcome],
-    tally: Tally,
-) -> Result<(), AllocError>
-    requires { IsTally outcomes.now tally }
-    ensures { Extends text.old text.new (counts outcomes.now) result }
+fn put_counts<A: Allocator>(text: &mut Vec<u8, A>, tally: Tally) -> Result<(), AllocError>
+    ensures { (found : List Outcome) → IsTally found tally → Extends text.old text.new (counts found) result }
 {
-    put_count(text, b"messages ", outcomes.len())?;
+    put_count(text, b"messages ", tally.messages)?;
     put_count(text, b" applied ", tally.applied)?;
     put_count(text, b" passed ", tally.passed)?;
     put_count(text, b" refused ", tally.refused)
@@ -95,18 +101,17 @@ fn put_mark<A: Allocator>(text: &mut Vec<u8, A>, marked: bool) -> Result<(), All
 }
 
 /// Adds the line of the whole file: its messages, its mark, the length of its tail and the last event.
-pub(crate) fn put_summary<A: Allocator>(
+pub(crate) fn put_file_line<A: Allocator>(
     text: &mut Vec<u8, A>,
-    outcomes: &[Outcome],
     tally: Tally,
     marked: bool,
     tail_length: usize,
     event: Option<u8>,
 ) -> Result<(), AllocError>
-    requires { IsTally outcomes.now tally }
-    ensures { Extends text.old text.new (summary_line outcomes.now marked tail_length event) result }
+    ensures { (found : List Outcome) → IsTally found tally
+        → Extends text.old text.new (file_line found marked tail_length event) result }
 {
-    put_counts(text, outcomes, tally)?;
+    put_counts(text, tally)?;
     put_mark(text, marked)?;
     put_count(text, b" tail ", tail_length)?;
     text.extend_from_slice(b" event ")?;

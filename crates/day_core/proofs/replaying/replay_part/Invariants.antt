@@ -3,8 +3,8 @@ use Rattle.day_core.specs.Workers.{first_state, worker_messages}
 use Rattle.day_core.proofs.StocksByWorker.{HasDone}
 use Rattle.day_core.proofs.replaying.replay_part.Given as goal
 
-abbrev pub invariant-loop-outcomes : goal.invariant-loop-outcomes
-invariant-loop-outcomes g l = HasDone (first_state l.fn.parts l.fn.worker) l.runner l.outcomes.items
+abbrev pub invariant-loop-refused : goal.invariant-loop-refused
+invariant-loop-refused g l = HasDone (first_state l.fn.parts l.fn.worker) l.runner l.refused.items
 
-abbrev pub decreases-loop-outcomes : goal.decreases-loop-outcomes
-decreases-loop-outcomes g l = length (worker_messages (first_state l.fn.parts l.fn.worker)) - l.runner.done
+abbrev pub decreases-loop-refused : goal.decreases-loop-refused
+decreases-loop-refused g l = length (worker_messages (first_state l.fn.parts l.fn.worker)) - l.runner.done

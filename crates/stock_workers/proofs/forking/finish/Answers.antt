@@ -15,11 +15,11 @@ look_ahead-wait-requires g c =
 pub loop-worker-preserved : goal.loop-worker-preserved
 loop-worker-preserved g c =
     let first = waiting c.args.waiting.parts.now c.args.waiting.worker c.args.waiting.writers.items in
-    subst (λ (w : Working). IsUnderWay first w c.push.new.self.items) (sym c.look_ahead-wait.ensures)
-    (under_way_more first c.loop-worker.worker c.turn.new.self c.in-Some.piece c.loop-worker.outcomes.items c.push.new.self.items c.loop-worker.invariant
-    (rw c.in-Some.is at c.in_ok-piece.ensures.turned) c.in_ok-push.ensures.items)
+    subst (λ (w : Working). IsUnderWay first w c.note_refused.new.refused.items) (sym c.look_ahead-wait.ensures)
+    (under_way_more first c.loop-worker.worker c.turn.new.self c.in-Some.piece c.loop-worker.refused.items c.note_refused.new.refused.items c.loop-worker.invariant
+    (rw c.in-Some.is at c.in_ok-piece.ensures.turned) (c.in_ok-note_refused.ensures {u = tt}).ok)
 
 pub returns : goal.returns
 returns g c =
-    finished c.args.waiting.parts.now c.args.waiting.worker c.args.waiting.writers.items c.loop-worker.worker c.turn.new.self c.loop-worker.outcomes.items c.into_stocks-stocks.result.0.items c.into_stocks-stocks.result.1.items c.loop-worker.invariant
+    finished c.args.waiting.parts.now c.args.waiting.worker c.args.waiting.writers.items c.loop-worker.worker c.turn.new.self c.loop-worker.refused.items c.into_stocks-stocks.result.0.items c.into_stocks-stocks.result.1.items c.loop-worker.invariant
     (rw c.in_default.is at c.in_ok-piece.ensures.turned) c.into_stocks-stocks.ensures.stocks c.into_stocks-stocks.ensures.writers c.into_stocks-stocks.ensures.places

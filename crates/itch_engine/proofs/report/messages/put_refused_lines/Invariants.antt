@@ -1,9 +1,8 @@
-use Rattle.std.proofs.Common.{◌≡◌, ◌+◌, ◌++◌, drop}
-use Rattle.itch_engine.specs.Report.{refused_lines}
+use Rattle.std.proofs.Common.{◌≡◌, ◌++◌, take}
+use Rattle.std.specs.List.{flat_map}
+use Rattle.itch_engine.specs.Report.{refused_line}
 use Rattle.itch_engine.proofs.report.messages.put_refused_lines.Given as goal
 
-abbrev pub invariant-loop-outcome : goal.invariant-loop-outcome
-invariant-loop-outcome g l = record {
-  number : l.message ≡ l.outcome-index;
-  lines : l.text.items ++ refused_lines (l.message + 1) (drop l.outcome-index l.outcomes) ≡ l.fn.text.items ++ refused_lines 1 l.outcomes;
-}
+abbrev pub invariant-loop-piece : goal.invariant-loop-piece
+invariant-loop-piece g l =
+    l.text.items ≡ l.fn.text.items ++ flat_map (λ p. refused_line p.message p.outcome) (take l.piece-index l.refused)

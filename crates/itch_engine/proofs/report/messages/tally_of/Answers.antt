@@ -1,30 +1,38 @@
-use Rattle.std.proofs.Common.{ℕ, ◌+◌, ap, sym, ◌∙◌}
-use Rattle.std.proofs.lemmas.List.Sums.{count_by_more_no, count_by_more_yes}
-use Rattle.itch_table.specs.declared.outcome.Outcome.TheVariants.{Applied}
-use Rattle.itch_engine.specs.Report.{is_applied, is_passed, is_refused}
+use Rattle.std.proofs.Common.{◌≡◌, List, ap, arith, length, ◌∙◌}
+use Rattle.std.specs.List.{count_by}
+use Rattle.itch_table.specs.declared.outcome.Outcome.{Outcome}
+use Rattle.itch_table.specs.After.{outcomes}
+use Rattle.itch_table.proofs.Days.{length-outcomes_until}
+use Rattle.day_core.specs.Replaying.{is_refused}
+use Rattle.day_core.specs.Replaying.{is_passed}
+use Rattle.itch_engine.proofs.Summaries.{all_counted, passed_are, refused_are}
+use Rattle.itch_engine.proofs.report.messages.tally_of.Given as given
 use Rattle.itch_engine.proofs.report.messages.tally_of.Goals as goal
-use Rattle.itch_engine.proofs.report.messages.tally_of.Goals.{in-Applied, in-Passed, in-Refused}
 
-pub loop-outcome-preserved : goal.loop-outcome-preserved
-loop-outcome-preserved c =
-    let found = c.args.outcomes.now in
-    let at = c.loop-outcome.outcome-index in
-    let more = c.loop-outcome-test.true in
-    let before = c.loop-outcome.invariant in
-    elim c.match-outcome.branch [
-      | in-Applied w ↦ rw w.tally-is (record {
-        applied = ap (λ (n : ℕ). n + 1) before.applied ∙ sym (count_by_more_yes is_applied found at Applied more (ap is_applied w.in-Applied.is));
-        passed = before.passed ∙ sym (count_by_more_no is_passed found at Applied more (ap is_passed w.in-Applied.is));
-        refused = before.refused ∙ sym (count_by_more_no is_refused found at Applied more (ap is_refused w.in-Applied.is));
-      })
-      | in-Passed w ↦ rw w.tally-is (record {
-        applied = before.applied ∙ sym (count_by_more_no is_applied found at Applied more (ap is_applied w.in-Passed.is));
-        passed = ap (λ (n : ℕ). n + 1) before.passed ∙ sym (count_by_more_yes is_passed found at Applied more (ap is_passed w.in-Passed.is));
-        refused = before.refused ∙ sym (count_by_more_no is_refused found at Applied more (ap is_refused w.in-Passed.is));
-      })
-      | in-Refused w ↦ rw w.tally-is (record {
-        applied = before.applied ∙ sym (count_by_more_no is_applied found at Applied more (ap is_applied w.in-Refused.is));
-        passed = before.passed ∙ sym (count_by_more_no is_passed found at Applied more (ap is_passed w.in-Refused.is));
-        refused = ap (λ (n : ℕ). n + 1) before.refused ∙ sym (count_by_more_yes is_refused found at Applied more (ap is_refused w.in-Refused.is));
-      })
-    ]
+-- how many messages the day has, and how many were passed over and refused
+module _ (g : given.Over) (c : goal.After-passed_among-passed g) where
+  abbrev found : List Outcome
+  found = outcomes c.args.parts.now.day
+
+  messages : c.len-messages.result ≡ length found
+  messages = omega (arith, c.len-messages.ensures, ap length c.day.ensures, length-outcomes_until c.args.parts.now.day (length c.args.parts.now.day))
+
+  passed : c.passed_among-passed.result ≡ count_by is_passed found
+  passed = c.passed_among-passed.ensures ∙ ap (count_by (λ p. is_passed p.outcome)) c.fixed.ensures ∙ passed_are c.args.parts.now.day
+
+  refused : length c.args.refused.now ≡ count_by is_refused found
+  refused = ap length c.requires ∙ refused_are c.args.parts.now.day
+
+pub overflow_sub-result : goal.overflow_sub-result
+overflow_sub-result g c = omega (arith, messages g c, passed g c, all_counted (outcomes c.args.parts.now.day))
+
+pub overflow_sub-result-2 : goal.overflow_sub-result-2
+overflow_sub-result-2 g c = omega (arith, messages g c, passed g c, refused g c, all_counted (outcomes c.args.parts.now.day))
+
+pub returns : goal.returns
+returns g c = record {
+  messages = messages g c;
+  applied = omega (arith, messages g c, passed g c, refused g c, all_counted (outcomes c.args.parts.now.day));
+  passed = passed g c;
+  refused = refused g c;
+}
