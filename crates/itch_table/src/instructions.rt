@@ -1,11 +1,11 @@
 //! The instructions of the table: each makes its checks, in their order, and has its effect where all of them pass.
-ghost use Rattle.std.specs.Prelude.{◌≡◌, ◌≤◌, Some, None, OnErr, OnOk};
+ghost use Rattle.std.specs.Prelude.{◌≡◌, ◌≤◌, [], ◌∷◌, Some, None, OnErr, OnOk};
 ghost use Rattle.itch_layouts.specs.Shapes.{shape_of};
 ghost use Rattle.itch_table.specs.World.{live};
 ghost use Rattle.itch_table.specs.Held.{Holds, HoldsPart, on_world};
 ghost use Rattle.itch_table.specs.Instructions.{Follows, FollowsShape};
 ghost use Rattle.itch_table.specs.Parts.{part};
-ghost use Rattle.itch_table.specs.Table.{less_shares, with_trade};
+ghost use Rattle.itch_table.specs.Table.{checks, effect, less_shares, listed, names_stock, with_trade};
 ghost use Rattle.itch_table.specs.declared.instructions.Unchanged.TheVariants.{Memory as MemoryRefused, Refused as RefusedBy};
 
 use crate::effects::{
@@ -20,9 +20,8 @@ use crate::outcome::Fault;
 use crate::store::Store;
 use crate::trades::TradeRow;
 use itch_layouts::{
-    Add, AddMpid, Breach, Broken, Cancel, Collar, Cross, Decline, Delete, Directory, Execute,
-    ExecutePrice, Head, Imbalance, Ipo, Kind, Msg, NonCrossTrade, Operational, Participant, Regsho,
-    Replace, Retail, System, TradingAction, kind_of, readers,
+    Add, AddMpid, Breach, Broken, Cancel, Cross, Decline, Delete, Directory, Execute, ExecutePrice,
+    Head, Ipo, Kind, Msg, NonCrossTrade, Regsho, Replace, System, TradingAction, kind_of, readers,
 };
 use std::alloc::AllocError;
 
@@ -54,9 +53,9 @@ impl From<AllocError> for Unchanged {
 }
 
 // Sets the last event among the rows of all stocks.
-fn system<S: Store>(store: &mut S, head: &Head, m: &System) -> Result<(), Unchanged>
+fn system<S: Store>(store: &mut S, _head: &Head, m: &System) -> Result<(), Unchanged>
     requires { (S.held store.old).own ≡ None }
-    ensures { Follows (S.held store.old) (Msg.System head.now m.now) (S.held store.new) result }
+    ensures { Follows (S.held store.old) (Msg.System _head.now m.now) (S.held store.new) result }
 {
     store.set_event(m.event);
     Ok(())
@@ -228,68 +227,35 @@ fn broken<S: Store>(store: &mut S, head: &Head, m: &Broken) -> Result<(), Unchan
 }
 
 // The levels of the market-wide circuit breaker, which change no rows.
-fn decline<S: Store>(store: &mut S, head: &Head, m: &Decline) -> Result<(), Unchanged>
-    ensures { Follows (S.held store.old) (Msg.Decline head.now m.now) (S.held store.new) result }
+fn decline<S: Store>(_store: &mut S, _head: &Head, _m: &Decline) -> Result<(), Unchanged>
+    ensures { Follows (S.held _store.old) (Msg.Decline _head.now _m.now) (S.held _store.new) result }
 {
     Ok(())
 }
 
 // A breach of one of these levels, which changes no rows.
-fn breach<S: Store>(store: &mut S, head: &Head, m: &Breach) -> Result<(), Unchanged>
-    ensures { Follows (S.held store.old) (Msg.Breach head.now m.now) (S.held store.new) result }
+fn breach<S: Store>(_store: &mut S, _head: &Head, _m: &Breach) -> Result<(), Unchanged>
+    ensures { Follows (S.held _store.old) (Msg.Breach _head.now _m.now) (S.held _store.new) result }
 {
     Ok(())
 }
 
 // An offering's quoting period, which changes no rows.
-fn ipo<S: Store>(store: &mut S, head: &Head, m: &Ipo) -> Result<(), Unchanged>
-    ensures { Follows (S.held store.old) (Msg.Ipo head.now m.now) (S.held store.new) result }
+fn ipo<S: Store>(_store: &mut S, _head: &Head, _m: &Ipo) -> Result<(), Unchanged>
+    ensures { Follows (S.held _store.old) (Msg.Ipo _head.now _m.now) (S.held _store.new) result }
 {
     Ok(())
 }
 
-// Checks a market participant's position, which changes nothing.
-fn participant<S: Store>(store: &mut S, head: &Head, m: &Participant) -> Result<(), Unchanged>
-    requires { Holds (S.held store.old) head.now.locate }
-    ensures { Follows (S.held store.old) (Msg.Participant head.now m.now) (S.held store.new) result }
+// Makes the checks of a message that names a stock, and changes no rows: the instruction of all kinds whose messages
+// have these checks and no effect.
+fn check_only<S: Store>(store: &S, locate: u16, stock: &[u8; 8]) -> Result<(), Unchanged>
+    requires { Holds (S.held store.now) locate }
+    ensures { let held = S.held store.now in let w = held.world in
+        (m : Msg) → checks m w ≡ listed w locate ∷ names_stock w locate stock.now ∷ [] → effect m w ≡ w
+        → Follows held m held result }
 {
-    check_stock(store, head.locate, &m.stock)?;
-    Ok(())
-}
-
-// Checks an auction collar, which changes nothing.
-fn collar<S: Store>(store: &mut S, head: &Head, m: &Collar) -> Result<(), Unchanged>
-    requires { Holds (S.held store.old) head.now.locate }
-    ensures { Follows (S.held store.old) (Msg.Collar head.now m.now) (S.held store.new) result }
-{
-    check_stock(store, head.locate, &m.stock)?;
-    Ok(())
-}
-
-// Checks an operational halt, which changes nothing.
-fn operational<S: Store>(store: &mut S, head: &Head, m: &Operational) -> Result<(), Unchanged>
-    requires { Holds (S.held store.old) head.now.locate }
-    ensures { Follows (S.held store.old) (Msg.Operational head.now m.now) (S.held store.new) result }
-{
-    check_stock(store, head.locate, &m.stock)?;
-    Ok(())
-}
-
-// Checks a net order imbalance indicator, which changes nothing.
-fn imbalance<S: Store>(store: &mut S, head: &Head, m: &Imbalance) -> Result<(), Unchanged>
-    requires { Holds (S.held store.old) head.now.locate }
-    ensures { Follows (S.held store.old) (Msg.Imbalance head.now m.now) (S.held store.new) result }
-{
-    check_stock(store, head.locate, &m.stock)?;
-    Ok(())
-}
-
-// Checks a retail price improvement indicator, which changes nothing.
-fn retail<S: Store>(store: &mut S, head: &Head, m: &Retail) -> Result<(), Unchanged>
-    requires { Holds (S.held store.old) head.now.locate }
-    ensures { Follows (S.held store.old) (Msg.Retail head.now m.now) (S.held store.new) result }
-{
-    check_stock(store, head.locate, &m.stock)?;
+    check_stock(store, locate, stock)?;
     Ok(())
 }
 
@@ -298,6 +264,14 @@ macro_rules! followed {
     ($store:ident $payload:ident $reader:ident $instruction:ident) => {{
         let (head, m) = readers::$reader($payload);
         $instruction($store, &head, &m)
+    }};
+}
+
+// The same of a kind whose messages name a stock and change no rows.
+macro_rules! checked {
+    ($store:ident $payload:ident $reader:ident) => {{
+        let (head, m) = readers::$reader($payload);
+        check_only($store, head.locate, &m.stock)
     }};
 }
 
@@ -315,12 +289,12 @@ pub(crate) fn follow_payload<S: Store>(store: &mut S, payload: &[u8]) -> Result<
         Kind::Directory => followed!(store payload directory_of directory),
         Kind::Trading => followed!(store payload trading_of trading),
         Kind::Regsho => followed!(store payload regsho_of regsho),
-        Kind::Participant => followed!(store payload participant_of participant),
+        Kind::Participant => checked!(store payload participant_of),
         Kind::Decline => followed!(store payload decline_of decline),
         Kind::Breach => followed!(store payload breach_of breach),
         Kind::Ipo => followed!(store payload ipo_of ipo),
-        Kind::Collar => followed!(store payload collar_of collar),
-        Kind::Operational => followed!(store payload operational_of operational),
+        Kind::Collar => checked!(store payload collar_of),
+        Kind::Operational => checked!(store payload operational_of),
         Kind::Add => followed!(store payload add_of add),
         Kind::AddMpid => followed!(store payload add_mpid_of add_mpid),
         Kind::Execute => followed!(store payload execute_of execute),
@@ -331,7 +305,7 @@ pub(crate) fn follow_payload<S: Store>(store: &mut S, payload: &[u8]) -> Result<
         Kind::Trade => followed!(store payload trade_of non_cross_trade),
         Kind::Cross => followed!(store payload cross_of cross),
         Kind::Broken => followed!(store payload broken_of broken),
-        Kind::Imbalance => followed!(store payload imbalance_of imbalance),
-        Kind::Retail => followed!(store payload retail_of retail),
+        Kind::Imbalance => checked!(store payload imbalance_of),
+        Kind::Retail => checked!(store payload retail_of),
     }
 }

@@ -43,23 +43,23 @@ regsho-requires g c = holds _ _ (msg.Regsho c.regsho_of-head.result.0 c.regsho_o
 pub returns-in-Regsho : goal.returns-in-Regsho
 returns-in-Regsho g c = followed _ _ _ (msg.Regsho c.regsho_of-head.result.0 c.regsho_of-head.result.1) _ c.regsho_of-head.ensures c.regsho.ensures
 
-pub participant-requires : goal.participant-requires
-participant-requires g c = holds _ _ (msg.Participant c.participant_of-head.result.0 c.participant_of-head.result.1) c.participant_of-head.ensures c.requires.here
+pub check_only-requires : goal.check_only-requires
+check_only-requires g c = holds _ _ (msg.Participant c.participant_of-head.result.0 c.participant_of-head.result.1) c.participant_of-head.ensures c.requires.here
 
 pub returns-in-Participant : goal.returns-in-Participant
-returns-in-Participant g c = followed _ _ _ (msg.Participant c.participant_of-head.result.0 c.participant_of-head.result.1) _ c.participant_of-head.ensures c.participant.ensures
+returns-in-Participant g c = let m = msg.Participant c.participant_of-head.result.0 c.participant_of-head.result.1 in followed _ _ _ m _ c.participant_of-head.ensures (c.check_only.ensures m refl refl)
 
-pub collar-requires : goal.collar-requires
-collar-requires g c = holds _ _ (msg.Collar c.collar_of-head.result.0 c.collar_of-head.result.1) c.collar_of-head.ensures c.requires.here
+pub check_only-requires-in-Collar : goal.check_only-requires-in-Collar
+check_only-requires-in-Collar g c = holds _ _ (msg.Collar c.collar_of-head.result.0 c.collar_of-head.result.1) c.collar_of-head.ensures c.requires.here
 
 pub returns-in-Collar : goal.returns-in-Collar
-returns-in-Collar g c = followed _ _ _ (msg.Collar c.collar_of-head.result.0 c.collar_of-head.result.1) _ c.collar_of-head.ensures c.collar.ensures
+returns-in-Collar g c = let m = msg.Collar c.collar_of-head.result.0 c.collar_of-head.result.1 in followed _ _ _ m _ c.collar_of-head.ensures (c.check_only-in-Collar.ensures m refl refl)
 
-pub operational-requires : goal.operational-requires
-operational-requires g c = holds _ _ (msg.Operational c.operational_of-head.result.0 c.operational_of-head.result.1) c.operational_of-head.ensures c.requires.here
+pub check_only-requires-in-Operational : goal.check_only-requires-in-Operational
+check_only-requires-in-Operational g c = holds _ _ (msg.Operational c.operational_of-head.result.0 c.operational_of-head.result.1) c.operational_of-head.ensures c.requires.here
 
 pub returns-in-Operational : goal.returns-in-Operational
-returns-in-Operational g c = followed _ _ _ (msg.Operational c.operational_of-head.result.0 c.operational_of-head.result.1) _ c.operational_of-head.ensures c.operational.ensures
+returns-in-Operational g c = let m = msg.Operational c.operational_of-head.result.0 c.operational_of-head.result.1 in followed _ _ _ m _ c.operational_of-head.ensures (c.check_only-in-Operational.ensures m refl refl)
 
 pub add-requires-clause-here : goal.add-requires-clause-here
 add-requires-clause-here g c = holds _ _ (msg.Add c.add_of-head.result.0 c.add_of-head.result.1) c.add_of-head.ensures c.requires.here
@@ -121,14 +121,14 @@ broken-requires g c = holds _ _ (msg.Broken c.broken_of-head.result.0 c.broken_o
 pub returns-in-Broken : goal.returns-in-Broken
 returns-in-Broken g c = followed _ _ _ (msg.Broken c.broken_of-head.result.0 c.broken_of-head.result.1) _ c.broken_of-head.ensures c.broken.ensures
 
-pub imbalance-requires : goal.imbalance-requires
-imbalance-requires g c = holds _ _ (msg.Imbalance c.imbalance_of-head.result.0 c.imbalance_of-head.result.1) c.imbalance_of-head.ensures c.requires.here
+pub check_only-requires-in-Imbalance : goal.check_only-requires-in-Imbalance
+check_only-requires-in-Imbalance g c = holds _ _ (msg.Imbalance c.imbalance_of-head.result.0 c.imbalance_of-head.result.1) c.imbalance_of-head.ensures c.requires.here
 
 pub returns-in-Imbalance : goal.returns-in-Imbalance
-returns-in-Imbalance g c = followed _ _ _ (msg.Imbalance c.imbalance_of-head.result.0 c.imbalance_of-head.result.1) _ c.imbalance_of-head.ensures c.imbalance.ensures
+returns-in-Imbalance g c = let m = msg.Imbalance c.imbalance_of-head.result.0 c.imbalance_of-head.result.1 in followed _ _ _ m _ c.imbalance_of-head.ensures (c.check_only-in-Imbalance.ensures m refl refl)
 
-pub retail-requires : goal.retail-requires
-retail-requires g c = holds _ _ (msg.Retail c.retail_of-head.result.0 c.retail_of-head.result.1) c.retail_of-head.ensures c.requires.here
+pub check_only-requires-in-Retail : goal.check_only-requires-in-Retail
+check_only-requires-in-Retail g c = holds _ _ (msg.Retail c.retail_of-head.result.0 c.retail_of-head.result.1) c.retail_of-head.ensures c.requires.here
 
 pub returns-in-Retail : goal.returns-in-Retail
-returns-in-Retail g c = followed _ _ _ (msg.Retail c.retail_of-head.result.0 c.retail_of-head.result.1) _ c.retail_of-head.ensures c.retail.ensures
+returns-in-Retail g c = let m = msg.Retail c.retail_of-head.result.0 c.retail_of-head.result.1 in followed _ _ _ m _ c.retail_of-head.ensures (c.check_only-in-Retail.ensures m refl refl)
