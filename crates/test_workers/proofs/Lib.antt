@@ -1,1 +1,2 @@
+mod NoWorker
 mod OnlyWorker

@@ -1,6 +1,5 @@
 //! One worker, turn by turn.
-ghost use Rattle.std.specs.Prelude.{◌≡◌, [], All, IfOk, map};
-ghost use Rattle.itch_table.specs.Shows.{locates_of_day};
+ghost use Rattle.std.specs.Prelude.{◌≡◌, [], All, IfOk};
 ghost use Rattle.top_cell.specs.Boards.{IsOn};
 ghost use Rattle.stock_workers.specs.Running.{IsWaiting};
 
@@ -147,31 +146,63 @@ fn a_screen_reads_what_each_turn_leaves(rt: HostRuntime) -> Result<(), Fail> {
     follow(&rt, &board, &mut worker, &mut screen, &mut turns, &wanted)
 }
 
-// A worker of a number that is no worker's. The day of the parts has no stock.
-#[tactic(auto, unfolding(day_core::specs::Owners::own_locates))]
+// A worker of a number that is no worker's, without writers.
+#[tactic(auto, using(crate::proofs::NoWorker::no_locates))]
 fn no_worker<'p, A: Allocator + Copy>(
     alloc: A,
     parts: &'p Parts<'p, A>,
-    writers: Vec<TopWriter, A>,
+    number: u32,
 ) -> Result<Worker<'p, A>, Fail>
-    requires { map (λ w. w.place.locate) writers.items ≡ locates_of_day parts.now.day }
     ensures { IfOk result (λ worker. worker.places ≡ []) }
 {
-    if !writers.is_empty() {
-        return Err(Fail::new("a writer of a day without a stock"));
+    if number < parts.workers() {
+        return Err(Fail::new("a number of a worker"));
     }
-    Ok(Worker::new(alloc, parts, 5, writers)?)
+    Ok(Worker::new(alloc, parts, number, Vec::new(alloc))?)
+}
+
+// Whether a worker has these stocks, each with its writer.
+fn has_stocks<A: Allocator>(worker: &Worker<'_, A>, stocks: [(u16, bool); 3]) -> Result<(), Fail> {
+    for (locate, has) in stocks {
+        let found = (
+            worker.stock(locate).is_some(),
+            worker.writer(locate).is_some(),
+        );
+        same(
+            "a stock and its writer",
+            &(locate, found),
+            &(locate, (has, has)),
+        )?;
+    }
+    Ok(())
+}
+
+// Numbers from 2 on have nothing of a day that is split for two workers, who have this many messages.
+fn past_two_workers<R: Threads + Wait + Sync, A: Allocator + Copy + Send + Sync>(
+    rt: &R,
+    alloc: A,
+    day: &Day<A>,
+    messages: (usize, usize),
+) -> Result<(), Fail> {
+    let parts = split(rt, alloc, day, 2)?;
+    let own = (parts.own(0).len(), parts.own(1).len());
+    same("the workers' messages", &own, &messages)?;
+    let (board, _writers) = Board::new(&alloc, day)?;
+    for number in [2, 3, 63, 64, u32::MAX] {
+        let mut worker = no_worker(alloc, &parts, number)?;
+        let returned = turn(rt, &board, &mut worker, &FreeGate)?;
+        same("a turn", &(number, returned), &(number, None))?;
+        has_stocks(&worker, [(1, false), (2, false), (3, false)])?;
+    }
+    Ok(())
 }
 
 #[test]
 fn a_number_of_no_worker_has_no_turn(rt: HostRuntime) -> Result<(), Fail> {
     let alloc = rt.alloc();
-    let day = day_with(alloc, &[system(0, b'O')])?;
-    let parts = split(&rt, alloc, &day, 2)?;
-    let (board, writers) = Board::new(&alloc, &day)?;
-    let mut worker = no_worker(alloc, &parts, writers)?;
-    let returned = turn(&rt, &board, &mut worker, &FreeGate)?;
-    same("a turn", &returned, &None)
+    let without_stocks = day_with(alloc, &[system(0, b'O')])?;
+    past_two_workers(&rt, alloc, &without_stocks, (0, 0))?;
+    past_two_workers(&rt, alloc, &two_stocks(alloc)?, (2, 5))
 }
 
 // Makes the only worker of the two stocks under a refusal. Where it is refused, the parts are as they were.
@@ -298,17 +329,7 @@ fn find_without_memory<'h>(
     worker: &Worker<'_, &'h Refusing<Global>>,
 ) -> Result<(), Fail> {
     heap.restart(Refusal::From(1));
-    for (locate, has) in [(1, true), (2, true), (9, false)] {
-        let found = (
-            worker.stock(locate).is_some(),
-            worker.writer(locate).is_some(),
-        );
-        same(
-            "a stock and its writer",
-            &(locate, found),
-            &(locate, (has, has)),
-        )?;
-    }
+    has_stocks(worker, [(1, true), (2, true), (9, false)])?;
     same("the growths", &heap.tried(false).growths, &0)
 }
 
