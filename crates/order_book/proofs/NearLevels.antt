@@ -1,14 +1,38 @@
 -- The index of a price among levels that are looked at one by one, the best first.
-use Rattle.std.proofs.Common.{◌≡◌, ℕ, ◌-◌, ◌<◌, ◌≤◌, ◌==◌, List, Bool, true, false, refl, length, get_or, arith}
-use Rattle.std.specs.declared.cmp.Ordering.TheVariants.{Less}
+use Rattle.std.proofs.Common.{◌≡◌, ◌≢◌, ℕ, ◌-◌, ◌^◌, ◌<◌, ◌≤◌, ◌==◌, List, Bool, true, false, refl, length, get_or, arith, inl, inr}
+use Rattle.std.specs.declared.cmp.Ordering.TheVariants.{Less, Greater}
 use Rattle.std.specs.List.{AllWithin}
-use Rattle.std.proofs.lemmas.Bool.{eqb-true, eqb-false}
+use Rattle.std.proofs.lemmas.Bool.{cases_lt, eqb-true, eqb-false}
+use Rattle.std.proofs.lemmas.Bool.Decides.{nat_tests}
 use Rattle.std.proofs.lemmas.List.{get_or_default}
 use Rattle.std.proofs.lemmas.Map.Keys.{Less-from_sorted}
 use Rattle.itch_table.specs.declared.order.Level.{Level}
 use Rattle.itch_table.specs.declared.order.Side.{Side}
-use Rattle.order_book.specs.Kept.{AreInOrder, IsBetter, IsGap, IsWorse, price_cmp}
+use Rattle.itch_table.specs.declared.order.Side.TheVariants.{Buy, Sell}
+use Rattle.order_book.specs.Kept.{AreInOrder, IsBetter, IsGap, IsWorse, price_cmp, rank}
 use Rattle.order_book.proofs.LevelLists.{price_total, side_cmp}
+
+-- a price of a lower rank is worse
+pub worse_by_rank : (side : Side) (price other : ℕ) → rank side other < rank side price → price_cmp side other price ≡ Less
+worse_by_rank Buy price other lower = grind (arith, nat_tests)
+worse_by_rank Sell price other lower = grind (arith, nat_tests)
+
+-- another price of no lower rank is better
+pub better_by_rank : (side : Side) (price other : ℕ) → price < 2 ^ 32 → other < 2 ^ 32 → other ≢ price
+    → rank side price ≤ rank side other → price_cmp side other price ≡ Greater
+better_by_rank Buy price other fits other_fits apart higher = grind (arith, nat_tests)
+better_by_rank Sell price other fits other_fits apart higher = grind (arith, nat_tests)
+
+-- the levels from a better one on are better, where those after it are
+pub better_from : (side : Side) (levels : List Level) (price end : ℕ) (last : Level) → 0 < end → end ≤ length levels
+    → AllWithin (IsBetter side price) levels end (length levels) → price_cmp side (get_or levels (end - 1) last).price price ≡ Greater
+    → AllWithin (IsBetter side price) levels (end - 1) (length levels)
+better_from side levels price end last some within better greater k d low high = elim (cases_lt k end) [
+  | inl before ↦
+      let here : k ≡ end - 1 = omega (arith, low) in
+      rw (here, get_or_default levels (end - 1) d last (omega arith)) greater
+  | inr from ↦ better k d from high
+]
 
 -- the level before the better ones is worse, and so are those before it
 pub gap_after : (side : Side) (levels : List Level) (price end : ℕ) (last : Level) → AreInOrder side levels → 0 < end → end ≤ length levels

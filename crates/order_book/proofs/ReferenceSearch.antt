@@ -1,5 +1,5 @@
 -- What a search for a reference finds among orders by rising reference.
-use Rattle.std.proofs.Common.{◌≡◌, ◌≢◌, ℕ, ◌+◌, ◌-◌, ◌<◌, ◌≤◌, ◌==◌, List, get_or, length, None, Bool, true, false, refl, ap, ◌∙◌, arith, inl, inr}
+use Rattle.std.proofs.Common.{◌≡◌, ◌≢◌, ℕ, ◌+◌, ◌-◌, ◌<◌, ◌≤◌, ◌==◌, List, [], get_or, length, None, Bool, true, false, refl, ap, ◌∙◌, arith, inl, inr}
 use Rattle.std.specs.declared.cmp.Ordering.TheVariants.{Less}
 use Rattle.std.specs.Ordering.{nat_cmp}
 use Rattle.std.specs.Cmp.{nat_cmp_total}
@@ -11,14 +11,13 @@ use Rattle.std.proofs.lemmas.Bool.Decides.{nat_tests}
 use Rattle.std.proofs.lemmas.List.{get_or_default}
 use Rattle.std.proofs.lemmas.List.Elements.{recursion_from_All}
 use Rattle.std.proofs.lemmas.Map.Keys.{Less-from_sorted}
-use Rattle.itch_table.specs.declared.order.Side.TheVariants.{Buy}
 use Rattle.order_book.specs.declared.rising.RisenRow.{RisenRow}
 use Rattle.order_book.specs.Parts.{AreRising, IsAbove, IsBelow, live_in}
 use Rattle.order_book.proofs.RisingLists.{IsOther, by_distance, entries_of, find_none}
 
 -- what a read past the end of the list is taken to be
 abbrev pub no_row : RisenRow
-no_row = record { distance = 0; shares = 0; price = 0; side = Buy; attribution = None }
+no_row = record { distance = 0; shares = 0; marked_price = 0; attribution = [] }
 
 -- no order has the reference
 pub none_has : (first reference : ℕ) (rows : List RisenRow) → All (λ row. first + row.distance ≢ reference) rows

@@ -47,6 +47,11 @@ abbrev pub price_cmp : Side → ℕ → ℕ → Ordering
 price_cmp Buy price other = nat_cmp price other
 price_cmp Sell price other = nat_cmp other price
 
+-- a price's rank on its side: a better price has a higher one
+abbrev pub rank : Side → ℕ → ℕ
+rank Buy price = price
+rank Sell price = 2 ^ 32 - 1 - price
+
 -- each level is worse than all after it
 abbrev pub AreInOrder : Side → List Level → Type 0
 AreInOrder side levels = IsStrictlySortedBy (λ level other. price_cmp side level.price other.price) levels

@@ -1,5 +1,6 @@
 -- The two parts in which a book keeps its orders: a list by rising reference, and the others.
-use Rattle.std.specs.Prelude.{◌≡◌, ℕ, ◌+◌, ◌<◌, ◌≤◌, ◌^◌, ◌==◌, ◌++◌, Bool, not, List, length, map, None}
+use Rattle.std.specs.Prelude.{◌≡◌, ℕ, ◌+◌, ◌-◌, ◌<◌, ◌≤◌, ◌^◌, ◌==◌, ◌++◌, nat_eq, nat_lt, if◌then◌else◌, Bool, not, List, [], ◌∷◌, length, map, Option, Some, None}
+use Rattle.std.specs.Cmp.Lexicographic.{pointwise}
 use Rattle.std.specs.Ordering.{nat_cmp}
 use Rattle.std.specs.List.{filter, HoldsAt}
 use Rattle.std.specs.List.Sorted.{IsStrictlySortedBy}
@@ -7,6 +8,8 @@ use Rattle.std.specs.Option.{IsSome}
 use Rattle.std.specs.FinMap as maps
 use Rattle.itch_table.specs.declared.order.Order.{Order}
 use Rattle.itch_table.specs.declared.order.OrderRow.{OrderRow}
+use Rattle.itch_table.specs.declared.order.Side.{Side}
+use Rattle.itch_table.specs.declared.order.Side.TheVariants.{Buy, Sell}
 use Rattle.itch_table.specs.World.{order_under, row_of}
 use Rattle.order_book.specs.declared.rising.RisenRow.{RisenRow}
 use Rattle.order_book.specs.Orders.{Orders}
@@ -15,10 +18,30 @@ use Rattle.order_book.specs.Orders.{Orders}
 abbrev pub IsFirst : ℕ → Type 0
 IsFirst first = first + 2 ^ 32 ≤ 2 ^ 64
 
+-- the mark of an ask, which is added to its price
+abbrev pub ask_mark : ℕ
+ask_mark = 2 ^ 31
+
+-- the side that a price is marked with
+abbrev pub side_in : ℕ → Side
+side_in marked = if nat_lt marked ask_mark then Buy else Sell
+
+-- the price without the mark
+abbrev pub price_in : ℕ → ℕ
+price_in marked = if nat_lt marked ask_mark then marked else marked - ask_mark
+
+-- the attribution that four bytes stand for: none where all are zero
+abbrev pub attribution_in : List ℕ → Option (List ℕ)
+attribution_in bytes = if pointwise nat_eq bytes (0 ∷ 0 ∷ 0 ∷ 0 ∷ []) then None else Some bytes
+
 -- an order of the list, without its reference
 abbrev pub without_distance : RisenRow → OrderRow
-without_distance row =
-    record { side = row.side; shares = row.shares; price = row.price; attribution = row.attribution }
+without_distance row = record {
+  side = side_in row.marked_price;
+  shares = row.shares;
+  price = price_in row.marked_price;
+  attribution = attribution_in row.attribution;
+}
 
 -- an order of the list, where distances are from this first reference
 abbrev pub order_at : ℕ → RisenRow → Order

@@ -72,6 +72,7 @@ impl<A: Allocator + Copy> Book<A> {
 
     /// The order that lives under a reference, as [`Book::reduce_found`], [`Book::remove_found`] and
     /// [`Book::replace_found`] take it, so that it isn't looked for twice.
+    #[inline(always)]
     pub fn find(&self, reference: u64) -> Option<Found>
         ensures { row_found result ≡ maps.get self.now reference }
     {
@@ -105,6 +106,7 @@ impl<A: Allocator + Copy> Book<A> {
 
     /// Adds an order that has shares, under a reference that isn't live, to a book of fewer than 2^32 - 1 orders.
     /// An error leaves the book as it was.
+    #[inline(always)]
     pub fn add(&mut self, order: Order) -> Result<(), AllocError>
         requires new { order_in self.old order.reference ≡ None }
         requires some { 1 ≤ order.shares }
@@ -191,6 +193,7 @@ impl<A: Allocator + Copy> Book<A> {
     }
 
     /// The same, of an order that was found.
+    #[inline(always)]
     pub fn remove_found(&mut self, reference: u64, found: Found)
         requires { maps.get self.old reference ≡ Some found.row }
         ensures { self.new ≡ maps.remove self.old reference }

@@ -2,7 +2,7 @@
 ghost use Rattle.std.specs.Prelude.{◌≡◌, ◌+◌, ◌<◌, ◌≤◌, ◌^◌, IfErr, IfOk, OnOk};
 ghost use Rattle.std.specs.FinMap as maps;
 ghost use Rattle.itch_table.specs.Levels.{first_level};
-ghost use Rattle.order_book.specs.Kept.{AreInOrder, IsFound, IsGap, shown, lowered, price_cmp, raised, shares_on};
+ghost use Rattle.order_book.specs.Kept.{AreInOrder, IsFound, IsGap, shown, lowered, price_cmp, raised, rank, shares_on};
 
 use itch_table::{Level, Side};
 use std::alloc::{AllocError, Allocator};
@@ -58,6 +58,16 @@ fn compare(side: Side, price: u32, other: u32) -> Ordering
     }
 }
 
+// A price's rank on its side, by which near levels are compared: for either side it is the same few instructions.
+fn rank(side: Side, price: u32) -> u32
+    ensures { result ≡ rank side price }
+{
+    match side {
+        Side::Buy => price,
+        Side::Sell => u32::MAX - price,
+    }
+}
+
 // The same as `index_of`, by binary search.
 fn search(levels: &[Level], side: Side, price: u32) -> Result<usize, usize>
     requires { AreInOrder side levels.now }
@@ -78,11 +88,14 @@ fn index_of(levels: &[Level], side: Side, price: u32) -> Result<usize, usize>
         if end == 0 {
             return Err(0);
         }
-        match compare(side, levels[end - 1].price, price) {
-            Ordering::Less => return Err(end),
-            Ordering::Equal => return Ok(end - 1),
-            Ordering::Greater => end -= 1,
+        let other = levels[end - 1].price;
+        if other == price {
+            return Ok(end - 1);
         }
+        if rank(side, other) < rank(side, price) {
+            return Err(end);
+        }
+        end -= 1;
     }
     search(levels, side, price)
 }
@@ -152,6 +165,7 @@ impl<A: Allocator + Copy> Ladder<A> {
     }
 
     /// Adds shares at a price, at least one, where there is room for one more level.
+    #[inline(always)]
     pub fn raise(&mut self, price: u32, shares: u32)
         requires some { 1 ≤ shares }
         requires room { 1 ≤ self.old.room }
@@ -167,6 +181,7 @@ impl<A: Allocator + Copy> Ladder<A> {
     }
 
     /// Takes shares off a price that has at least that many. A level with none left is gone.
+    #[inline(always)]
     pub fn lower(&mut self, price: u32, shares: u32)
         requires { shares ≤ shares_on self.old.levels price }
         ensures side { self.new.side ≡ self.old.side }

@@ -96,6 +96,7 @@ impl<A: Allocator + Copy> Levels<A> {
     }
 
     /// Makes room for one more level of a side.
+    #[inline(always)]
     pub fn reserve(&mut self, side: Side) -> Result<(), AllocError>
         ensures same { SameLevels self.old self.new }
         ensures room { OnOk result (1 ≤ room_on self.new side) }
@@ -107,6 +108,7 @@ impl<A: Allocator + Copy> Levels<A> {
     }
 
     /// Adds shares to a side at a price, at least one, where there is room for one more level.
+    #[inline(always)]
     pub fn raise(&mut self, side: Side, price: u32, shares: u32)
         requires some { 1 ≤ shares }
         requires room { 1 ≤ room_on self.old side }
@@ -120,6 +122,7 @@ impl<A: Allocator + Copy> Levels<A> {
     }
 
     /// Takes shares off a side at a price that has at least that many. A level with none left is gone.
+    #[inline(always)]
     pub fn lower(&mut self, side: Side, price: u32, shares: u32)
         requires { shares ≤ shares_on (levels_on self.old side) price }
         ensures { AreChanged self.old self.new side (λ levels. lowered levels price shares) }

@@ -5,22 +5,69 @@ ghost use Rattle.std.specs.Bool.{IsTrue};
 ghost use Rattle.std.specs.FinMap as maps;
 ghost use Rattle.itch_table.specs.Machine.{row_found};
 ghost use Rattle.order_book.specs.Orders.{added, orders_in, reduced_by};
-ghost use Rattle.order_book.specs.Parts.{AreRising, IsAbove, IsBelow, IsFirst, IsLiveAt, has_shares, live_in, order_at, without_distance};
+ghost use Rattle.order_book.specs.Parts.{AreRising, IsAbove, IsBelow, IsFirst, IsLiveAt, attribution_in, has_shares, live_in, order_at, price_in, side_in, without_distance};
 
 use itch_table::{Found, Order, OrderRow, Side};
 use std::alloc::{AllocError, Allocator};
 use std::marker::Model;
 
-// An order of the list. Its fields stand from the widest to the narrowest, so that it takes 20 bytes, and a search
-// reads few lines of memory.
+// The mark of an ask, which is added to its price.
+const ASK_MARK: u32 = 1 << 31;
+
+// An order of the list, in 16 bytes, so that a search reads few lines of memory. Its side stands in the highest bit of
+// the price, and four zero bytes stand for no attribution: orders of a higher price, or with that attribution, which no
+// real day has, aren't in the list. Nasdaq TotalView-ITCH 5.0, "Data Types", has prices of at most 200,000.0000.
 #[derive(Clone, Copy)]
 struct RisenRow {
     // How far its reference is above the first.
     distance: u32,
     shares: u32,
-    price: u32,
-    side: Side,
-    attribution: Option<[u8; 4]>,
+    // The price, marked where the order is an ask.
+    marked_price: u32,
+    // Zeros where there is none.
+    attribution: [u8; 4],
+}
+
+// The side and the price of a price that is marked.
+fn side_and_price(marked: u32) -> (Side, u32)
+    ensures side { result.0 ≡ side_in marked }
+    ensures price { result.1 ≡ price_in marked }
+{
+    if marked < ASK_MARK {
+        (Side::Buy, marked)
+    } else {
+        (Side::Sell, marked - ASK_MARK)
+    }
+}
+
+// A price with the mark of its side, where it is below that mark.
+fn marked_price(side: Side, price: u32) -> Option<u32>
+    ensures { IfSome result (λ marked. (side_in marked ≡ side) × (price_in marked ≡ price)) }
+{
+    if price >= ASK_MARK {
+        return None;
+    }
+    match side {
+        Side::Buy => Some(price),
+        Side::Sell => Some(price + ASK_MARK),
+    }
+}
+
+// The attribution that four bytes stand for.
+fn attribution_in(bytes: [u8; 4]) -> Option<[u8; 4]>
+    ensures { result ≡ attribution_in bytes }
+{
+    if bytes == [0; 4] { None } else { Some(bytes) }
+}
+
+// The four bytes that stand for an attribution, where it isn't zeros itself.
+fn attribution_bytes(attribution: Option<[u8; 4]>) -> Option<[u8; 4]>
+    ensures { IfSome result (λ bytes. attribution_in bytes ≡ attribution) }
+{
+    match attribution {
+        Some(bytes) => { if bytes == [0; 4] { None } else { Some(bytes) } }
+        None => Some([0; 4]),
+    }
 }
 
 impl RisenRow {
@@ -28,11 +75,12 @@ impl RisenRow {
     fn row(self) -> OrderRow
         ensures { result ≡ without_distance self }
     {
+        let (side, price) = side_and_price(self.marked_price);
         OrderRow {
             shares: self.shares,
-            price: self.price,
-            side: self.side,
-            attribution: self.attribution,
+            price,
+            side,
+            attribution: attribution_in(self.attribution),
         }
     }
 
@@ -97,7 +145,7 @@ fn first_with(first: u64, rows: &[RisenRow], reference: u64) -> u64
     }
 }
 
-// The row of an order, where its distance from the first reference fits.
+// The row of an order, where its distance from the first reference fits, and its price and attribution do.
 fn risen_from(first: u64, order: Order) -> Option<RisenRow>
     ensures { IfSome result (λ row. order_at first row ≡ order) }
 {
@@ -105,9 +153,8 @@ fn risen_from(first: u64, order: Order) -> Option<RisenRow>
     Some(RisenRow {
         distance: u32::try_from(distance).ok()?,
         shares: order.shares,
-        price: order.price,
-        side: order.side,
-        attribution: order.attribution,
+        marked_price: marked_price(order.side, order.price)?,
+        attribution: attribution_bytes(order.attribution)?,
     })
 }
 
@@ -130,6 +177,7 @@ struct Window {
 
 // Most messages are about orders that came late, so the search goes back from the last order by longer and longer
 // steps.
+#[inline(always)]
 fn window_of(rows: &[RisenRow], distance: u64) -> Window
     requires { AreRising rows.now }
     ensures bounds { (result.start ≤ result.end) × (result.end ≤ length rows.now) }
@@ -154,6 +202,7 @@ fn window_of(rows: &[RisenRow], distance: u64) -> Window
 
 // The index of the order that lives under a reference. The window is halved without a branch on what is found, which
 // goes either way as often: the processor would guess wrong at every second step.
+#[inline(always)]
 fn index_of(first: u64, rows: &[RisenRow], reference: u64) -> Option<usize>
     requires { AreRising rows.now }
     ensures found { IfSome result (IsLiveAt first rows.now reference) }
@@ -180,6 +229,7 @@ fn index_of(first: u64, rows: &[RisenRow], reference: u64) -> Option<usize>
 }
 
 // The same, where the order may stand at an index that an earlier search has found.
+#[inline(always)]
 fn index_near(first: u64, rows: &[RisenRow], reference: u64, hint: usize) -> Option<usize>
     requires { AreRising rows.now }
     ensures found { IfSome result (IsLiveAt first rows.now reference) }
@@ -207,6 +257,7 @@ impl<A: Allocator + Copy> RisingOrders<A> {
     }
 
     /// The order that lives under a reference.
+    #[inline(always)]
     pub fn find(&self, reference: u64) -> Option<Found>
         ensures { row_found result ≡ maps.get self.now reference }
     {
@@ -226,7 +277,7 @@ impl<A: Allocator + Copy> RisingOrders<A> {
     pub fn touch_rows(&self) -> u64 {
         let len = self.rows.len();
         let mut sum: u64 = 0;
-        for back in [1, 7, 15] {
+        for back in [1, 5, 12] {
             if let Some(row) = self.rows.get(len.saturating_sub(back)) {
                 sum = sum.wrapping_add(u64::from(row.distance));
             }
@@ -236,6 +287,7 @@ impl<A: Allocator + Copy> RisingOrders<A> {
 
     /// Adds an order that has shares, and returns true; or returns false where its reference isn't above those of all
     /// in the list, or is too far above the first. An error leaves the orders as they were.
+    #[inline(always)]
     pub fn push(&mut self, order: Order) -> Result<bool, AllocError>
         requires { 1 ≤ order.shares }
         ensures ok { IfOk result (λ rises. self.new ≡ (if rises then added self.old order else self.old)) }
@@ -254,6 +306,7 @@ impl<A: Allocator + Copy> RisingOrders<A> {
 
     /// Takes shares off the order under a reference, which has at least that many where it lives, and returns the order
     /// as it was. One with none left is gone. The hint is that of a search for it.
+    #[inline(always)]
     pub fn reduce(&mut self, reference: u64, hint: usize, shares: u32) -> Option<OrderRow>
         requires { IfSome (maps.get self.old reference) (λ row. shares ≤ row.shares) }
         ensures row { result ≡ maps.get self.old reference }
@@ -271,6 +324,7 @@ impl<A: Allocator + Copy> RisingOrders<A> {
     }
 
     /// Removes the order under a reference, and returns what it was. The hint is that of a search for it.
+    #[inline(always)]
     pub fn remove(&mut self, reference: u64, hint: usize) -> Option<OrderRow>
         ensures row { result ≡ maps.get self.old reference }
         ensures gone { self.new ≡ maps.remove self.old reference }

@@ -78,6 +78,7 @@ impl<A: Allocator + Copy> OrderTable<A> {
     }
 
     /// The order that lives under a reference.
+    #[inline(always)]
     pub fn find(&self, reference: u64) -> Option<Found>
         ensures { row_found result ≡ maps.get self.now reference }
     {
@@ -106,6 +107,7 @@ impl<A: Allocator + Copy> OrderTable<A> {
 
     /// Adds an order that has shares, under a reference that isn't live, to fewer than 2^32 orders. An error leaves
     /// the orders as they were.
+    #[inline(always)]
     pub fn insert(&mut self, order: Order) -> Result<(), AllocError>
         requires new { maps.get self.old order.reference ≡ None }
         requires some { 1 ≤ order.shares }
@@ -135,6 +137,7 @@ impl<A: Allocator + Copy> OrderTable<A> {
     }
 
     /// Removes a live order, and returns what it was. The hint is that of a search for it.
+    #[inline(always)]
     pub fn remove(&mut self, reference: u64, hint: usize) -> OrderRow
         requires { IsSome (maps.get self.old reference) }
         ensures row { maps.get self.old reference ≡ Some result }

@@ -1,4 +1,4 @@
-use Rattle.std.proofs.Common.{◌≡◌, ◌≤◌, Some, ap, arith, sym, ◌∙◌}
+use Rattle.std.proofs.Common.{◌≡◌, ◌≤◌, ap, arith}
 use Rattle.itch_table.specs.declared.order.OrderRow.{OrderRow}
 use Rattle.order_book.proofs.Counts.{no_more}
 use Rattle.order_book.proofs.Keeps.{kept_reduced, shares_among}

@@ -1,7 +1,6 @@
-use Rattle.std.proofs.Common.{◌≡◌, None, Option, ap, refl, sym, ◌∙◌}
-use Rattle.std.specs.FinMap.{from_entries, get}
+use Rattle.std.proofs.Common.{ap, refl, sym, ◌∙◌}
+use Rattle.std.specs.FinMap.{from_entries}
 use Rattle.itch_table.specs.Machine.{row_found}
-use Rattle.itch_table.specs.declared.order.Found.{Found}
 use Rattle.order_book.proofs.Joined.{from_some, from_others}
 use Rattle.order_book.proofs.RowViews.{get_row}
 use Rattle.order_book.proofs.table.OrderTable.find.Goals as goal
