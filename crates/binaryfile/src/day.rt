@@ -25,6 +25,14 @@ pub struct Limits {
     pub messages: u32,
 }
 
+// How many bytes after a place bytes are read ahead, how many of them, and how many bytes apart: two lines of memory,
+// which processors fetch together.
+const TOUCH_FROM: usize = 2048;
+
+const TOUCHES: usize = 16;
+
+const TOUCH_STEP: usize = 128;
+
 /// A whole file in memory, seen as its payloads in order, whether an end marker follows them, and its tail: the bytes
 /// after all that.
 #[derive(Drop)]
@@ -148,6 +156,20 @@ impl<A: Allocator> Day<A> {
         ensures near { IsPlace self.now.payloads near.new }
     {
         payload_near(&self.bytes, &self.starts, near, number - 1)
+    }
+
+    /// Reads bytes that stand a little after a place, so that the processor has fetched that memory when a caller comes
+    /// there. It changes nothing, and what it returns means nothing: it is there to be used, so that the reads aren't
+    /// left out.
+    pub fn touch_after(&self, near: &Place) -> u64 {
+        let start = near.at.saturating_add(TOUCH_FROM);
+        let mut sum: u64 = 0;
+        for step in 0..TOUCHES {
+            if let Some(byte) = self.bytes.get(start.saturating_add(step * TOUCH_STEP)) {
+                sum = sum.wrapping_add(u64::from(*byte));
+            }
+        }
+        sum
     }
 
     /// All payloads in their order, borrowed and not copied.
