@@ -1,9 +1,8 @@
 -- The references that orders have had, along the messages of a day.
-use Rattle.std.proofs.Common.{◌≡◌, ◌==◌, ◌+◌, ◌-◌, ℕ, zero, suc, List, [], ◌∷◌, Option, Some, None, Bool, true, false, cond, refl, ap, sym, ◌∙◌, subst, arith}
-use Rattle.std.specs.Prelude.{is_some, slice_index_or}
+use Rattle.std.proofs.Common.{◌≡◌, ◌==◌, ◌+◌, ◌-◌, ℕ, zero, suc, List, [], ◌∷◌, Option, Some, None, Bool, true, false, cond, refl, subst, arith}
+use Rattle.std.specs.Prelude.{slice_index_or}
 use Rattle.std.specs.Option.{IsSome}
-use Rattle.std.specs.Ordering.{eq_by_cmp}
-use Rattle.std.specs.FinMap.{contains_key, get, insert, get-empty, get-insert, get-remove, get_tied}
+use Rattle.std.specs.FinMap.{contains_key}
 use Rattle.std.proofs.lemmas.Grind.{common_steps}
 use Rattle.itch_layouts.specs.Shapes.{shape_of}
 use Rattle.itch_layouts.specs.declared.message.Msg.{Msg}
@@ -18,21 +17,18 @@ use Rattle.itch_table.specs.declared.status.StockRow.{StockRow}
 use Rattle.itch_table.specs.declared.status.Trading.{Trading as TradingState}
 use Rattle.itch_table.specs.declared.trades.TradeRow.{TradeRow}
 use Rattle.itch_table.specs.After.{after}
+use Rattle.itch_table.specs.KeySets.{KeysAreIn}
 use Rattle.itch_table.specs.Spent.{LiveIsSpent, SpentStays, StepsKeepSpent}
 use Rattle.itch_table.specs.Table.{step, step_shape, checks, effect, first_fault, is_printable, listed, refuse_unless, result_of, with_new_order, with_order, without_order, less_shares, with_trade, set_trading, set_regsho}
-use Rattle.itch_table.specs.World.{World, key, key_cmp, live, stock_row}
+use Rattle.itch_table.specs.World.{World, key, live, stock_row}
 use Rattle.itch_table.proofs.Keys.{key_total}
-use Rattle.itch_table.proofs.MapViews.{tied}
+use Rattle.itch_table.proofs.KeysIn.{keys_insert, keys_of_none, keys_remove, keys_update}
 use Rattle.itch_table.proofs.SetViews.{contains_with}
-
--- every live order's reference is spent
-abbrev pub AllSpent : World → Type 0
-AllSpent w = (k : OrderKey) → is_some (get w.orders k) ≡ true → contains_key w.spent k ≡ true
 
 -- what is spent in a world is spent in the next one, and so are all live orders' references where they were before
 pub record Keeps (old new : World) : Type 0 where
   pub spent : (k : OrderKey) → contains_key old.spent k ≡ true → contains_key new.spent k ≡ true
-  pub live : AllSpent old → AllSpent new
+  pub live : KeysAreIn old.orders old.spent → KeysAreIn new.orders new.spent
 
 same_keeps : (w : World) → Keeps w w
 same_keeps w = record { spent = λ k h. h; live = λ all. all }
@@ -42,13 +38,13 @@ same_keeps w = record { spent = λ k h. h; live = λ all. all }
 new_keeps : (w : World) (l r : ℕ) (row : OrderRow) → Keeps w (with_new_order w l r row)
 new_keeps w l r row = record {
   spent = λ k h. grind (arith, common_steps, contains_with key_total w.spent (key l r) k);
-  live = λ all k lives. grind (arith, common_steps, contains_with key_total w.spent (key l r) k, get-insert key_total w.orders (key l r) row k, all k);
+  live = λ all. keys_insert key_total w.orders w.spent all (key l r) row;
 }
 
 removed_keeps : (w : World) (l r : ℕ) → Keeps w (without_order w l r)
 removed_keeps w l r = record {
   spent = λ k h. h;
-  live = λ all k lives. grind (arith, common_steps, get-remove key_total w.orders (key l r) k, all k);
+  live = λ all. keys_remove key_total w.orders w.spent all (key l r);
 }
 
 less_keeps : (w : World) (l r : ℕ) (row : OrderRow) (shares : ℕ) → IsSome (live w l r) → Keeps w (less_shares w l r row shares)
@@ -56,7 +52,7 @@ less_keeps w l r row shares lives = elim (row.shares == shares) as (λ (b : Bool
   | true ↦ removed_keeps w l r
   | false ↦ record {
     spent = λ k h. h;
-    live = λ all k some. at all k some (eq_by_cmp key_cmp k (key l r)) refl;
+    live = λ all. keys_update key_total w.orders w.spent all (key l r) less lives;
   }
 ]
   where
@@ -65,14 +61,6 @@ less_keeps w l r row shares lives = elim (row.shares == shares) as (λ (b : Bool
 
     less_by : Bool → World
     less_by b = cond b (without_order w l r) (with_order w l r less)
-
-    here : (all : AllSpent w) (k : OrderKey) (b : Bool) → eq_by_cmp key_cmp k (key l r) ≡ b → b ≡ true → contains_key w.spent k ≡ true
-    here all k b ties is =
-        all k (ap is_some (sym (get_tied key_total w.orders k (key l r) (tied key_cmp k (key l r) (ties ∙ is)))) ∙ lives)
-
-    at : (all : AllSpent w) (k : OrderKey) → is_some (get (insert w.orders (key l r) less) k) ≡ true → (b : Bool) → eq_by_cmp key_cmp k (key l r) ≡ b → contains_key w.spent k ≡ true
-    at all k some true ties = here all k true ties refl
-    at all k some false ties = all k (sym (ap is_some (get-insert key_total w.orders (key l r) less k ∙ ap (λ (b : Bool). cond b (Some less) (get w.orders k)) ties)) ∙ some)
 
 -- a trade more changes neither
 traded_keeps : (v w : World) (l : ℕ) (trade : TradeRow) → Keeps v w → Keeps v (with_trade w l trade)
@@ -150,9 +138,9 @@ spent_stays day locate reference m n le spent =
     let same : (n - m) + m ≡ n = omega arith in
     subst (λ (k : ℕ). contains_key (after day k).spent (key locate reference) ≡ true) same (later day (key locate reference) m (n - m) spent)
 
-all_spent : (day : List (List ℕ)) (n : ℕ) → AllSpent (after day n)
+all_spent : (day : List (List ℕ)) (n : ℕ) → KeysAreIn (after day n).orders (after day n).spent
 unfolding after
-all_spent day zero = λ k lives. let none = get-empty {X = OrderRow} key_cmp k in cc
+all_spent day zero = keys_of_none OrderRow _
 all_spent day (suc n) = (step_keeps (after day n) (slice_index_or day n [])).live (all_spent day n)
 
 pub live_is_spent : LiveIsSpent

@@ -58,21 +58,19 @@ fn has_shares(shares: u32) -> Result<(), Fault>
     refuse_unless(shares != 0, Fault::ZeroShares)
 }
 
-// No order lives under the reference.
-fn is_new<S: Store>(store: &S, locate: u16, reference: u64) -> Result<(), Fault>
+// No order lives under the reference, and none has had it. Where it is fresh, no order is looked for.
+fn is_new_reference<S: Store>(store: &S, locate: u16, reference: u64) -> Result<(), Fault>
     requires { Holds (S.held store.now) locate }
-    ensures { result_err result ≡ is_new (S.held store.now).world locate reference }
+    ensures { let w = (S.held store.now).world in
+        result_err result ≡ first_fault (is_new w locate reference ∷ is_unspent w locate reference ∷ []) }
 {
-    let found = store.order(locate, reference);
-    refuse_unless(found.is_none(), Fault::ReferenceInUse)
-}
-
-// No order has had the reference.
-fn is_unspent<S: Store>(store: &S, locate: u16, reference: u64) -> Result<(), Fault>
-    requires { Holds (S.held store.now) locate }
-    ensures { result_err result ≡ is_unspent (S.held store.now).world locate reference }
-{
-    refuse_unless(!store.spent(locate, reference), Fault::ReferenceSpent)
+    if store.is_fresh(locate, reference) {
+        return Ok(());
+    }
+    match store.order(locate, reference) {
+        Some(_) => Err(Fault::ReferenceInUse),
+        None => Err(Fault::ReferenceSpent),
+    }
 }
 
 // An order lives under the reference.
@@ -154,8 +152,7 @@ pub(crate) fn check_add<S: Store>(
 {
     check_side(store, locate, stock, side)?;
     has_shares(shares)?;
-    is_new(store, locate, reference)?;
-    is_unspent(store, locate, reference)
+    is_new_reference(store, locate, reference)
 }
 
 /// The checks of a message that takes shares off an order, which find that order.
@@ -221,8 +218,7 @@ pub(crate) fn check_replace<S: Store>(
 {
     listed(store, head.locate)?;
     let found = is_live(store, head.locate, replace.reference)?;
-    is_new(store, head.locate, replace.new_reference)?;
-    is_unspent(store, head.locate, replace.new_reference)?;
+    is_new_reference(store, head.locate, replace.new_reference)?;
     has_shares(replace.shares)?;
     Ok(found)
 }

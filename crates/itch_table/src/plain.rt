@@ -76,7 +76,7 @@ impl<A: Allocator + Copy> Plain<A> {
     pub fn spent(&self, locate: u16, reference: u64) -> bool
         ensures { result ≡ is_spent self.now.world locate reference }
     {
-        self.rows.spent(locate, reference)
+        self.rows.is_spent(locate, reference)
     }
 
     /// What is known of a stock beside its book.

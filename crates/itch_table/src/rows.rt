@@ -67,6 +67,13 @@ impl<A: Allocator + Copy> Rows<A> {
         self.event
     }
 
+    /// Whether an order of a stock has had a reference.
+    pub fn is_spent(&self, locate: u16, reference: u64) -> bool
+        ensures { result ≡ is_spent self.now locate reference }
+    {
+        self.spent.contains(&OrderKey { locate, reference })
+    }
+
     // Sets an order, which may need a new row.
     fn set_order(&mut self, locate: u16, reference: u64, row: OrderRow) -> Result<(), AllocError>
         ensures ok { OnOk result (self.new ≡ with_order self.old locate reference row) }
@@ -182,8 +189,8 @@ impl<A: Allocator + Copy> Store for Rows<A> {
         Some(Found { row, hint: 0 })
     }
 
-    fn spent(&self, locate: u16, reference: u64) -> bool {
-        self.spent.contains(&OrderKey { locate, reference })
+    fn is_fresh(&self, locate: u16, reference: u64) -> bool {
+        !self.is_spent(locate, reference) && self.order(locate, reference).is_none()
     }
 
     fn has_unbroken(&self, locate: u16, match_no: u64) -> bool {

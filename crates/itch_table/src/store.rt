@@ -2,7 +2,7 @@
 ghost use Rattle.std.specs.Prelude.{◌≡◌, ◌≤◌, ◌<◌, false, Some, None, map, IsSome, OnOk, OnErr};
 ghost use Rattle.std.specs.List.{list_any};
 ghost use Rattle.std.specs.Option.{option_copied};
-ghost use Rattle.itch_table.specs.World.{is_spent, live, stock_row};
+ghost use Rattle.itch_table.specs.World.{is_fresh, is_spent, live, stock_row};
 ghost use Rattle.itch_table.specs.Held.{Held, Holds, on_world};
 ghost use Rattle.itch_table.specs.Machine.{row_found};
 ghost use Rattle.itch_table.specs.Table.{less_shares, with_new_order, with_replaced, with_stock, with_trade, without_order};
@@ -33,10 +33,10 @@ pub trait Store {
         requires { Holds (held self.now) locate }
         ensures { row_found result ≡ live (held self.now).world locate reference };
 
-    /// Whether an order of a stock has had a reference.
-    fn spent(&self, locate: u16, reference: u64) -> bool
+    /// Whether no order of a stock lives under a reference, and none has had it.
+    fn is_fresh(&self, locate: u16, reference: u64) -> bool
         requires { Holds (held self.now) locate }
-        ensures { result ≡ is_spent (held self.now).world locate reference };
+        ensures { result ≡ is_fresh (held self.now).world locate reference };
 
     /// Whether a stock has an unbroken trade with this match number.
     fn has_unbroken(&self, locate: u16, match_no: u64) -> bool

@@ -1,6 +1,7 @@
 pub mod Breaking
 pub mod KeptTrades
 pub mod Keyed
+pub mod LiveSpent
 pub mod Owned
 pub mod OwnRows
 pub mod Places

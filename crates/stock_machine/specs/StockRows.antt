@@ -4,7 +4,7 @@ use Rattle.std.specs.Ordering.{nat_cmp}
 use Rattle.std.specs.FinMap as maps
 use Rattle.std.specs.FinMap.{FinMap}
 use Rattle.itch_table.specs.Held.{Held, one_stock}
-use Rattle.itch_table.specs.KeySets.{KeySet}
+use Rattle.itch_table.specs.KeySets.{KeySet, KeysAreIn}
 use Rattle.itch_table.specs.World.{World, key, key_cmp}
 use Rattle.itch_table.specs.declared.status.StockRow.{StockRow}
 use Rattle.itch_table.specs.declared.trades.TradeRow.{TradeRow}
@@ -40,6 +40,10 @@ stock_rows locate orders spent trades known = record {
     event = None;
   };
 }
+
+-- each live order's reference is spent
+abbrev pub LiveAreSpent : Orders → KeySet nat_cmp → Type 0
+LiveAreSpent orders spent = KeysAreIn orders spent
 
 -- the rows of the one stock
 abbrev pub held_by_one : StockRows → Held

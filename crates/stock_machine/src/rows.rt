@@ -27,13 +27,16 @@ pub(crate) struct Rows<A: Allocator> {
 impl<A: Allocator> Model for Rows<A> {
     ghost use Rattle.std.specs.Coded.{codes};
     ghost use Rattle.itch_table.specs.CodedWorld.{coded_world};
-    ghost use Rattle.stock_machine.specs.StockRows.{StockRows, stock_rows};
+    ghost use Rattle.stock_machine.specs.StockRows.{LiveAreSpent, StockRows, stock_rows};
 
     ghost Value = { StockRows };
 
     ghost coded = { Prim.hlevel (codes, coded_world) };
 
     ghost view = { λ r. stock_rows r.locate r.book r.spent r.trades r.known };
+
+    // So no order lives under a reference that isn't spent.
+    ghost invariant = { λ r. LiveAreSpent r.book r.spent };
 }
 
 impl<A: Allocator + Copy> Rows<A> {
@@ -167,12 +170,14 @@ impl<A: Allocator + Copy> Store for Rows<A> {
         self.known.as_ref()
     }
 
+    #[inline(always)]
     fn order(&self, _locate: u16, reference: u64) -> Option<Found> {
         self.book.find(reference)
     }
 
-    fn spent(&self, _locate: u16, reference: u64) -> bool {
-        self.spent.contains(reference)
+    #[inline(always)]
+    fn is_fresh(&self, _locate: u16, reference: u64) -> bool {
+        !self.spent.contains(reference)
     }
 
     fn has_unbroken(&self, _locate: u16, match_no: u64) -> bool {
@@ -190,6 +195,7 @@ impl<A: Allocator + Copy> Store for Rows<A> {
         self.known = Some(row);
     }
 
+    #[inline(always)]
     fn add_order(&mut self, _locate: u16, reference: u64, row: OrderRow) -> Result<(), AllocError> {
         self.spent.insert(reference)?;
         match self.book.add(row.under(reference)) {

@@ -81,6 +81,7 @@ fn is_one_of(distances: &[u32], distance: u32) -> bool
 }
 
 // Whether a reference is one of those that rose.
+#[inline(always)]
 fn has_risen(first: u64, distances: &[u32], reference: u64) -> bool
     requires { IsStrictlyIncreasing distances.now }
     ensures { result ≡ list_any (is_at (nat_cmp reference)) (risen first distances.now) }
@@ -118,6 +119,7 @@ impl<A: Allocator + Copy> SpentReferences<A> {
     }
 
     /// Whether an order has had a reference.
+    #[inline(always)]
     pub fn contains(&self, reference: u64) -> bool
         ensures { result ≡ maps.contains_key self.now reference }
     {
@@ -138,6 +140,7 @@ impl<A: Allocator + Copy> SpentReferences<A> {
     }
 
     /// Adds a reference. An error leaves the references as they were.
+    #[inline(always)]
     pub fn insert(&mut self, reference: u64) -> Result<(), AllocError>
         ensures ok { OnOk result (self.new ≡ with_key self.old reference) }
         ensures err { OnErr result (self.new ≡ self.old) }

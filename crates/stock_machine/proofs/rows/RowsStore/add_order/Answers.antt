@@ -7,6 +7,7 @@ use Rattle.itch_table.specs.World.{order_under}
 use Rattle.order_book.specs.Orders.{added, order_in}
 use Rattle.stock_machine.specs.StockRows.{StockRows}
 use Rattle.stock_machine.proofs.Keyed.{live_keyed, len_keyed}
+use Rattle.stock_machine.proofs.LiveSpent.{added_spent, taken_back_spent}
 use Rattle.stock_machine.proofs.Owned.{held_insert, held_taken_back}
 use Rattle.stock_machine.proofs.OwnRows.{spent_own}
 use Rattle.stock_machine.proofs.rows.RowsStore.add_order.Goals as goal
@@ -38,3 +39,16 @@ returns-in-Err-clause-err g c =
     rw (← c.self.view_is) (
     held_taken_back i.locate i.book i.spent i.trades i.known c.args.reference _ _ _ unspent c.in-Err.ensures.err c.in_ok-insert.ensures.ok c.remove.ensures
     )
+
+pub invariant_of-self-in-Ok : goal.invariant_of-self-in-Ok
+invariant_of-self-in-Ok g c =
+    let i = c.self.inside in
+    added_spent i.book i.spent c.self.invariant c.args.reference c.args.row _ _
+    (c.in-Ok.ensures.ok ∙ ap (λ (order : Order). added i.book order) c.under.ensures) c.in_ok-insert.ensures.ok
+
+pub invariant_of-self-in-Err : goal.invariant_of-self-in-Err
+invariant_of-self-in-Err g c =
+    let here : c.args._locate ≡ c.args.self.now.locate = c.requires.here in
+    let i = c.self.inside in
+    let unspent = sym (spent_own i.locate i.book i.spent i.trades i.known c.args.reference) ∙ (rw (here, ← c.self.view_is) at c.requires.unspent) in
+    taken_back_spent i.book i.spent c.self.invariant c.args.reference _ _ _ unspent c.in-Err.ensures.err c.in_ok-insert.ensures.ok c.remove.ensures

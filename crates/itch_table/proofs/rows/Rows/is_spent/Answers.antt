@@ -2,7 +2,7 @@ use Rattle.std.proofs.Common.{ap, sym, ◌∙◌}
 use Rattle.itch_table.specs.World.{World, is_spent, key}
 use Rattle.itch_table.proofs.Keys.{key_total}
 use Rattle.itch_table.proofs.SetViews.{contains_set}
-use Rattle.itch_table.proofs.rows.RowsStore.spent.Goals as goal
+use Rattle.itch_table.proofs.rows.Rows.is_spent.Goals as goal
 
 pub returns : goal.returns
 returns g c =
