@@ -268,7 +268,7 @@ impl<'p, A: Allocator + Copy> Runner<'p, A> {
     pub fn touch_ahead(&self) -> u64 {
         let mut sum = self.parts.day().touch_after(&self.near);
         for found in &self.farther {
-            sum = sum.wrapping_add(self.stocks[found.index].touch(found.payload));
+            sum = sum.wrapping_add(self.stocks[found.index].touch());
         }
         sum
     }
@@ -278,7 +278,7 @@ impl<'p, A: Allocator + Copy> Runner<'p, A> {
     pub fn touch_rows_ahead(&self) -> u64 {
         let mut sum: u64 = 0;
         for found in &self.ahead {
-            sum = sum.wrapping_add(self.stocks[found.index].touch_rows(found.payload));
+            sum = sum.wrapping_add(self.stocks[found.index].touch_rows());
         }
         sum
     }

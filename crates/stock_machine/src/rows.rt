@@ -15,8 +15,8 @@ use std::marker::Model;
 /// A stock's live orders, the references that they have had, its trades, and what is known of it.
 #[derive(Drop)]
 pub(crate) struct Rows<A: Allocator> {
-    // What is read ahead for every message stands first, in few lines of memory. Then comes what executions read, and
-    // last what new orders read.
+    // What every message reads stands first, in few lines of memory. Then comes what executions read, and last what new
+    // orders read.
     book: Book<A>,
     known: Option<StockRow>,
     locate: u16,
@@ -68,27 +68,17 @@ impl<A: Allocator + Copy> Rows<A> {
         self.book.order(reference)
     }
 
-    /// Reads what stands in the value itself and a message is likely to need. What it returns means nothing.
-    pub fn touch(&self, payload: &[u8]) -> u64 {
-        let all = self
-            .book
+    /// Reads what stands in the value itself and most messages need. What it returns means nothing.
+    pub fn touch(&self) -> u64 {
+        self.book
             .touch()
-            .wrapping_add(u64::from(self.known.is_some()));
-        match payload {
-            [b'A' | b'F' | b'U', ..] => all.wrapping_add(self.spent.touch()),
-            [b'E' | b'C' | b'P', ..] => all.wrapping_add(self.trades.touch()),
-            _ => all,
-        }
+            .wrapping_add(u64::from(self.known.is_some()))
+            .wrapping_add(self.spent.touch())
     }
 
-    /// Reads rows that a message is likely to look for first. What it returns means nothing.
-    pub fn touch_rows(&self, payload: &[u8]) -> u64 {
-        let all = self.book.touch_rows();
-        match payload {
-            [b'A' | b'F' | b'U', ..] => all.wrapping_add(self.spent.touch_rows()),
-            [b'E' | b'C' | b'P', ..] => all.wrapping_add(self.trades.touch_rows()),
-            _ => all,
-        }
+    /// Reads rows that most messages look for first. What it returns means nothing.
+    pub fn touch_rows(&self) -> u64 {
+        self.book.touch_rows().wrapping_add(self.spent.touch_rows())
     }
 
     /// Whether an order has had a reference.

@@ -69,16 +69,16 @@ impl<A: Allocator + Copy> Stock<A> {
         self.steps
     }
 
-    /// Reads what stands in the machine itself and a message is likely to need, so that the processor has fetched that
-    /// memory when the message comes. It changes nothing, and what it returns means nothing: it is there to be used, so
-    /// that the reads aren't left out.
-    pub fn touch(&self, payload: &[u8]) -> u64 {
-        self.rows.touch(payload).wrapping_add(u64::from(self.steps))
+    /// Reads what stands in the machine itself and most messages need, so that the processor has fetched that memory when
+    /// a message comes. It changes nothing, and what it returns means nothing: it is there to be used, so that the reads
+    /// aren't left out.
+    pub fn touch(&self) -> u64 {
+        self.rows.touch().wrapping_add(u64::from(self.steps))
     }
 
-    /// Reads rows that the message is likely to look for first, in the same way.
-    pub fn touch_rows(&self, payload: &[u8]) -> u64 {
-        self.rows.touch_rows(payload)
+    /// Reads rows that most messages look for first, in the same way.
+    pub fn touch_rows(&self) -> u64 {
+        self.rows.touch_rows()
     }
 
     /// The order that lives under a reference.

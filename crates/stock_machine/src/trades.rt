@@ -55,21 +55,6 @@ impl<A: Allocator> Trades<A> {
         self.totals
     }
 
-    /// Reads what stands in the value itself. What it returns means nothing.
-    pub fn touch(&self) -> u64 {
-        (self.rows.len() as u64)
-            .wrapping_add(self.totals.trades)
-            .wrapping_add(u64::from(self.rising))
-    }
-
-    /// Reads the last trade. What it returns means nothing.
-    pub fn touch_rows(&self) -> u64 {
-        match self.rows.last() {
-            Some(trade) => trade.match_no,
-            None => 0,
-        }
-    }
-
     /// Whether an unbroken trade has this match number.
     pub fn has_unbroken(&self, match_no: u64) -> bool
         ensures { result ≡ list_any (is_unbroken_trade match_no) self.now }
