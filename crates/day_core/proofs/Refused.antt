@@ -5,7 +5,6 @@ use Rattle.std.specs.List.Sorted.{IsNonDecreasing, IsNonDecreasingBy, IsPermutat
 use Rattle.std.proofs.Math.Bool.{or-false}
 use Rattle.std.proofs.lemmas.Bool.{cases_Bool, cases_eq, cases_lt, eq-eqb, le-ltb, lt-ltb, ne_eqb}
 use Rattle.std.proofs.lemmas.List.Sorted.{All-permutation, IsPermutation-append_left, IsPermutation-cons, IsPermutation-map, IsPermutation-middle, IsPermutation-refl, IsPermutation-sym, IsPermutation-trans, sum_by-IsPermutation}
-use Rattle.std.proofs.lemmas.List.FromFn.{get_or-range_with_len, length-range_with_len}
 use Rattle.std.proofs.lemmas.List.Kept.{AllPairs-from_increasing, IsStrictlyIncreasing-filter}
 use Rattle.std.proofs.lemmas.List.Sums.{sum_by-cons}
 use Rattle.std.proofs.lemmas.Nat.{mod_below}
@@ -23,6 +22,7 @@ use Rattle.itch_table.specs.Parts.{part_of_shape}
 use Rattle.itch_table.specs.Projection.{payload_at}
 use Rattle.itch_table.specs.Table.{result_of, step_shape}
 use Rattle.itch_table.specs.World.{World}
+use Rattle.itch_table.proofs.DayLocates.{range_rises}
 use Rattle.day_core.specs.declared.merging.Piece.{Piece}
 use Rattle.day_core.specs.Owners.{fixed_pieces, is_nowhere, is_own, own_of, owner, part_at, piece_of}
 use Rattle.day_core.specs.Replaying.{is_refused, refused_among, refused_by, refused_of}
@@ -225,11 +225,6 @@ no_fall xs rises i j d le lt = elim (cases_eq i j) [
   | inr differ ↦ omega (arith, AllPairs-from_increasing xs rises i j d (omega (arith, le, differ)) lt)
 ]
 
-range_rises : (n : ℕ) → IsStrictlyIncreasing (range_with_len 1 n)
-range_rises n k lt =
-    let short : k + 1 < n = omega (arith, lt, length-range_with_len 1 n) in
-    omega (arith, get_or-range_with_len 1 n k 0 (omega arith), get_or-range_with_len 1 n (k + 1) 0 short)
-
 module _ (day : List (List ℕ)) where
   abbrev number_of : Piece → ℕ
   number_of p = p.message
@@ -252,7 +247,7 @@ module _ (day : List (List ℕ)) where
       let named = map number_of pieces in
       let moved : IsPermutation numbers named = subst (λ (ns : List ℕ). IsPermutation ns named) (again numbers) (IsPermutation-map number_of (refused_of day) pieces has) in
       let same : numbers ≡ named = same_numbers numbers named
-      (no_fall numbers (IsStrictlyIncreasing-filter (refuses day) _ (range_rises (length day))))
+      (no_fall numbers (IsStrictlyIncreasing-filter (refuses day) _ (range_rises 1 (length day))))
       (λ i j d le lt.
       let long : j < length pieces = omega (arith, lt, length-map pieces number_of) in
       omega (arith, get_or-map number_of pieces i no_piece d (omega (arith, le, long)), get_or-map number_of pieces j no_piece d long, rise i j no_piece le long))

@@ -273,8 +273,8 @@ impl<'p, A: Allocator + Copy> Runner<'p, A> {
         sum
     }
 
-    /// Reads the rows that the worker's next messages are likely to need, in the same way: those of the messages that the
-    /// [`Runner::look_ahead`] before the last one found, whose machines were read then.
+    /// Reads the rows that the worker's next messages are likely to need, in the same way: those of the messages that
+    /// the [`Runner::look_ahead`] before the last one found, whose machines were read then.
     pub fn touch_rows_ahead(&self) -> u64 {
         let mut sum: u64 = 0;
         for found in &self.ahead {

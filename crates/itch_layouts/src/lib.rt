@@ -10,8 +10,8 @@
 //! }
 //! ```
 //!
-//! Code that acts on every message chooses by its kind, [`kind_of`], and takes the fields from the function of [`readers`]
-//! for that kind.
+//! Code that acts on every message chooses by its kind, [`kind_of`], and takes the fields from the function of
+//! [`readers`] for that kind.
 //!
 //! [`write_msg`] appends the payload of a message. [`layout_of_kind`] and [`layout_of_mnemonic`] look a layout up in
 //! the table, for code that walks the fields of every type alike.

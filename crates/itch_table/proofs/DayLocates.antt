@@ -24,7 +24,8 @@ use Rattle.itch_table.proofs.OneStock.{same_code}
 use Rattle.itch_table.proofs.PartsFit.{part_fits}
 use Rattle.itch_table.proofs.StockDays.{own_part, is_own_part, none_past, only-empty, rows_stand_still}
 
-range_rises : (a n : ℕ) → IsStrictlyIncreasing (range_with_len a n)
+-- numbers one after another rise
+pub range_rises : (a n : ℕ) → IsStrictlyIncreasing (range_with_len a n)
 range_rises a n k lt =
     let short : k + 1 < n = omega (arith, lt, length-range_with_len a n) in
     omega (arith, get_or-range_with_len a n k 0 (omega arith), get_or-range_with_len a n (k + 1) 0 short)

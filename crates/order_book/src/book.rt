@@ -17,8 +17,7 @@ use std::marker::Model;
 ///
 /// What the calls do is of Nasdaq TotalView-ITCH 5.0, "Add Order Message" and "Modify Order Messages"; levels are of
 /// this project. A book refuses nothing: its caller sees by [`Book::order`] that a reference is live, or isn't. Prices
-/// are in 1/10,000 of a currency unit. A call that returns a `Result` may take memory, and its only error is that
-/// memory was refused; no other call takes any.
+/// are in 1/10,000 of a currency unit. A call that returns a `Result` may take memory; no other call takes any.
 ///
 /// ```text
 /// let mut book = Book::new(alloc);

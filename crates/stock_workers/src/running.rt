@@ -130,7 +130,7 @@ fn gather<A: Allocator + Copy>(
 /// for any other. Every other message of a stock was applied, and those of no stock are in [`Parts::fixed`];
 /// [`outcomes_with`] puts together the outcomes of all.
 ///
-/// An error says that memory was refused, and the writers are gone then. It may wait at the gate, and for its threads.
+/// After an error the writers are gone. It may wait at the gate, and for its threads.
 pub fn summarize_parts<R: Threads + Wait + Sync, A: Allocator + Copy + Send + Sync, G: Gate>(
     rt: &R,
     alloc: A,
@@ -156,8 +156,8 @@ pub fn summarize_parts<R: Threads + Wait + Sync, A: Allocator + Copy + Send + Sy
     })
 }
 
-/// The same as [`run`], of a day that is split already: the caller passes its parts, one for each worker. An error says
-/// that memory was refused, and the writers are gone then.
+/// The same as [`run`], of a day that is split already: the caller passes its parts, one for each worker. After an error
+/// the writers are gone.
 pub fn run_parts<R: Threads + Wait + Sync, A: Allocator + Copy + Send + Sync, G: Gate>(
     rt: &R,
     alloc: A,

@@ -25,15 +25,15 @@ pub fn same_bytes(case: &str, found: &[u8], wanted: &[u8]) -> Result<(), Fail> {
     if found == wanted {
         return Ok(());
     }
-    let mut place = 0u64;
+    let mut index = 0u64;
     for (one, other) in found.iter().zip(wanted) {
         if one != other {
             break;
         }
-        place = place.wrapping_add(1);
+        index = index.wrapping_add(1);
     }
     Err(Fail::new(format_args!(
-        "{case}: found {} bytes and not {}, which differ first at byte {place}, counted from 0",
+        "{case}: found {} bytes and not {}, which differ first at byte {index}, counted from 0",
         found.len(),
         wanted.len()
     )))
