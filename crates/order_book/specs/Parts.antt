@@ -1,5 +1,5 @@
 -- The two parts in which a book keeps its orders: a list by rising reference, and the others.
-use Rattle.std.specs.Prelude.{◌≡◌, ℕ, ◌+◌, ◌-◌, ◌<◌, ◌≤◌, ◌^◌, ◌==◌, ◌++◌, nat_eq, nat_lt, if◌then◌else◌, Bool, not, List, [], ◌∷◌, length, map, Option, Some, None}
+use Rattle.std.specs.Prelude.{◌≡◌, ℕ, ◌+◌, ◌-◌, ◌<◌, ◌≤◌, ◌^◌, ◌==◌, ◌++◌, nat_eq, nat_lt, if◌then◌else◌, Bool, not, List, length, map, Option, Some, None}
 use Rattle.std.specs.Cmp.Lexicographic.{pointwise}
 use Rattle.std.specs.Ordering.{nat_cmp}
 use Rattle.std.specs.List.{filter, HoldsAt}
@@ -12,27 +12,24 @@ use Rattle.itch_table.specs.declared.order.Side.{Side}
 use Rattle.itch_table.specs.declared.order.Side.TheVariants.{Buy, Sell}
 use Rattle.itch_table.specs.World.{order_under, row_of}
 use Rattle.order_book.specs.declared.rising.RisenRow.{RisenRow}
+use Rattle.order_book.specs.declared.rising.TheConstants.{ASK_MARK, NO_ATTRIBUTION}
 use Rattle.order_book.specs.Orders.{Orders}
 
 -- a reference at any distance from the first fits 64 bits
 abbrev pub IsFirst : ℕ → Type 0
 IsFirst first = first + 2 ^ 32 ≤ 2 ^ 64
 
--- the mark of an ask, which is added to its price
-abbrev pub ask_mark : ℕ
-ask_mark = 2 ^ 31
-
 -- the side that a price is marked with
 abbrev pub side_in : ℕ → Side
-side_in marked = if nat_lt marked ask_mark then Buy else Sell
+side_in marked = if nat_lt marked ASK_MARK then Buy else Sell
 
 -- the price without the mark
 abbrev pub price_in : ℕ → ℕ
-price_in marked = if nat_lt marked ask_mark then marked else marked - ask_mark
+price_in marked = if nat_lt marked ASK_MARK then marked else marked - ASK_MARK
 
--- the attribution that four bytes stand for: none where all are zero
+-- the attribution that four bytes stand for
 abbrev pub attribution_in : List ℕ → Option (List ℕ)
-attribution_in bytes = if pointwise nat_eq bytes (0 ∷ 0 ∷ 0 ∷ 0 ∷ []) then None else Some bytes
+attribution_in bytes = if pointwise nat_eq bytes NO_ATTRIBUTION then None else Some bytes
 
 -- an order of the list, without its reference
 abbrev pub without_distance : RisenRow → OrderRow

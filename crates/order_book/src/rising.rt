@@ -14,6 +14,9 @@ use std::marker::Model;
 // The mark of an ask, which is added to its price.
 const ASK_MARK: u32 = 1 << 31;
 
+// The bytes that stand for no attribution.
+const NO_ATTRIBUTION: [u8; 4] = [0; 4];
+
 // An order of the list, in 16 bytes, so that a search reads few lines of memory. Its side stands in the highest bit of
 // the price, and four zero bytes stand for no attribution: orders of a higher price, or with that attribution, which no
 // real day has, aren't in the list. Nasdaq TotalView-ITCH 5.0, "Data Types", has prices of at most 200,000.0000.
@@ -24,7 +27,6 @@ struct RisenRow {
     shares: u32,
     // The price, marked where the order is an ask.
     marked_price: u32,
-    // Zeros where there is none.
     attribution: [u8; 4],
 }
 
@@ -57,16 +59,21 @@ fn marked_price(side: Side, price: u32) -> Option<u32>
 fn attribution_in(bytes: [u8; 4]) -> Option<[u8; 4]>
     ensures { result ≡ attribution_in bytes }
 {
-    if bytes == [0; 4] { None } else { Some(bytes) }
+    if bytes == NO_ATTRIBUTION {
+        None
+    } else {
+        Some(bytes)
+    }
 }
 
-// The four bytes that stand for an attribution, where it isn't zeros itself.
+// The four bytes that stand for an attribution, where it isn't those that stand for none.
 fn attribution_bytes(attribution: Option<[u8; 4]>) -> Option<[u8; 4]>
     ensures { IfSome result (λ bytes. attribution_in bytes ≡ attribution) }
 {
     match attribution {
-        Some(bytes) => { if bytes == [0; 4] { None } else { Some(bytes) } }
-        None => Some([0; 4]),
+        Some(bytes) if bytes == NO_ATTRIBUTION => None,
+        Some(bytes) => Some(bytes),
+        None => Some(NO_ATTRIBUTION),
     }
 }
 
