@@ -25,12 +25,13 @@ pub struct Limits {
     pub messages: u32,
 }
 
-// How many bytes after a place bytes are read ahead, how many of them, and how many bytes apart: two lines of memory,
-// which processors fetch together.
+// How far after a place bytes are read ahead, in bytes.
 const TOUCH_FROM: usize = 2048;
 
+// How many of them are read.
 const TOUCHES: usize = 16;
 
+// How many bytes apart: two lines of memory, which many processors fetch together.
 const TOUCH_STEP: usize = 128;
 
 /// A whole file in memory, seen as its payloads in order, whether an end marker follows them, and its tail: the bytes

@@ -263,7 +263,7 @@ impl<'p, A: Allocator + Copy> Runner<'p, A> {
     }
 
     /// Reads what the messages that the last [`Runner::look_ahead`] found are likely to need of their stocks' machines,
-    /// and payloads of messages after them, so that the processor has fetched that memory when their turns come. It
+    /// and the day's bytes a little after them, so that the processor has fetched that memory when their turns come. It
     /// changes nothing, and what it returns means nothing: it is there to be used, so that the reads aren't left out.
     pub fn touch_ahead(&self) -> u64 {
         let mut sum = self.parts.day().touch_after(&self.near);

@@ -58,7 +58,8 @@ fn has_shares(shares: u32) -> Result<(), Fault>
     refuse_unless(shares != 0, Fault::ZeroShares)
 }
 
-// No order lives under the reference, and none has had it. Where it is fresh, no order is looked for.
+// No order lives under the reference, and none has had it. An order is looked for only to tell which of the two faults
+// it is.
 fn is_new_reference<S: Store>(store: &S, locate: u16, reference: u64) -> Result<(), Fault>
     requires { Holds (S.held store.now) locate }
     ensures { let w = (S.held store.now).world in

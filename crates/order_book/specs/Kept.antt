@@ -47,7 +47,7 @@ abbrev pub price_cmp : Side → ℕ → ℕ → Ordering
 price_cmp Buy price other = nat_cmp price other
 price_cmp Sell price other = nat_cmp other price
 
--- a price's rank on its side: a better price has a higher one
+-- a price's rank on its side: of two prices of 32 bits the better one has the higher rank
 abbrev pub rank : Side → ℕ → ℕ
 rank Buy price = price
 rank Sell price = 2 ^ 32 - 1 - price

@@ -58,7 +58,8 @@ fn compare(side: Side, price: u32, other: u32) -> Ordering
     }
 }
 
-// A price's rank on its side, by which near levels are compared: for either side it is the same few instructions.
+// A price's rank on its side, where a better price has a higher one: near levels are compared by it without a branch on
+// the side.
 fn rank(side: Side, price: u32) -> u32
     ensures { result ≡ rank side price }
 {

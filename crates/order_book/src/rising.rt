@@ -18,8 +18,9 @@ const ASK_MARK: u32 = 1 << 31;
 const NO_ATTRIBUTION: [u8; 4] = [0; 4];
 
 // An order of the list, in 16 bytes, so that a search reads few lines of memory. Its side stands in the highest bit of
-// the price, and four zero bytes stand for no attribution: orders of a higher price, or with that attribution, which no
-// real day has, aren't in the list. Nasdaq TotalView-ITCH 5.0, "Data Types", has prices of at most 200,000.0000.
+// its price, and four zero bytes stand for no attribution. A row can't have a price that needs that bit, which Nasdaq's
+// don't: they are at most 200,000.0000 (TotalView-ITCH 5.0, "Data Types"). Nor can it have an attribution of these
+// bytes, which name nobody.
 #[derive(Clone, Copy)]
 struct RisenRow {
     // How far its reference is above the first.
@@ -30,7 +31,7 @@ struct RisenRow {
     attribution: [u8; 4],
 }
 
-// The side and the price of a price that is marked.
+// The side and the price that a row's marked price stands for.
 fn side_and_price(marked: u32) -> (Side, u32)
     ensures side { result.0 ≡ side_in marked }
     ensures price { result.1 ≡ price_in marked }
@@ -42,7 +43,7 @@ fn side_and_price(marked: u32) -> (Side, u32)
     }
 }
 
-// A price with the mark of its side, where it is below that mark.
+// The marked price of an order, where its price is below the mark of asks.
 fn marked_price(side: Side, price: u32) -> Option<u32>
     ensures { IfSome result (λ marked. (side_in marked ≡ side) × (price_in marked ≡ price)) }
 {
@@ -284,7 +285,7 @@ impl<A: Allocator + Copy> RisingOrders<A> {
     pub fn touch_rows(&self) -> u64 {
         let len = self.rows.len();
         let mut sum: u64 = 0;
-        for back in [1, 5, 12] {
+        for back in [1, 7, 15] {
             if let Some(row) = self.rows.get(len.saturating_sub(back)) {
                 sum = sum.wrapping_add(u64::from(row.distance));
             }
@@ -293,7 +294,8 @@ impl<A: Allocator + Copy> RisingOrders<A> {
     }
 
     /// Adds an order that has shares, and returns true; or returns false where its reference isn't above those of all
-    /// in the list, or is too far above the first. An error leaves the orders as they were.
+    /// in the list, or is too far above the first, or where a row can't have its price or its attribution. An error
+    /// leaves the orders as they were.
     #[inline(always)]
     pub fn push(&mut self, order: Order) -> Result<bool, AllocError>
         requires { 1 ≤ order.shares }

@@ -15,8 +15,9 @@ use std::marker::Model;
 /// The live orders of one stock, each under its reference.
 ///
 /// On a real day references rise. An order whose reference is above those of all in a list, and not too far above the
-/// first, goes into that list, where few places in memory are touched to find it again; any other goes into a tree. So
-/// no references, however they were chosen, cost much more than a look-up in the tree.
+/// first, goes into that list, where few places in memory are touched to find it again, unless its price is 2^31 or
+/// more or its attribution is four zero bytes; any other goes into a tree. So no orders, however they were chosen, cost
+/// much more than a look-up in the tree.
 #[derive(Drop)]
 pub(crate) struct OrderTable<A: Allocator> {
     // What every message about an order reads stands first, in few lines of memory.

@@ -16,7 +16,7 @@ use std::marker::Model;
 #[derive(Drop)]
 pub(crate) struct Rows<A: Allocator> {
     // What every message reads stands first, in few lines of memory. Then comes what executions read, and last what new
-    // orders read.
+    // orders read, whose first line is read ahead for all.
     book: Book<A>,
     known: Option<StockRow>,
     locate: u16,
@@ -68,7 +68,7 @@ impl<A: Allocator + Copy> Rows<A> {
         self.book.order(reference)
     }
 
-    /// Reads what stands in the value itself and most messages need. What it returns means nothing.
+    /// Reads what stands in the value itself and messages are likely to need. What it returns means nothing.
     pub fn touch(&self) -> u64 {
         self.book
             .touch()
@@ -76,7 +76,7 @@ impl<A: Allocator + Copy> Rows<A> {
             .wrapping_add(self.spent.touch())
     }
 
-    /// Reads rows that most messages look for first. What it returns means nothing.
+    /// Reads rows that messages are likely to look for first. What it returns means nothing.
     pub fn touch_rows(&self) -> u64 {
         self.book.touch_rows().wrapping_add(self.spent.touch_rows())
     }

@@ -69,14 +69,14 @@ impl<A: Allocator + Copy> Stock<A> {
         self.steps
     }
 
-    /// Reads what stands in the machine itself and most messages need, so that the processor has fetched that memory when
-    /// a message comes. It changes nothing, and what it returns means nothing: it is there to be used, so that the reads
-    /// aren't left out.
+    /// Reads what stands in the machine itself and messages are likely to need, so that the processor has fetched that
+    /// memory when one comes. It changes nothing, and what it returns means nothing: it is there to be used, so that
+    /// the reads aren't left out.
     pub fn touch(&self) -> u64 {
         self.rows.touch().wrapping_add(u64::from(self.steps))
     }
 
-    /// Reads rows that most messages look for first, in the same way.
+    /// Reads rows that messages are likely to look for first, in the same way.
     pub fn touch_rows(&self) -> u64 {
         self.rows.touch_rows()
     }

@@ -156,8 +156,8 @@ pub fn summarize_parts<R: Threads + Wait + Sync, A: Allocator + Copy + Send + Sy
     })
 }
 
-/// The same as [`run`], of a day that is split already: the caller passes its parts, one for each worker. After an error
-/// the writers are gone.
+/// The same as [`run`], of a day that is split already: the caller passes its parts, one for each worker. After an
+/// error the writers are gone.
 pub fn run_parts<R: Threads + Wait + Sync, A: Allocator + Copy + Send + Sync, G: Gate>(
     rt: &R,
     alloc: A,

@@ -108,10 +108,10 @@ impl<'p, A: Allocator + Copy> Worker<'p, A> {
     /// Finds messages that the worker comes to soon and reads what they are likely to need, where `wait` is 0, so that
     /// the processor fetches the memory of all of them at once: a publish waits for all reads before it, so turns by
     /// themselves would wait for the memory of one message after another. First the machines are read, then the cells,
-    /// and then the rows of the next turns, where the machines that the call before has read lead, each in a loop of its
-    /// own, so short that the processor is in all of its rounds at once. A worker of few stocks does without. Nothing
-    /// that is seen of the worker changes. It returns what `wait` is after the next turn; the number depends on what was
-    /// read, so that the reads aren't left out.
+    /// and then the rows of the next turns, where the machines that the call before has read lead, each in a loop of
+    /// its own, so short that the processor is in all of its rounds at once. A worker of few stocks does without.
+    /// Nothing that is seen of the worker changes. It returns what `wait` is after the next turn; the number depends on
+    /// what was read, so that the reads aren't left out.
     pub(crate) fn look_ahead(&mut self, board: &Board<'_, A>, wait: usize) -> usize
         requires { All (IsOn board.now) self.old.places }
         ensures { self.new ≡ self.old }
