@@ -11,7 +11,7 @@
 //! A [`StockIndex`] has the numbers of every stock's messages, and [`Track::from_index`] makes a track by it without
 //! another pass over the day. [`numbers_where`] has the numbers of a day's messages whose payloads a predicate keeps.
 //!
-//! An error of a call says that memory was refused. All is of this project.
+//! All is of this project. An `AllocError` says that memory was refused.
 #![tactic(auto)]
 
 mod filtering;

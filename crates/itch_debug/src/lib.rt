@@ -11,7 +11,7 @@
 //! debug_run(alloc, &day, &mut commands, &mut sink)?;
 //! ```
 //!
-//! All is of this project. An `AllocError` says that memory was refused.
+//! All is of this project. An `AllocError` and `ProgFault::Memory` say that memory was refused.
 #![tactic(auto)]
 
 mod answer;

@@ -113,9 +113,9 @@ fn serve<A: Allocator + Copy, R: Read, W: Write>(
 /// lines that have come in whole are sent before the feed is asked for more.
 ///
 /// An error is [`ProgFault::Read`] where the feed has failed or gave more than [`MOST_COMMAND_BYTES`],
-/// [`ProgFault::Write`] where the sink has failed, and [`ProgFault::Memory`] where memory was refused. What was sent
-/// then is a prefix of the answers, and after `Read` and `Memory` no part of an answer; where the feed has failed, it
-/// is the answers of all lines that came in whole.
+/// [`ProgFault::Write`] where the sink has failed, or [`ProgFault::Memory`]. What was sent then is a prefix of the
+/// answers, and after `Read` and `Memory` no part of an answer; where the feed has failed, it is the answers of all
+/// lines that came in whole.
 pub fn debug_run<A: Allocator + Copy, R: Read, W: Write>(
     alloc: A,
     day: &Day<A>,

@@ -21,8 +21,8 @@
 //!
 //! All meet one contract, `Runs`, which says what was read, written and returned for each result. [`limits`] has the
 //! greatest inputs that they take, and [`status`] the exit status for what an engine returned. The functions that begin
-//! with `put_` add the lines of a report that other outputs have too; an `AllocError` says that memory was refused, and
-//! the text may then have a part of what was to be added.
+//! with `put_` add the lines of a report that other outputs have too. [`ProgFault::Memory`] and an `AllocError` come
+//! only where memory was refused; after the latter the text may have a part of what was to be added.
 //!
 //! Reports, texts and their lines, limits and exit statuses are of this project.
 #![tactic(auto)]

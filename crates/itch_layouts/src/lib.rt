@@ -16,7 +16,8 @@
 //! [`write_msg`] appends the payload of a message. [`layout_of_kind`] and [`layout_of_mnemonic`] look a layout up in
 //! the table, for code that walks the fields of every type alike.
 //!
-//! Mnemonics, the names of fields, and that a bad length differs from an unknown type are of this project.
+//! Mnemonics, the names of fields, and that a bad length differs from an unknown type are of this project. An
+//! `AllocError` says that memory was refused.
 #![tactic(auto)]
 
 mod at_offset;

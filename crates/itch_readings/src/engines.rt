@@ -31,8 +31,7 @@ fn stocks_of_file<A: Allocator + Copy>(alloc: A, input: Vec<u8, A>) -> Result<Ve
 /// The whole file is read before it is judged, and the whole text is made in memory before it is sent. After
 /// [`ProgFault::Write`] the bytes that were taken are a prefix of the text; after another fault none was sent.
 /// [`ProgFault::Read`] comes exactly where the feed has failed, [`ProgFault::TooManyBytes`] above
-/// [`MOST_FILE_BYTES`] bytes, [`ProgFault::TooManyMessages`] above [`MOST_MESSAGES`] messages, and
-/// [`ProgFault::Memory`] only where memory was refused.
+/// [`MOST_FILE_BYTES`] bytes, and [`ProgFault::TooManyMessages`] above [`MOST_MESSAGES`] messages.
 pub fn stocks_run<A: Allocator + Copy, R: Read, W: Write>(
     alloc: A,
     feed: &mut Feed<R>,

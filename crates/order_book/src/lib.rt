@@ -12,7 +12,8 @@
 //! [`Book::find`] returns a `Found` of `itch_table`: a live order, and where it stood. [`Book::reduce_found`],
 //! [`Book::remove_found`] and [`Book::replace_found`] take it, so that the order isn't looked for a second time.
 //!
-//! All is of this project. An `AllocError` says that memory was refused.
+//! What the calls do to the orders is of Nasdaq TotalView-ITCH 5.0, as [`Book`] says; all else is of this project. An
+//! `AllocError` says that memory was refused.
 #![tactic(auto)]
 
 mod book;

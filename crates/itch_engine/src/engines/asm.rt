@@ -25,8 +25,7 @@ fn file_of_text<A: Allocator + Copy>(alloc: A, text: &[u8]) -> Result<Vec<u8, A>
 /// The whole text is read before it is judged, and the whole file is made in memory before it is sent. After
 /// [`ProgFault::Write`] the bytes that were taken are a prefix of the file; after another fault none was sent.
 /// [`ProgFault::Read`] comes exactly where the feed has failed, [`ProgFault::TooManyBytes`] above
-/// [`MOST_TEXT_BYTES`] bytes, [`ProgFault::Asm`] for the first faulty line, and [`ProgFault::Memory`] only where memory
-/// was refused.
+/// [`MOST_TEXT_BYTES`] bytes, and [`ProgFault::Asm`] for the first faulty line.
 pub fn asm_run<A: Allocator + Copy, R: Read, W: Write>(
     alloc: A,
     feed: &mut Feed<R>,

@@ -34,10 +34,9 @@ pub(crate) fn report_of_file<R: Threads + Wait + Sync, A: Allocator + Copy + Sen
 /// The whole file is read before it is judged, and the whole report is made in memory before it is sent. After
 /// [`ProgFault::Write`] the bytes that were taken are a prefix of the report; after another fault none was sent.
 /// [`ProgFault::Read`] comes exactly where the feed has failed, [`ProgFault::TooManyBytes`] above
-/// [`MOST_FILE_BYTES`] bytes, [`ProgFault::TooManyMessages`] above [`MOST_MESSAGES`] messages, and
-/// [`ProgFault::Memory`] only where memory was refused. The report is the same for every number of workers: each
-/// replays the messages of its stocks in a thread of its own, calls the gate before each of them, and may wait there.
-/// Where no thread can be made, the work is done all the same.
+/// [`MOST_FILE_BYTES`] bytes, and [`ProgFault::TooManyMessages`] above [`MOST_MESSAGES`] messages. The report is the
+/// same for every number of workers: each replays the messages of its stocks in a thread of its own, calls the gate
+/// before each of them, and may wait there. Where no thread can be made, the work is done all the same.
 ///
 /// ```text
 /// let mut feed = Feed::new(file);
