@@ -104,7 +104,7 @@ when test (Some x) = if test x then Some x else None
 
 -- a payload's length fits two bytes
 abbrev pub is_short : List ℕ → Bool
-is_short payload = nat_lt (length payload) 65536
+is_short payload = nat_lt (length payload) (2 ^ 16)
 
 -- the item that a name and the words after it denote
 abbrev pub item_in : Name → List (List ℕ) → Option Item

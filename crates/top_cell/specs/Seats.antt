@@ -34,8 +34,8 @@ abbrev pub IsSameSeat : CellSeat → CellSeat → Type 0
 IsSameSeat before after =
     (after.table_id ≡ before.table_id) × (after.id ≡ before.id) × (after.index ≡ before.index)
 
--- the rule of a cell allows a step at this seat that changes a word of the cell in this way; `by` says of the number that
--- was found, and of what was known at the seat before, what is known there afterwards
+-- the rule of a cell allows a step at this seat that changes a word of the cell in this way; `by` says of the number
+-- that was found, and of what was known at the seat before, what is known there afterwards
 abbrev pub MayStep : TableId → CellSeat → ℕ → (ℕ → ℕ) → (ℕ → View → View → Type 0) → Type 0
 MayStep table seat word change by =
     Allows CellRule table.slots seat.id seat.me word change (λ n me. Turns (by n) seat.me me)
