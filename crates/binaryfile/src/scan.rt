@@ -162,8 +162,8 @@ pub(crate) fn nth_payload<'a>(bytes: &'a [u8], starts: &[u64], number: usize) ->
     first_payload(&bytes[at..]).unwrap()
 }
 
-// The place of the entry of this number, counted from 0: by a place that stands a little before it, or else by the
-// index.
+// The place of the entry of this number, counted from 0: by a place before it, or by the index where that has one
+// nearer.
 fn place_near(bytes: &[u8], starts: &[u64], near: Place, number: usize) -> usize
     requires index { IsIndex starts.now bytes.now }
     requires number { number < length (payloads_of bytes.now) }
@@ -171,7 +171,7 @@ fn place_near(bytes: &[u8], starts: &[u64], near: Place, number: usize) -> usize
     ensures place { result ≡ offset (payloads_of bytes.now) number }
     ensures within { result ≤ length bytes.now }
 {
-    if near.number <= number && number - near.number < STRIDE {
+    if near.number <= number && near.number / STRIDE == number / STRIDE {
         place_from(bytes, near.number, near.at, number)
     } else {
         entry_place(bytes, starts, number)
