@@ -162,8 +162,8 @@ pub(crate) fn nth_payload<'a>(bytes: &'a [u8], starts: &[u64], number: usize) ->
     first_payload(&bytes[at..]).unwrap()
 }
 
-// The place of the entry of this number, counted from 0: by a place before it, or by the index where that has one
-// nearer.
+// The place of the entry of this number, counted from 0: by a place before it, where no entry between has its place in
+// the index, or else by the index.
 fn place_near(bytes: &[u8], starts: &[u64], near: Place, number: usize) -> usize
     requires index { IsIndex starts.now bytes.now }
     requires number { number < length (payloads_of bytes.now) }
@@ -178,8 +178,8 @@ fn place_near(bytes: &[u8], starts: &[u64], near: Place, number: usize) -> usize
     }
 }
 
-/// The payload of this number, counted from 0, which is looked for from a place on where that is a little before it.
-/// The place of the next entry is left there.
+/// The payload of this number, counted from 0, which is looked for from a place on where that is before it and nearer
+/// than what the index has. The place of the next entry is left there.
 pub(crate) fn payload_near<'a>(
     bytes: &'a [u8],
     starts: &[u64],

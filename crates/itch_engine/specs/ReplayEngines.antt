@@ -27,8 +27,8 @@ pub record ReplaysDigits (digits text : List ℕ) (refused : ℕ) : Type 0 where
   pub denoted : denoted digits ≡ Some input
   pub replays : Replays input text refused
 
--- Without its spaces and line feeds the input has an odd number of bytes, or a byte that is no hexadecimal digit, and so
--- it denotes nothing.
+-- Without its spaces and line feeds the input has an odd number of bytes, or a byte that is no hexadecimal digit, and
+-- so it denotes nothing.
 pub record HasBadDigits (input : List ℕ) (fault : ProgFault) : Type 0 where
   pub is : fault ≡ BadHex
   pub unpaired : are_pairs (digits_of input) ≡ false

@@ -24,8 +24,7 @@ fn keep_digits<A: Allocator>(input: &mut Vec<u8, A>)
 /// The bytes that hexadecimal digits of either case denote, two digits a byte. Spaces and line feeds are passed over,
 /// also between the two digits of a byte.
 ///
-/// `BadHex` where what is left isn't an even number of hexadecimal digits; `Memory` where memory was refused, which
-/// says nothing of the input.
+/// `BadHex` where what is left isn't an even number of hexadecimal digits; `Memory` says nothing of the input.
 #[tactic(auto, using(crate::proofs::DigitPairs::fails_at_digits))]
 pub(crate) fn decode_digits<A: Allocator + Copy>(
     alloc: A,

@@ -5,7 +5,7 @@
 //! | [`stocks_run`] | a day file | a line for each of its stocks |
 //! | [`tops_run`] | a day file | a stock's best bid and ask after each of its messages, or each that changes them |
 //!
-//! They meet the contract of the engines of `itch_engine`, `Runs`, and their faults are those of these engines.
+//! They meet the contract of the engines of `itch_engine`, `Runs`.
 //!
 //! [`tops`] is the best bid and ask of a stock after each of its messages, and [`list_stocks`] has the symbol and the
 //! number of messages of each stock; [`locate_of`] finds the stock that a name names in that list.
@@ -17,7 +17,8 @@
 //! }
 //! ```
 //!
-//! The forms of lines and of names are of this project. An `AllocError` says that memory was refused.
+//! The forms of lines and of names are of this project. An `AllocError` and `ProgFault::Memory` say that memory was
+//! refused.
 #![tactic(auto)]
 
 mod engines;
