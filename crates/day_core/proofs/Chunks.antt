@@ -1,5 +1,5 @@
 -- The chunks of a day, in a list that threads have made.
-use Rattle.std.proofs.Common.{◌≡◌, ℕ, zero, suc, ◌+◌, ◌<◌, List, [], ◌∷◌, length, get_or, ap, sym, subst, ◌∙◌, arith, Result, Ok, IfOk}
+use Rattle.std.proofs.Common.{◌≡◌, ℕ, zero, suc, ◌+◌, ◌<◌, List, [], ◌∷◌, length, get_or, sym, subst, ◌∙◌, arith, Result, Ok, IfOk}
 use Rattle.std.specs.List.{AllZip, range_with_len}
 use Rattle.std.proofs.lemmas.Slice.Zip.{AllZip-long}
 use Rattle.day_core.specs.Stretches.{cut}
@@ -25,17 +25,16 @@ module _ {V E : Type 0} (IsMade : ℕ → V → Type 0) where
   pub found_from : (chunks given : List (Result V E)) (places : List ℕ) → AllZip IsFound places given → places ≡ range_with_len 0 CHUNKS → chunks ≡ given → AreFound chunks
   found_from chunks given places found all is = subst (λ (rs : List (Result V E)). AreFound rs) (sym is) (subst (λ (ps : List ℕ). AllZip IsFound ps given) all found)
 
-  -- what was made of the next chunk, as it is read from a slice of the list
-  pub next_chunk : (chunks shown : List (Result V E)) (i : ℕ) (d : Result V E) (v : V) → AreFound chunks → shown ≡ chunks → i < length shown
-      → d ≡ get_or shown i d → d ≡ Ok v → IsMade i v
-  next_chunk chunks shown i d v found same lt here is =
-      let at = beside IsFound 0 CHUNKS shown i d (subst (λ (rs : List (Result V E)). AreFound rs) (sym same) found) lt in
+  -- what was made of the next chunk
+  pub next_chunk : (chunks : List (Result V E)) (i : ℕ) (d : Result V E) (v : V) → AreFound chunks → i < length chunks → d ≡ get_or chunks i d → d ≡ Ok v → IsMade i v
+  next_chunk chunks i d v found lt here is =
+      let at = beside IsFound 0 CHUNKS chunks i d found lt in
       let number : 0 + i ≡ i = omega arith in
       rw (number, ← here, is) at at
 
   -- as many chunks as there are make the day
-  pub chunks_all : (messages : ℕ) (chunks shown : List (Result V E)) (i : ℕ) → AreFound chunks → shown ≡ chunks → i ≡ length shown → cut messages i ≡ messages
-  chunks_all messages chunks shown i found same is =
+  pub chunks_all : (messages : ℕ) (chunks : List (Result V E)) (i : ℕ) → AreFound chunks → i ≡ length chunks → cut messages i ≡ messages
+  chunks_all messages chunks i found is =
       let long = AllZip-long IsFound (range_with_len 0 CHUNKS) chunks found in
-      let all : i ≡ CHUNKS = is ∙ ap length same ∙ long in
+      let all : i ≡ CHUNKS = is ∙ long in
       rw all (omega arith)

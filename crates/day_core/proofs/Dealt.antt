@@ -1,8 +1,10 @@
 -- A stretch of a day that is being dealt to its workers: one message more, and the stretch after it.
-use Rattle.std.proofs.Common.{◌≡◌, ℕ, ◌+◌, ◌-◌, ◌%◌, ◌<◌, ◌≤◌, List, [], ◌∷◌, ◌++◌, length, drop, get_or, set, map, filter, replicate, cond, Bool, true, false, ◌||◌, Option, Some, None, refl, ap, sym, ◌∙◌, arith, inl, inr, append-nil}
+use Rattle.std.proofs.Common.{◌≡◌, ℕ, zero, suc, ◌+◌, ◌-◌, ◌%◌, ◌<◌, ◌≤◌, List, [], ◌∷◌, ◌++◌, length, drop, get_or, set, map, filter, replicate, cond, Bool, true, false, ◌||◌, Option, Some, None, refl, ap, sym, ◌∙◌, arith, inl, inr, append-nil}
 use Rattle.std.specs.List.{range_with_len}
 use Rattle.std.proofs.lemmas.Bool.{cases_eq, eq-eqb, ne_eqb}
 use Rattle.std.proofs.lemmas.Nat.{mod_below}
+use Rattle.std.proofs.lemmas.Grind.{flat_map-append}
+use Rattle.std.proofs.lemmas.List.FromFn.{get_or-map-range_with_len, length-map-range_with_len}
 use Rattle.std.proofs.lemmas.List.{append_assoc, get_or_default, get_or-set_same, get_or-set_other, get_or-replicate, length-replicate, length-set, map-append}
 use Rattle.itch_layouts.specs.Shapes.{shape_of}
 use Rattle.itch_layouts.specs.declared.message.Msg.TheVariants.{System}
@@ -21,11 +23,11 @@ use Rattle.itch_table.proofs.NoStock.{system_sets_event}
 use Rattle.itch_table.proofs.StockDays.{outcomes_stay_fixed}
 use Rattle.day_core.specs.declared.merging.Piece.{Piece}
 use Rattle.day_core.specs.Splitting.{AreDealt}
-use Rattle.day_core.specs.Stretches.{AreSeen, IsStretch}
+use Rattle.day_core.specs.Stretches.{AreSeen, IsStretch, own_among, own_in_all}
 use Rattle.day_core.proofs.StocksSeen.{next_of, seen_both, seen_nowhere, seen_own}
 use Rattle.std.specs.Option.{option_or}
 use Rattle.day_core.proofs.Kept.{kept_more}
-use Rattle.day_core.specs.Owners.{fixed_until, is_nowhere, is_own, own_until, part_at, piece_of}
+use Rattle.day_core.specs.Owners.{fixed_until, is_nowhere, is_own, own_of, own_until, part_at, piece_of}
 
 -- a stock's message leaves the event
 event_stays : (shape : Shape) (locate : ℕ) (event : Option ℕ) → part_of_shape shape ≡ Locate locate → event_with shape event ≡ event
@@ -189,10 +191,41 @@ joined day workers from middle to seen more_seen both own more_own all fixed mor
 pub dealt_all : (day : List (List ℕ)) (workers : ℕ) (seen : List Bool) (own : List (List ℕ)) (fixed : List Piece) (event : Option ℕ)
     → IsStretch day workers 0 (length day) seen own fixed event → AreDealt day workers (length day) own fixed event
 dealt_all day workers seen own fixed event all = record {
-  own_long = all.own_long;
   own_are = λ worker d lt.
       let room : worker < length own = omega (arith, all.own_long, lt) in
       get_or_default own worker d [] room ∙ all.own_are worker lt;
   fixed_are = all.fixed_are;
   event_is = sym (ap (λ (w : World). option_or event w.event) (after-none day) ∙ or_none event) ∙ all.event_is;
 }
+
+-- ---- several stretches
+
+-- none
+pub none_in_all : (workers : ℕ) (stretches : List (List (List ℕ))) → stretches ≡ [] → own_in_all workers stretches ≡ replicate workers []
+none_in_all workers stretches none = ap (own_in_all workers) none ∙ empty 0 workers
+  where
+    empty : (first n : ℕ) → map (λ worker. own_among worker []) (range_with_len first n) ≡ replicate n []
+    empty first zero = refl
+    empty first (suc n) = ap (λ (ls : List (List ℕ)). [] ∷ ls) (empty (first + 1) n)
+
+-- a worker's messages in all of them
+pub in_all : (workers worker : ℕ) (stretches : List (List (List ℕ))) (d : List ℕ) → worker < workers → get_or (own_in_all workers stretches) worker d ≡ own_among worker stretches
+in_all workers worker stretches d lt = get_or-map-range_with_len (λ w. own_among w stretches) 0 workers worker worker d lt (omega arith)
+
+-- of each worker one list
+pub all_long : (workers : ℕ) (stretches : List (List (List ℕ))) → length (own_in_all workers stretches) ≡ workers
+all_long workers stretches = length-map-range_with_len (λ w. own_among w stretches) 0 workers
+
+-- one more
+pub one_stretch : (workers worker : ℕ) (stretches more : List (List (List ℕ))) (own : List (List ℕ)) → more ≡ stretches ++ own ∷ [] → worker < workers
+    → get_or (own_in_all workers more) worker [] ≡ get_or (own_in_all workers stretches) worker [] ++ get_or own worker []
+one_stretch workers worker stretches more own is lt =
+    in_all workers worker more [] lt ∙ ap (own_among worker) is ∙ flat_map-append (λ (o : List (List ℕ)). get_or o worker []) stretches (own ∷ [])
+    ∙ ap (λ (l : List ℕ). own_among worker stretches ++ l) (append-nil (get_or own worker []))
+    ∙ ap (λ (l : List ℕ). l ++ get_or own worker []) (sym (in_all workers worker stretches [] lt))
+
+-- those of a whole day are a worker's
+pub own_of_all : (day : List (List ℕ)) (workers worker : ℕ) (stretches : List (List (List ℕ))) (fixed : List Piece) (event : Option ℕ)
+    → AreDealt day workers (length day) (own_in_all workers stretches) fixed event → worker < workers → own_among worker stretches ≡ own_of workers worker day
+unfolding own_of
+own_of_all day workers worker stretches fixed event dealt lt = sym (in_all workers worker stretches [] lt) ∙ dealt.own_are worker [] lt

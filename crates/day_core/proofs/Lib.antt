@@ -2,6 +2,7 @@ mod Merged
 mod StocksSeen
 mod Chunks
 mod Dealt
+mod OwnLeft
 pub mod Kept
 mod Placing
 pub mod Progress

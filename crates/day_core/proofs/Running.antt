@@ -27,17 +27,17 @@ use Rattle.itch_table.proofs.StockDays.{is_own_part, only-empty, own_next, steps
 use Rattle.stock_machine.specs.StockRows.{StockMachine}
 use Rattle.day_core.specs.declared.merging.Piece.{Piece}
 use Rattle.day_core.specs.Owners.{is_own, machine_of, own_locates, own_of, owner, part_at, piece_of, progress}
-use Rattle.day_core.specs.Workers.{IsOwnMessage, IsRunner, IsTurned, MayGrowNext, TakesTurn, WorkerState, machine_at, new_machine, next_message, worker_messages, state_in, worker_locates}
+use Rattle.day_core.specs.Workers.{IsRunner, IsTurned, MayGrowNext, TakesTurn, WorkerState, machine_at, new_machine, next_message, worker_messages, state_in, worker_locates}
 use Rattle.day_core.specs.declared.runner.Turned.{Turned}
 use Rattle.day_core.specs.Splitting.{Split}
-use Rattle.day_core.proofs.Progress.{machine_next, own_within, own_passes, progress_first, progress_kept, progress_moved}
+use Rattle.day_core.proofs.Progress.{machine_next, own_within, progress_first, progress_kept, progress_moved}
 
 -- what holds anyway holds where there is an error
 pub on_err : {T E : Type 0} (r : Result T E) (P : Type 0) → P → OnErr r P
 on_err (Ok x) P p = tt
 on_err (Err e) P p = p
 
-same_code : {l m : ℕ} → Locate l ≡ Locate m → l ≡ m
+pub same_code : {l m : ℕ} → Locate l ≡ Locate m → l ≡ m
 same_code same = cc
 
 -- ---- a message of the day
@@ -178,44 +178,11 @@ module _ (s : WorkerState) (n place : ℕ) (more : s.done < length (worker_messa
             ∙ ap (f (code k)) (sym (progress_there k below differ))
       ])
 
--- ---- a worker's message at an index
-
-module _ (s : WorkerState) (own : List ℕ) (own_is : own ≡ worker_messages s) (n i : ℕ) (more : i < length own) (here : n ≡ get_or own i 0) where
-  own_index_within : i < length (worker_messages s)
-  own_index_within = omega (arith, ap length own_is)
-
-  pub own_is_at : n ≡ get_or (worker_messages s) i 0
-  own_is_at = here ∙ ap (λ (xs : List ℕ). get_or xs i 0) own_is
-
-  own_is_within : (1 ≤ n) × (n ≤ length s.day)
-  own_is_within = rw own_is_at (own_within s.workers s.worker s.day i 0 own_index_within)
-
-  own_is_own : is_own s.workers s.worker (part_at s.day n) ≡ true
-  own_is_own = rw own_is_at (own_passes s.workers s.worker s.day i 0 own_index_within)
-
-  pub own_is_message : (day : List (List ℕ)) (locates : List ℕ) → day ≡ s.day → locates ≡ own_locates s.workers s.worker s.day → IsOwnMessage day locates n
-  own_is_message day locates same codes = record {
-    first = own_is_within.0;
-    last = omega (arith, own_is_within, ap length same);
-    whose = (
-      s.workers,
-      s.worker,
-      codes ∙ ap (own_locates s.workers s.worker) (sym same),
-      subst (λ (d : List (List ℕ)). is_own s.workers s.worker (part_at d n) ≡ true) (sym same) own_is_own,
-    );
-  }
-
 -- ---- a worker's next message
 
-module _ (s : WorkerState) (own locates : List ℕ) (stocks : List StockMachine) (own_is : own ≡ worker_messages s) (runner : IsRunner s locates stocks) (n : ℕ) (more : s.done < length own) (next : n ≡ get_or own s.done 0) where
-  within_own : s.done < length (worker_messages s)
-  within_own = omega (arith, ap length own_is)
-
-  pub next_is : n ≡ get_or (worker_messages s) s.done 0
-  next_is = own_is_at s own own_is n s.done more next
-
+module _ (s : WorkerState) (locates : List ℕ) (stocks : List StockMachine) (runner : IsRunner s locates stocks) (n : ℕ) (more : s.done < length (worker_messages s)) (next : n ≡ get_or (worker_messages s) s.done 0) where
   next_within : (1 ≤ n) × (n ≤ length s.day)
-  next_within = own_is_within s own own_is n s.done more next
+  next_within = rw next (own_within s.workers s.worker s.day s.done 0 more)
 
   -- the stock is as the messages before it have left it
   pub stock_before : (place : ℕ) (d : StockMachine) → place < length locates → get_or stocks place d ≡ machine_of s.day (get_or locates place 0) (n - 1)
@@ -225,12 +192,12 @@ module _ (s : WorkerState) (own locates : List ℕ) (stocks : List StockMachine)
       ap (λ (xs : List ℕ). owner s.workers (get_or xs place 0)) runner.locates_are
       ∙ code_owner s.workers s.worker s.day place 0 (omega (arith, lt, ap length runner.locates_are))
       in
-      let room : s.done < length (own_of s.workers (owner s.workers locate) s.day) = rw mine within_own in
+      let room : s.done < length (own_of s.workers (owner s.workers locate) s.day) = rw mine more in
       ap (λ (xs : List StockMachine). get_or xs place d) runner.stocks_are
       ∙ get_or-map (machine_at s) locates place 0 d lt
       ∙ machine_next s.day s.workers locate s.done 0 room
       ∙ ap (λ (k : ℕ). machine_of s.day locate (get_or (own_of s.workers k s.day) s.done 0 - 1)) mine
-      ∙ ap (λ (k : ℕ). machine_of s.day locate (k - 1)) (sym next_is)
+      ∙ ap (λ (k : ℕ). machine_of s.day locate (k - 1)) (sym next)
 
   -- the stocks after it, where the machine of its stock was stepped
   pub stocks_after : (place : ℕ) (m : StockMachine) → place < length locates → part_at s.day n ≡ Locate (get_or locates place 0) → m ≡ machine_of s.day (get_or locates place 0) n
@@ -238,57 +205,53 @@ module _ (s : WorkerState) (own locates : List ℕ) (stocks : List StockMachine)
   stocks_after place m lt owned stepped =
       let then : WorkerState = record s { done = s.done + 1 } in
       let is = runner.locates_are in
-      values_after s n place within_own next_is (omega (arith, lt, ap length is)) (owned ∙ ap (λ (xs : List ℕ). Locate (get_or xs place 0)) is)
+      values_after s n place more next (omega (arith, lt, ap length is)) (owned ∙ ap (λ (xs : List ℕ). Locate (get_or xs place 0)) is)
       (machine_of s.day) stocks m (runner.stocks_are ∙ ap (map (machine_at s)) is) (stepped ∙ ap (λ (xs : List ℕ). machine_of s.day (get_or xs place 0) n) is)
       ∙ ap (map (machine_at then)) (sym is)
 
-  module _ (day : List (List ℕ)) (same : day ≡ s.day) (place : ℕ) (before : StockMachine) (listed : place < length locates) (owned : part_at day n ≡ Locate (get_or locates place 0)) (is : before ≡ get_or stocks place before) where
-    own_part : part_at s.day n ≡ Locate (get_or locates place 0)
-    own_part = ap (λ (d : List (List ℕ)). part_at d n) (sym same) ∙ owned
-
+  module _ (place : ℕ) (before : StockMachine) (listed : place < length locates) (owned : part_at s.day n ≡ Locate (get_or locates place 0)) (is : before ≡ get_or stocks place before) where
     stands : before ≡ machine_of s.day (get_or locates place 0) (n - 1)
     stands = is ∙ stock_before place before listed
 
     -- it takes the message
-    pub step_own : (payload : List ℕ) → payload ≡ payload_at day n → part payload ≡ Locate before.locate
+    pub step_own : (payload : List ℕ) → payload ≡ payload_at s.day n → part payload ≡ Locate before.locate
     step_own payload here = ap part here ∙ owned ∙ ap (λ (m : StockMachine). Locate m.locate) (sym stands)
 
     pub step_few : n < 2 ^ 32 → before.steps < 2 ^ 32 - 1
     step_few fits = omega (arith, fits, ap (λ (m : StockMachine). m.steps) stands, steps_most s.day (get_or locates place 0) (n - 1), next_within)
 
     -- and then is as the message has left it
-    pub stock_stepped : (m : StockMachine) (o : Outcome) (payload : List ℕ) → payload ≡ payload_at day n → m.locate ≡ before.locate → m.steps ≡ before.steps + 1 → (o, m.world) ≡ step before.world payload
+    pub stock_stepped : (m : StockMachine) (o : Outcome) (payload : List ℕ) → payload ≡ payload_at s.day n → m.locate ≡ before.locate → m.steps ≡ before.steps + 1 → (o, m.world) ≡ step before.world payload
         → (m ≡ machine_of s.day (get_or locates place 0) n) × (o ≡ outcome s.day n)
     stock_stepped m o payload here code steps gives =
-        machine_stepped s.day (get_or locates place 0) n before m o next_within.0 own_part stands code steps
-        (gives ∙ ap (step before.world) (here ∙ ap (λ (d : List (List ℕ)). payload_at d n) same))
+        machine_stepped s.day (get_or locates place 0) n before m o next_within.0 owned stands code steps (gives ∙ ap (step before.world) here)
 
     pub runner_after : (m : StockMachine) → m ≡ machine_of s.day (get_or locates place 0) n → IsRunner (record s { done = s.done + 1 }) locates (set stocks place m)
     runner_after m stepped = record {
-      within = omega (arith, within_own);
+      within = omega (arith, more);
       locates_are = runner.locates_are;
-      stocks_are = stocks_after place m listed own_part stepped;
+      stocks_are = stocks_after place m listed owned stepped;
     }
 
     pub turned_is : (o : Outcome) → o ≡ outcome s.day n → IsTurned s (record { piece = record { message = n; outcome = o }; index = place })
     turned_is o gave = record {
-      more = within_own;
-      piece = ap (λ (u : Outcome). let p : Piece = record { message = n; outcome = u } in p) gave ∙ ap (piece_of s.day) next_is;
+      more = more;
+      piece = ap (λ (u : Outcome). let p : Piece = record { message = n; outcome = u } in p) gave ∙ ap (piece_of s.day) next;
       within = omega (arith, listed, ap length runner.locates_are);
-      stock = own_part ∙ ap (λ (xs : List ℕ). Locate (get_or xs place 0)) runner.locates_are;
+      stock = owned ∙ ap (λ (xs : List ℕ). Locate (get_or xs place 0)) runner.locates_are;
     }
 
     -- where it may need memory, so may the turn
-    pub grows : (payload : List ℕ) → payload ≡ payload_at day n → MayGrow (one_stock before.locate before.world) payload → MayGrowNext s
+    pub grows : (payload : List ℕ) → payload ≡ payload_at s.day n → MayGrow (one_stock before.locate before.world) payload → MayGrowNext s
     grows payload here may =
         let after : StockMachine = record before { world = (step before.world payload).1; steps = before.steps + 1 } in
         let gave : (step before.world payload).0 ≡ outcome s.day n = (stock_stepped after (step before.world payload).0 payload here refl refl refl).1 in
-        let there : payload ≡ payload_at s.day (next_message s) = here ∙ ap (λ (d : List (List ℕ)). payload_at d n) same ∙ ap (payload_at s.day) next_is in
+        let there : payload ≡ payload_at s.day (next_message s) = here ∙ ap (payload_at s.day) next in
         record {
-          more = within_own;
-          applied = ap (outcome s.day) (sym next_is) ∙ sym gave ∙ may.applied;
+          more = more;
+          applied = ap (outcome s.day) (sym next) ∙ sym gave ∙ may.applied;
           adds = λ locate mine.
-              let code : before.locate ≡ locate = ap (λ (m : StockMachine). m.locate) stands ∙ same_code (sym own_part ∙ ap (part_at s.day) next_is ∙ mine) in
+              let code : before.locate ≡ locate = ap (λ (m : StockMachine). m.locate) stands ∙ same_code (sym owned ∙ ap (part_at s.day) next ∙ mine) in
               subst (λ (l : ℕ). IsTrue (shape_adds_row (Some l) (shape_of (payload_at s.day (next_message s))))) code
               (subst (λ (p : List ℕ). IsTrue (shape_adds_row (Some before.locate) (shape_of p))) there may.adds);
         }

@@ -33,6 +33,10 @@ own_until workers worker day count =
 unfoldable pub own_of : ℕ → ℕ → List (List ℕ) → List ℕ
 own_of workers worker day = own_until workers worker day (length day)
 
+-- a worker's messages, each by its number and its payload
+abbrev pub own_messages : ℕ → ℕ → List (List ℕ) → List (ℕ × List ℕ)
+own_messages workers worker day = map (λ n. (n, payload_at day n)) (own_of workers worker day)
+
 -- those of some locate codes that belong to a worker
 abbrev pub locates_by : ℕ → ℕ → List ℕ → List ℕ
 locates_by workers worker locates = filter (λ locate. owner workers locate == worker) locates

@@ -13,7 +13,6 @@ pub record Split : Type 0 where
 -- the first messages of a day are dealt: each worker's messages, those of no stock, and the last event
 pub record AreDealt (day : List (List ℕ)) (workers : ℕ) (count : ℕ) (own : List (List ℕ))
     (fixed : List Piece) (event : Option ℕ) : Type 0 where
-  pub own_long : length own ≡ workers
   pub own_are : (worker : ℕ) (d : List ℕ) → worker < workers
       → slice_index_or own worker d ≡ own_until workers worker day count
   pub fixed_are : fixed ≡ fixed_until day count

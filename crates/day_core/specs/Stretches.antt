@@ -1,6 +1,6 @@
 -- A stretch of a day, dealt to the workers of its stocks. All is of this project.
-use Rattle.std.specs.Prelude.{◌≡◌, ◌+◌, ◌*◌, ◌/◌, ◌<◌, ◌++◌, ◌||◌, ℕ, Bool, false, List, [], Option, length, min, slice_index_or, take}
-use Rattle.std.specs.List.{list_any}
+use Rattle.std.specs.Prelude.{◌≡◌, ◌+◌, ◌*◌, ◌/◌, ◌<◌, ◌++◌, ◌||◌, ℕ, Bool, false, List, [], Option, length, map, min, slice_index_or, take}
+use Rattle.std.specs.List.{flat_map, list_any, range_with_len}
 use Rattle.std.specs.Option.{option_or}
 use Rattle.itch_table.specs.After.{after}
 use Rattle.itch_table.specs.Projection.{is_of_stock}
@@ -29,6 +29,14 @@ pub record IsStretch (day : List (List ℕ)) (workers from to : ℕ) (seen : Lis
       → own_until workers worker day from ++ slice_index_or own worker [] ≡ own_until workers worker day to
   pub fixed_are : fixed_until day from ++ fixed ≡ fixed_until day to
   pub event_is : option_or event (after day from).event ≡ (after day to).event
+
+-- a worker's messages in stretches that come one after another, each of which has the lists of all workers
+abbrev pub own_among : ℕ → List (List (List ℕ)) → List ℕ
+own_among worker stretches = flat_map (λ lists. slice_index_or lists worker []) stretches
+
+-- and those of each worker
+abbrev pub own_in_all : ℕ → List (List (List ℕ)) → List (List ℕ)
+own_in_all workers stretches = map (λ worker. own_among worker stretches) (range_with_len 0 workers)
 
 -- where a chunk of a day begins, by its number from 0, of CHUNKS that make the day
 abbrev pub cut : ℕ → ℕ → ℕ

@@ -1,9 +1,9 @@
 //! The messages of a day, dealt to the workers of its stocks.
-ghost use Rattle.std.specs.Prelude.{ℕ, ◌≡◌, ◌++◌, ◌<◌, ◌≤◌, ◌^◌, List, [], IfOk, OnOk, length, map, slice_index_or};
+ghost use Rattle.std.specs.Prelude.{ℕ, ◌≡◌, ◌<◌, ◌≤◌, ◌^◌, List, IfOk, OnOk, length, map};
 ghost use Rattle.std.specs.List.{AllZip, range_with_len};
 ghost use Rattle.itch_layouts.specs.Shapes.{shape_of};
 ghost use Rattle.itch_table.specs.Projection.{event_with};
-ghost use Rattle.day_core.specs.Stretches.{IsChunk, IsStretch, cut};
+ghost use Rattle.day_core.specs.Stretches.{IsChunk, IsStretch, cut, own_in_all};
 ghost use Rattle.day_core.specs.declared.dealing.TheConstants.{CHUNKS};
 
 use crate::merging::Piece;
@@ -30,6 +30,20 @@ pub(crate) struct Stretch<A: Allocator> {
     pub seen: Vec<bool, A>,
     /// Each worker's messages, by their numbers, rising.
     pub own: Vec<Vec<u32, A>, A>,
+    /// The messages of no stock, with their outcomes.
+    pub fixed: Vec<Piece, A>,
+    /// The event code of the last system event message, where there is one.
+    pub event: Option<u8>,
+}
+
+/// The messages of stretches that come one after another, dealt to the workers of their stocks: the workers' messages
+/// of each stretch by themselves, and the rest of all of them together.
+#[derive(Drop)]
+pub(crate) struct Stretches<A: Allocator> {
+    /// At each locate code, whether its stock has messages in one of them.
+    pub seen: Vec<bool, A>,
+    /// For each stretch each worker's messages, by their numbers, rising.
+    pub own: Vec<Vec<Vec<u32, A>, A>, A>,
     /// The messages of no stock, with their outcomes.
     pub fixed: Vec<Piece, A>,
     /// The event code of the last system event message, where there is one.
@@ -87,57 +101,38 @@ fn deal_between<A: Allocator + Copy>(
     })
 }
 
-// A stretch without messages.
-fn no_messages<A: Allocator + Copy>(
-    alloc: A,
-    workers: WorkerCount,
-) -> Result<Stretch<A>, AllocError>
-    ensures { IfOk result (λ made. (day : List (List ℕ)) (from : ℕ)
+// No stretch.
+fn no_stretches<A: Allocator + Copy>(alloc: A) -> Result<Stretches<A>, AllocError>
+    ensures { IfOk result (λ made. (day : List (List ℕ)) (workers from : ℕ)
         → IsStretch day workers from from made.seen.items
-        (map (λ list. list.items) made.own.items) made.fixed.items made.event) }
+        (own_in_all workers (map (λ own. map (λ list. list.items) own.items) made.own.items))
+        made.fixed.items made.event) }
 {
-    Ok(Stretch {
+    Ok(Stretches {
         seen: none_seen(alloc, LOCATES)?,
-        own: empty_lists(alloc, workers.get())?,
+        own: Vec::new(alloc),
         fixed: Vec::new(alloc),
         event: None,
     })
 }
 
-// Adds to each worker's list the messages of another stretch.
-fn append_lists<A: Allocator + Copy>(
-    own: &mut Vec<Vec<u32, A>, A>,
-    more: &[Vec<u32, A>],
-) -> Result<(), AllocError>
-    requires { length more.now ≡ length own.old.items }
-    ensures long { length own.new.items ≡ length own.old.items }
-    ensures appended { OnOk result ((worker : ℕ) → worker < length own.old.items
-        → slice_index_or (map (λ list. list.items) own.new.items) worker []
-        ≡ slice_index_or (map (λ list. list.items) own.old.items) worker []
-        ++ slice_index_or (map (λ list. list.items) more.now) worker []) }
-{
-    for (worker, list) in more.iter().enumerate() {
-        own[worker].extend_from_slice(list)?;
-    }
-    Ok(())
-}
-
-// Puts a stretch after the one that ends where it begins.
-fn append<A: Allocator + Copy>(whole: &mut Stretch<A>, more: &Stretch<A>) -> Result<(), AllocError>
-    requires seen { length more.now.seen.items ≡ length whole.old.seen.items }
-    requires own { length more.now.own.items ≡ length whole.old.own.items }
+// Puts a stretch after those that end where it begins.
+fn append<A: Allocator + Copy>(whole: &mut Stretches<A>, more: Stretch<A>) -> Result<(), AllocError>
+    requires { length more.seen.items ≡ length whole.old.seen.items }
     ensures { OnOk result ((day : List (List ℕ)) (workers from middle to : ℕ)
         → IsStretch day workers from middle whole.old.seen.items
-        (map (λ list. list.items) whole.old.own.items) whole.old.fixed.items whole.old.event
-        → IsStretch day workers middle to more.now.seen.items
-        (map (λ list. list.items) more.now.own.items) more.now.fixed.items more.now.event
+        (own_in_all workers (map (λ own. map (λ list. list.items) own.items) whole.old.own.items))
+        whole.old.fixed.items whole.old.event
+        → IsStretch day workers middle to more.seen.items
+        (map (λ list. list.items) more.own.items) more.fixed.items more.event
         → IsStretch day workers from to whole.new.seen.items
-        (map (λ list. list.items) whole.new.own.items) whole.new.fixed.items whole.new.event) }
+        (own_in_all workers (map (λ own. map (λ list. list.items) own.items) whole.new.own.items))
+        whole.new.fixed.items whole.new.event) }
 {
     mark(&mut whole.seen, &more.seen);
-    append_lists(&mut whole.own, &more.own)?;
     whole.fixed.extend_from_slice(&more.fixed)?;
     whole.event = more.event.or(whole.event);
+    whole.own.push(more.own)?;
     Ok(())
 }
 
@@ -188,22 +183,24 @@ pub(crate) fn deal<R: Threads + Sync, A: Allocator + Copy + Send + Sync>(
     alloc: A,
     day: &Day<A>,
     workers: WorkerCount,
-) -> Result<Stretch<A>, AllocError>
+) -> Result<Stretches<A>, AllocError>
     ensures dealt { IfOk result (λ made.
         IsStretch day.now.payloads workers 0 (length day.now.payloads) made.seen.items
-        (map (λ list. list.items) made.own.items) made.fixed.items made.event) }
+        (own_in_all workers (map (λ own. map (λ list. list.items) own.items) made.own.items))
+        made.fixed.items made.event) }
     // The numbers of the day's messages fit 32 bits.
     ensures few { length day.now.payloads < 2 ^ 32 }
 {
-    if day.len() < MANY {
-        return deal_between(alloc, day, workers, 0, day.len());
+    let messages = day.len();
+    let mut whole = no_stretches(alloc)?;
+    if messages < MANY {
+        let all = deal_between(alloc, day, workers, 0, messages)?;
+        append(&mut whole, all)?;
+        return Ok(whole);
     }
-    let mut whole = no_messages(alloc, workers)?;
-    for chunk in &deal_chunks(rt, alloc, day, workers)? {
-        match chunk {
-            Ok(more) => append(&mut whole, more)?,
-            Err(_) => return Err(AllocError),
-        }
+    for chunk in deal_chunks(rt, alloc, day, workers)? {
+        let more = chunk?;
+        append(&mut whole, more)?;
     }
     Ok(whole)
 }

@@ -1,8 +1,9 @@
 //! A day in parts: what several workers make of it, put together.
 //!
 //! [`split`] says which messages each of 1 to 64 workers does, and [`replay_parts`] does them, one worker after
-//! another: the outcome of each message, and each stock's machine after the day. [`parts_of`] is [`split`] for a number
-//! that is from 1 to 64 by its type ([`WorkerCount`]).
+//! another: the outcome of each message, and each stock's machine after the day. [`Parts::own`] gives a worker's
+//! messages one after another ([`OwnMessages`]), each by its number and its payload. [`parts_of`] is [`split`] for a
+//! number that is from 1 to 64 by its type ([`WorkerCount`]).
 //!
 //! ```rust
 //! let parts = split(rt, alloc, &day, workers)?;
@@ -24,6 +25,7 @@ mod laws;
 mod locate_indices;
 mod merging;
 mod ordering;
+mod own_messages;
 mod parts;
 mod playing;
 mod refusals;
@@ -39,11 +41,12 @@ pub use dealing::event_after;
 pub use laws::{days_come_to_their_end, looks_never_go_back, looks_show_their_stock};
 pub use merging::{MergeFault, Piece, merge};
 pub use ordering::{by_worker, in_order};
+pub use own_messages::{OwnMessage, OwnMessages};
 pub use parts::Parts;
 pub use playing::{Event, Seen, play};
 pub use refusals::{all_refused, note_refused, outcomes_with};
 pub use replaying::{ReplayedDay, replay_parts};
-pub use runner::{MOST_AHEAD, Runner, Turned};
+pub use runner::{Runner, TURNS_AHEAD, Turned};
 pub use seeing::locates;
 pub use splitting::{SplitFault, parts_of, split};
 pub use turns::Turns;

@@ -2,9 +2,10 @@
 ghost use Rattle.std.specs.Prelude.{◌≡◌, ◌<◌, ◌≤◌, ◌^◌, length};
 ghost use Rattle.itch_table.specs.After.{after};
 ghost use Rattle.itch_table.specs.Shows.{locates_of_day};
-ghost use Rattle.day_core.specs.Owners.{fixed_pieces, own_of};
+ghost use Rattle.day_core.specs.Owners.{fixed_pieces, own_messages};
 
 use crate::merging::Piece;
+use crate::own_messages::OwnMessages;
 use crate::worker_count::WorkerCount;
 use binaryfile::Day;
 use std::alloc::{AllocError, Allocator};
@@ -17,7 +18,8 @@ use std::marker::Model;
 pub struct Parts<'d, A: Allocator> {
     pub(crate) workers: WorkerCount,
     pub(crate) locates: Vec<u16, A>,
-    pub(crate) own: Vec<Vec<u32, A>, A>,
+    // For each stretch of the day each worker's messages, by their numbers, rising.
+    pub(crate) own: Vec<Vec<Vec<u32, A>, A>, A>,
     pub(crate) fixed: Vec<Piece, A>,
     pub(crate) event: Option<u8>,
     pub(crate) day: &'d Day<A>,
@@ -26,13 +28,15 @@ pub struct Parts<'d, A: Allocator> {
 impl<'d, A: Allocator> Model for Parts<'d, A> {
     ghost use Rattle.std.specs.Prelude.{map};
     ghost use Rattle.day_core.specs.Splitting.{AreParts, Split};
+    ghost use Rattle.day_core.specs.Stretches.{own_in_all};
 
     ghost Value = { Split };
 
     ghost view = { λ p. record { day = p.day.now.payloads; workers = p.workers } };
 
     ghost invariant = { λ p. AreParts p.day.now.payloads p.workers p.locates.items
-        (map (λ list. list.items) p.own.items) p.fixed.items p.event };
+        (own_in_all p.workers (map (λ own. map (λ list. list.items) own.items) p.own.items))
+        p.fixed.items p.event };
 }
 
 impl<'d, A: Allocator> Parts<'d, A> {
@@ -61,15 +65,18 @@ impl<'d, A: Allocator> Parts<'d, A> {
         self.locates.as_slice()
     }
 
-    /// The messages of a worker's stocks, by their numbers from 1, rising; none for a number that is no worker's.
-    /// Workers are numbered from 0.
-    pub fn own(&self, worker: u32) -> &[u32]
-        ensures { result.now ≡ own_of self.now.workers worker self.now.day }
+    /// The messages of a worker's stocks, by rising number; none for a number that is no worker's. Workers are numbered
+    /// from 0.
+    pub fn own(&self, worker: u32) -> OwnMessages<'_, A>
+        ensures messages { result ≡ own_messages self.now.workers worker self.now.day }
+        // The numbers of the day's messages fit 32 bits.
+        ensures few { length self.now.day < 2 ^ 32 }
     {
-        match self.own.get(worker as usize) {
-            Some(list) => list.as_slice(),
-            None => &[],
+        // Nothing is known of the lists of such a number.
+        if worker >= self.workers.get() {
+            return OwnMessages::new(self.day, &[], worker);
         }
+        OwnMessages::new(self.day, &self.own, worker)
     }
 
     /// The messages of no stock, with their outcomes, by rising number.

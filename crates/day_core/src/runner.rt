@@ -1,18 +1,17 @@
 //! One worker without threads.
-ghost use Rattle.std.specs.Prelude.{◌≡◌, ◌<◌, All, IfOk, IfSome, MatchOption, OnErr, length, map, slice_get, slice_index};
+ghost use Rattle.std.specs.Prelude.{◌≡◌, ◌<◌, ◌≤◌, ◌∷◌, ◌++◌, [], All, IfNone, IfOk, IfSome, MatchOption, OnErr, drop, length, map, slice_get, slice_index};
 ghost use Rattle.std.specs.List.{Contains};
-ghost use Rattle.binaryfile.specs.Index.{IsPlace};
+ghost use Rattle.std.specs.Option.{option_to_list};
 ghost use Rattle.day_core.specs.Owners.{own_locates};
-ghost use Rattle.day_core.specs.Workers.{IsFound, IsOwnMessage, MayGrowNext, TakesTurn, first_state, machine_at, new_machine, worker_locates, worker_messages};
+ghost use Rattle.day_core.specs.Workers.{AreOfStocks, IsFound, MayGrowNext, TakesTurn, first_state, machine_at, new_machine, numbered, worker_locates, worker_messages};
 
 use crate::locate_indices::LocateIndices;
 use crate::merging::Piece;
+use crate::own_messages::OwnMessages;
 use crate::parts::Parts;
-use binaryfile::{Day, Place};
 use itch_table::locate_in;
 use std::alloc::{AllocError, Allocator};
 use std::marker::Model;
-use std::mem;
 use stock_machine::Stock;
 
 /// What a worker's turn did.
@@ -24,19 +23,20 @@ pub struct Turned {
     pub index: usize,
 }
 
-/// The most messages that a worker finds ahead of their turns at once.
-pub const MOST_AHEAD: usize = 16;
+/// How many turns a worker takes between two calls of [`Runner::look_ahead`]: each call finds as many messages, and the
+/// first one twice as many.
+pub const TURNS_AHEAD: usize = 16;
 
-// A worker's message that was found: its payload, and which of the worker's stocks it is of.
+// A worker's message that was found: its number and payload, and which of the worker's stocks it is of.
 #[derive(Clone, Copy)]
 struct FoundMessage<'d> {
-    message: u32,
+    number: u32,
     payload: &'d [u8],
     index: usize,
 }
 
 /// One worker of a day that is split: the machines of its stocks, and how many of its messages it has done. It borrows
-/// the parts of the day, and reads its list of messages there.
+/// the parts of the day, and walks through its messages there.
 ///
 /// It does its messages in their order, one a turn, whatever other workers do.
 #[derive(Drop)]
@@ -44,30 +44,25 @@ pub struct Runner<'p, A: Allocator> {
     parts: &'p Parts<'p, A>,
     worker: u32,
     done: usize,
-    // A place of the day, after the last message that was looked for.
-    near: Place,
-    // Messages that were found ahead of their turns: those whose turns come next, and those after them. How many turns
-    // were taken since.
+    // The next message, those that were found after it, of which this many were taken since, and those that are left to
+    // be found. As many are found as the list has room for.
+    next: Option<FoundMessage<'p>>,
     ahead: Vec<FoundMessage<'p>, A>,
-    farther: Vec<FoundMessage<'p>, A>,
-    turns_since: usize,
+    taken: usize,
+    left: OwnMessages<'p, A>,
     indices: LocateIndices<A>,
     stocks: Vec<Stock<A>, A>,
 }
 
 impl<'p, A: Allocator> Model for Runner<'p, A> {
-    ghost use Rattle.std.specs.Prelude.{All};
-    ghost use Rattle.binaryfile.specs.Index.{IsPlace};
-    ghost use Rattle.day_core.specs.Workers.{IsFound, IsRunner, WorkerState, state_in};
+    ghost use Rattle.day_core.specs.Workers.{AreAhead, IsRunner, WorkerState, state_in};
 
     ghost Value = { WorkerState };
 
     ghost view = { λ r. state_in r.parts.now r.worker r.done };
 
     ghost invariant = { λ r. IsRunner (state_in r.parts.now r.worker r.done) r.indices r.stocks.items
-        × IsPlace r.parts.now.day r.near
-        × All (λ f. IsFound r.parts.now.day r.indices f.message f.payload.now f.index) r.ahead.items
-        × All (λ f. IsFound r.parts.now.day r.indices f.message f.payload.now f.index) r.farther.items };
+        × AreAhead (state_in r.parts.now r.worker r.done) r.indices r.next r.ahead.items r.taken r.left };
 }
 
 // The locate codes of a worker's stocks.
@@ -103,74 +98,82 @@ fn new_stocks<A: Allocator + Copy>(
     Ok(stocks)
 }
 
-// Finds a worker's message, from a place of the day. Another one, for the message after it, is left there.
+// Finds the next of a worker's messages that are left to be found.
 #[inline(always)]
-fn find_message<'d, A: Allocator>(
-    day: &'d Day<A>,
-    near: &mut Place,
+fn find_next<'d, A: Allocator>(
+    left: &mut OwnMessages<'d, A>,
     indices: &LocateIndices<A>,
-    message: u32,
-) -> FoundMessage<'d>
-    requires own { IsOwnMessage day.now.payloads indices.now message }
-    requires near { IsPlace day.now.payloads near.old }
-    ensures near { IsPlace day.now.payloads near.new }
-    ensures message { result.message ≡ message }
-    ensures found { IsFound day.now.payloads indices.now message result.payload.now result.index }
+) -> Option<FoundMessage<'d>>
+    requires { AreOfStocks indices.now left.old }
+    ensures found { MatchOption result ((left.old ≡ []) × (left.new ≡ []))
+        (λ f. (left.old ≡ (f.number, f.payload.now) ∷ left.new) × IsFound indices.now f.payload.now f.index) }
+    ensures left { AreOfStocks indices.now left.new }
 {
-    let payload = day.payload_near(near, message);
-    let index = indices.index_in(locate_in(payload));
-    FoundMessage {
-        message,
-        payload,
+    let message = left.next()?;
+    let index = indices.index_in(locate_in(message.payload));
+    Some(FoundMessage {
+        number: message.number,
+        payload: message.payload,
         index,
+    })
+}
+
+// The next message: of those that were found ahead the first that wasn't taken, which is taken, or else of those that
+// are left.
+#[inline(always)]
+fn take_next<'d, A: Allocator>(
+    ahead: &[FoundMessage<'d>],
+    taken: &mut usize,
+    left: &mut OwnMessages<'d, A>,
+    indices: &LocateIndices<A>,
+) -> Option<FoundMessage<'d>>
+    requires taken { taken.old ≤ length ahead.now }
+    requires found { All (λ f. IsFound indices.now f.payload.now f.index) ahead.now }
+    requires left { AreOfStocks indices.now left.old }
+    ensures taken { taken.new ≤ length ahead.now }
+    ensures all { numbered (option_to_list result ++ drop taken.new ahead.now) ++ left.new
+        ≡ numbered (drop taken.old ahead.now) ++ left.old }
+    ensures none { IfNone result ((drop taken.new ahead.now ≡ []) × (left.new ≡ [])) }
+    ensures found { IfSome result (λ f. IsFound indices.now f.payload.now f.index) }
+    ensures left { AreOfStocks indices.now left.new }
+{
+    match ahead.get(*taken) {
+        Some(next) => {
+            *taken += 1;
+            Some(*next)
+        }
+        None => find_next(left, indices),
     }
 }
 
-// Finds messages one after another, and adds them to those that were found ahead, up to where memory is refused.
-fn find_all<'d, A: Allocator + Copy>(
-    day: &'d Day<A>,
-    near: &mut Place,
+// Finds the next messages one after another, and adds them to those that were found ahead, as far as there is room.
+fn find_more<'d, A: Allocator>(
+    left: &mut OwnMessages<'d, A>,
     indices: &LocateIndices<A>,
-    messages: &[u32],
     ahead: &mut Vec<FoundMessage<'d>, A>,
 )
-    requires own { All (IsOwnMessage day.now.payloads indices.now) messages.now }
-    requires near { IsPlace day.now.payloads near.old }
-    requires ahead { All (λ f. IsFound day.now.payloads indices.now f.message f.payload.now f.index)
-        ahead.old.items }
-    ensures near { IsPlace day.now.payloads near.new }
-    ensures ahead { All (λ f. IsFound day.now.payloads indices.now f.message f.payload.now f.index)
-        ahead.new.items }
+    requires left { AreOfStocks indices.now left.old }
+    requires found { All (λ f. IsFound indices.now f.payload.now f.index) ahead.old.items }
+    ensures same { numbered ahead.new.items ++ left.new ≡ numbered ahead.old.items ++ left.old }
+    ensures left { AreOfStocks indices.now left.new }
+    ensures found { All (λ f. IsFound indices.now f.payload.now f.index) ahead.new.items }
 {
-    for message in messages {
-        let found = find_message(day, near, indices, *message);
-        if ahead.push(found).is_err() {
+    while ahead.len() < ahead.capacity() {
+        let Some(found) = find_next(left, indices) else {
             return;
-        }
+        };
+        ahead.push(found).unwrap();
     }
 }
 
-// Finds a message, where it may have been found ahead: after as many others as turns were taken since.
-fn next_message<'d, A: Allocator>(
-    day: &'d Day<A>,
-    near: &mut Place,
-    indices: &LocateIndices<A>,
-    ahead: &[FoundMessage<'d>],
-    turns_since: usize,
-    message: u32,
-) -> FoundMessage<'d>
-    requires own { IsOwnMessage day.now.payloads indices.now message }
-    requires near { IsPlace day.now.payloads near.old }
-    requires ahead { All (λ f. IsFound day.now.payloads indices.now f.message f.payload.now f.index)
-        ahead.now }
-    ensures near { IsPlace day.now.payloads near.new }
-    ensures message { result.message ≡ message }
-    ensures found { IsFound day.now.payloads indices.now message result.payload.now result.index }
+// Removes the first items of a list.
+fn remove_first<T: Copy, A: Allocator>(list: &mut Vec<T, A>, count: usize)
+    requires { count ≤ length list.old.items }
+    ensures { list.new.items ≡ drop count list.old.items }
 {
-    match ahead.get(turns_since) {
-        Some(found) if found.message == message => *found,
-        _ => find_message(day, near, indices, message),
-    }
+    let len = list.len();
+    list.copy_within(count..len, 0);
+    list.truncate(len - count);
 }
 
 impl<'p, A: Allocator + Copy> Runner<'p, A> {
@@ -182,14 +185,17 @@ impl<'p, A: Allocator + Copy> Runner<'p, A> {
         let locates = own_codes(alloc, parts, worker)?;
         let stocks = new_stocks(alloc, &locates)?;
         let indices = LocateIndices::new(alloc, locates)?;
+        let ahead = Vec::with_capacity(alloc, 2 * TURNS_AHEAD)?;
+        let mut left = parts.own(worker);
+        let next = find_next(&mut left, &indices);
         Ok(Runner {
             parts,
             worker,
             done: 0,
-            near: Place::first(),
-            ahead: Vec::with_capacity(alloc, MOST_AHEAD)?,
-            farther: Vec::with_capacity(alloc, MOST_AHEAD)?,
-            turns_since: 0,
+            next,
+            ahead,
+            taken: 0,
+            left,
             indices,
             stocks,
         })
@@ -207,77 +213,60 @@ impl<'p, A: Allocator + Copy> Runner<'p, A> {
         ensures err { OnErr result (self.new ≡ self.old) }
         ensures grows { OnErr result (MayGrowNext self.old) }
     {
-        let own = self.parts.own(self.worker);
-        if self.done == own.len() {
+        let Some(found) = self.next else {
             return Ok(None);
-        }
-        let message = own[self.done];
-        let day = self.parts.day();
-        let found = next_message(
-            day,
-            &mut self.near,
-            &self.indices,
-            &self.ahead,
-            self.turns_since,
-            message,
-        );
+        };
         let outcome = self.stocks[found.index].step(found.payload)?;
         self.done += 1;
-        self.turns_since = self.turns_since.saturating_add(1);
+        self.next = take_next(&self.ahead, &mut self.taken, &mut self.left, &self.indices);
         Ok(Some(Turned {
-            piece: Piece { message, outcome },
+            piece: Piece {
+                message: found.number,
+                outcome,
+            },
             index: found.index,
         }))
     }
 }
 
 impl<'p, A: Allocator + Copy> Runner<'p, A> {
-    /// Finds the messages that come after the worker's next [`MOST_AHEAD`], as many again at most, so that their turns
-    /// needn't look for them: the next ones are those that the call before this one found. A caller makes a call before
-    /// each [`MOST_AHEAD`] turns. No contract says what was found: a turn looks for its message where it isn't there.
+    /// Finds the messages that come after the worker's next one, up to twice [`TURNS_AHEAD`] of them, so that no turn
+    /// needs to look for one. A caller makes a call before each [`TURNS_AHEAD`] turns; without calls each turn finds
+    /// the message after its own. No contract says what was found.
     pub fn look_ahead(&mut self)
         ensures { self.new ≡ self.old }
     {
-        let own = self.parts.own(self.worker);
-        let start = own.len().min(self.done.saturating_add(MOST_AHEAD));
-        let end = own.len().min(start.saturating_add(MOST_AHEAD));
-        mem::swap(&mut self.ahead, &mut self.farther);
-        self.turns_since = 0;
-        self.farther.clear();
-        find_all(
-            self.parts.day(),
-            &mut self.near,
-            &self.indices,
-            &own[start..end],
-            &mut self.farther,
-        );
+        remove_first(&mut self.ahead, self.taken);
+        self.taken = 0;
+        find_more(&mut self.left, &self.indices, &mut self.ahead);
     }
 
-    /// Which of the worker's stocks the message is of that the last [`Runner::look_ahead`] found at this index, in the
-    /// order of the messages; none where fewer were found.
+    /// Which of the worker's stocks the message is of that the last [`Runner::look_ahead`] left at this index among
+    /// those that were found, in the order of the messages; none where fewer were found.
     pub fn stock_ahead(&self, index: usize) -> Option<usize>
         ensures { IfSome result (λ stock. stock < length (worker_locates self.now)) }
     {
-        let found = self.farther.get(index)?;
+        let found = self.ahead.get(index)?;
         Some(found.index)
     }
 
-    /// Reads what the messages that the last [`Runner::look_ahead`] found are likely to need of their stocks' machines,
-    /// and the day's bytes a little after them, so that the processor has fetched that memory when their turns come. It
-    /// changes nothing, and what it returns means nothing: it is there to be used, so that the reads aren't left out.
+    /// Reads what the messages after the first [`TURNS_AHEAD`] that the last [`Runner::look_ahead`] left are likely to
+    /// need of their stocks' machines, and the day's bytes a little after them, so that the processor has fetched that
+    /// memory when their turns come. It changes nothing, and what it returns means nothing: it is there to be used, so
+    /// that the reads aren't left out.
     pub fn touch_ahead(&self) -> u64 {
-        let mut sum = self.parts.day().touch_after(&self.near);
-        for found in &self.farther {
+        let mut sum = self.left.touch();
+        for found in self.ahead.iter().skip(TURNS_AHEAD) {
             sum = sum.wrapping_add(self.stocks[found.index].touch());
         }
         sum
     }
 
-    /// Reads the rows that the worker's next messages are likely to need, in the same way: those of the messages that
-    /// the [`Runner::look_ahead`] before the last one found, whose machines were read then.
+    /// Reads the rows that the first [`TURNS_AHEAD`] messages that the last [`Runner::look_ahead`] left are likely to
+    /// need, in the same way: their machines were read after the call before, where there was one.
     pub fn touch_rows_ahead(&self) -> u64 {
         let mut sum: u64 = 0;
-        for found in &self.ahead {
+        for found in self.ahead.iter().take(TURNS_AHEAD) {
             sum = sum.wrapping_add(self.stocks[found.index].touch_rows());
         }
         sum
@@ -292,18 +281,12 @@ impl<'p, A: Allocator> Runner<'p, A> {
         self.worker
     }
 
-    /// How many messages the worker has in the day.
-    pub fn message_count(&self) -> usize
-        ensures { result ≡ length (worker_messages self.now) }
-    {
-        self.parts.own(self.worker).len()
-    }
-
     /// The number of the worker's next message; none where it has done all of them.
     pub fn next_message(&self) -> Option<u32>
         ensures { result ≡ slice_get (worker_messages self.now) self.now.done }
     {
-        self.parts.own(self.worker).get(self.done).copied()
+        let found = self.next?;
+        Some(found.number)
     }
 
     /// How many stocks the worker has.

@@ -50,9 +50,8 @@ pub fn parts_of<'d, R: Threads + Sync, A: Allocator + Copy + Send + Sync>(
 
 /// Splits a day into parts for this many workers, from 1 to 64. The parts borrow the day.
 ///
-/// [`SplitFault::Workers`] where the number is another, which is looked at first, and else
-/// [`SplitFault::Memory`] where memory is refused; there are no parts after a fault. While a long day is split its
-/// messages stand in the parts' own lists and in those of its chunks; each list grows by doubling.
+/// [`SplitFault::Workers`] where the number is another, which is looked at first, and else [`SplitFault::Memory`] where
+/// memory is refused; there are no parts after a fault. Each list of messages grows by doubling.
 pub fn split<'d, R: Threads + Sync, A: Allocator + Copy + Send + Sync>(
     rt: &R,
     alloc: A,

@@ -8,7 +8,7 @@ ghost use Rattle.top_cell.specs.Boards.{IsOn};
 ghost use Rattle.stock_workers.specs.Working.{PublishesTurn, ShowsTurn, WritersAt, WritersStand, stands, writer_state};
 
 use crate::gate::Gate;
-use day_core::{MOST_AHEAD, Parts, Piece, Runner};
+use day_core::{Parts, Piece, Runner, TURNS_AHEAD};
 use itch_table::Top;
 use std::alloc::{AllocError, Allocator};
 use std::marker::Model;
@@ -120,7 +120,7 @@ impl<'p, A: Allocator + Copy> Worker<'p, A> {
             return wait - 1;
         }
         if self.runner.stock_count() < MANY_STOCKS {
-            return MOST_AHEAD - 1;
+            return TURNS_AHEAD - 1;
         }
         self.runner.look_ahead();
         let machines = self.runner.touch_ahead();
@@ -129,16 +129,16 @@ impl<'p, A: Allocator + Copy> Worker<'p, A> {
         if machines.wrapping_add(cells).wrapping_add(rows) == u64::MAX {
             0
         } else {
-            MOST_AHEAD - 1
+            TURNS_AHEAD - 1
         }
     }
 
-    // Reads the cells of the messages that were found last.
+    // Reads the cells of the messages whose machines are read.
     fn touch_cells(&self, board: &Board<'_, A>) -> u64
         requires { All (IsOn board.now) self.now.places }
     {
         let mut sum: u64 = 0;
-        for index in 0..MOST_AHEAD {
+        for index in TURNS_AHEAD..2 * TURNS_AHEAD {
             if let Some(stock) = self.runner.stock_ahead(index) {
                 sum = sum.wrapping_add(self.writers[stock].touch(board));
             }

@@ -7,7 +7,7 @@ use std::alloc::{Allocator, Global};
 use std::test::Fail;
 use std::thread::Threads;
 use test_refusing::{Refusal, Refusing, Tried, refuse_each};
-use test_support::{AAPL, MSFT, same, same_bytes, same_list, system};
+use test_support::{AAPL, MSFT, Ticker, payload_of, same, same_bytes, same_list, system};
 
 // An entry of an unknown type, of one byte.
 const UNKNOWN: &[u8] = b"\x00\x01O";
@@ -27,14 +27,32 @@ fn long_day<A: Allocator + Copy>(alloc: A) -> Result<Day<A>, Fail> {
     day_of(alloc, file)
 }
 
+// The numbers of a worker's messages.
+fn own_numbers<A: Allocator + Copy>(
+    alloc: A,
+    parts: &Parts<'_, A>,
+    worker: u32,
+) -> Result<Vec<u32, A>, Fail> {
+    let mut numbers = Vec::new(alloc);
+    for message in parts.own(worker) {
+        numbers.push(message.number)?;
+    }
+    Ok(numbers)
+}
+
 #[test]
 fn each_stock_has_its_worker(rt: HostRuntime) -> Result<(), Fail> {
     let day = two_stocks(rt.alloc())?;
     let parts = parts_of(&rt, rt.alloc(), &day, 2)?;
     same_list("the stocks", parts.locates(), &[1, 2, 3])?;
-    same_list("the messages of worker 0", parts.own(0), &[2, 4])?;
-    same_list("the messages of worker 1", parts.own(1), &[1, 3, 5, 6, 7])?;
-    same_list("the messages of no worker", parts.own(2), &[])?;
+    for (worker, numbers) in [(0, &[2, 4][..]), (1, &[1, 3, 5, 6, 7]), (2, &[])] {
+        let own = own_numbers(rt.alloc(), &parts, worker)?;
+        same(
+            "a worker's messages",
+            &(worker, own.as_slice()),
+            &(worker, numbers),
+        )?;
+    }
     same("the messages of no stock", &parts.fixed().len(), &0)?;
     same("the event", &parts.event(), &None)
 }
@@ -84,25 +102,32 @@ fn a_day_is_split_for_1_to_64_workers(rt: HostRuntime) -> Result<(), Fail> {
     same("the least number", &WorkerCount::ONE.get(), &1)
 }
 
+// A worker of two has this many messages of the long day, each a directory message of its stock, with 2,001 others
+// before the next one.
+fn has_directories<A: Allocator + Copy>(
+    alloc: A,
+    parts: &Parts<'_, A>,
+    worker: u32,
+    first: u32,
+    count: u32,
+    stock: Ticker,
+) -> Result<(), Fail> {
+    let payload = payload_of(alloc, &stock.directory())?;
+    let mut own = parts.own(worker);
+    for number in (first..).step_by(2_002).take(count as usize) {
+        let found = own.next().map(|message| (message.number, message.payload));
+        same("a message", &found, &Some((number, payload.as_slice())))?;
+    }
+    same("the last one", &own.next().is_none(), &true)
+}
+
 #[test]
 fn a_long_day_is_split_whole(rt: HostRuntime) -> Result<(), Fail> {
     let day = long_day(rt.alloc())?;
     let parts = parts_of(&rt, rt.alloc(), &day, 2)?;
     same_list("the stocks", parts.locates(), &[1, 2])?;
-    let even = parts.own(0);
-    let odd = parts.own(1);
-    same(
-        "how many even",
-        &(even.len(), even.first().copied()),
-        &(100, Some(1_002)),
-    )?;
-    same("the last one even", &even.last().copied(), &Some(199_200))?;
-    same(
-        "how many odd",
-        &(odd.len(), odd.first().copied()),
-        &(101, Some(1)),
-    )?;
-    same("the last one odd", &odd.last().copied(), &Some(200_201))?;
+    has_directories(rt.alloc(), &parts, 0, 1_002, 100, MSFT)?;
+    has_directories(rt.alloc(), &parts, 1, 1, 101, AAPL)?;
     let fixed = parts.fixed();
     let last = fixed.last().map(|piece| (piece.message, piece.outcome));
     same("the messages of no stock", &fixed.len(), &200_000)?;
@@ -122,13 +147,14 @@ fn compare<R: Threads + Sync, A: Allocator + Copy + Send + Sync>(
     locates: &[u16],
 ) -> Result<(), Fail> {
     same_list("the stocks", parts.locates(), locates)?;
-    let workers = parts.workers();
-    let whole = parts_of(rt, alloc, day, workers)?;
+    let whole = parts_of(rt, alloc, day, parts.workers())?;
     same_list("the messages of no stock", parts.fixed(), whole.fixed())?;
-    for worker in 0..workers {
-        same_list("a worker's messages", parts.own(worker), whole.own(worker))?;
+    for worker in 0..parts.workers() {
+        let own = own_numbers(alloc, parts, worker)?;
+        let wanted = own_numbers(alloc, &whole, worker)?;
+        same_list("a worker's messages", &own, &wanted)?;
     }
-    Ok(())
+    same("the event", &parts.event(), &whole.event())
 }
 
 // Splits a day under a refusal, which leaves the day as it is. Where it is refused, it is split with memory. It has
@@ -158,8 +184,8 @@ fn try_split<R: Threads + Sync>(
     Ok(tried)
 }
 
-// The table of stocks, the locate codes, the list of lists and each of two lists take a growth, and the list of five
-// messages takes another.
+// Two tables of stocks, the locate codes, the list of the stretches, that of the only one's lists and each of these two
+// take a growth, and the list of five messages takes another.
 #[test]
 fn a_day_without_memory_stays_whole(rt: HostRuntime) -> Result<(), Fail> {
     let heap = Refusing::new(rt.alloc(), Refusal::Never);
@@ -167,7 +193,7 @@ fn a_day_without_memory_stays_whole(rt: HostRuntime) -> Result<(), Fail> {
     let growths = refuse_each(|refusal: Refusal| -> Result<Tried, Fail> {
         try_split(&rt, &heap, day.bytes(), 2, &[1, 2, 3], refusal)
     })?;
-    same("all growths", &growths, &6)
+    same("all growths", &growths, &8)
 }
 
 // Each of the 16 chunks takes two growths at least. Some are refused, alone and with all after them.

@@ -1,5 +1,5 @@
 //! Turns of workers, one by one and all of a day.
-use crate::days::{parts_of, two_stocks};
+use crate::days::{add_entry, day_of, parts_of, two_stocks};
 use crate::showing::{Shown, bid, shown_by, stock_with};
 use day_core::{Piece, ReplayedDay, Runner, Turned, Turns, replay_parts};
 use itch_table::{Fault, Outcome, Top};
@@ -76,7 +76,7 @@ fn a_worker_does_its_messages_in_order(rt: HostRuntime) -> Result<(), Fail> {
     )?;
     same("how many stocks", &runner.into_stocks().len(), &2)?;
     let mut other = Runner::new(rt.alloc(), &parts, 5)?;
-    let nothing = (5, 0, None, [None; 3]);
+    let nothing = (5, None, [None; 3]);
     same("no worker", &said_by(rt.alloc(), &other)?, &nothing)?;
     take("a turn of no worker", &mut other, None)?;
     same("its stocks", &other.into_stocks().len(), &0)
@@ -153,20 +153,14 @@ fn shown_at<A: Allocator + Copy>(
     }
 }
 
-// What a worker says: its number, how many messages it has, the next of them, and its stocks of locate codes 1 to 3.
-type Said = (u32, usize, Option<u32>, [Option<Shown>; 3]);
+// What a worker says: its number, the next of its messages, and its stocks of locate codes 1 to 3.
+type Said = (u32, Option<u32>, [Option<Shown>; 3]);
 
 fn said_by<A: Allocator + Copy>(alloc: A, runner: &Runner<'_, A>) -> Result<Said, Fail> {
     let one = shown_at(alloc, runner, 1)?;
     let two = shown_at(alloc, runner, 2)?;
     let three = shown_at(alloc, runner, 3)?;
-    let next = runner.next_message();
-    Ok((
-        runner.worker(),
-        runner.message_count(),
-        next,
-        [one, two, three],
-    ))
+    Ok((runner.worker(), runner.next_message(), [one, two, three]))
 }
 
 // What a turn of the only worker of the two stocks returns, the next message after it, and what the stocks say then.
@@ -228,7 +222,7 @@ fn turn_under<'h>(
     }
     let (turned, next, [one, two, three]) = wanted;
     same("a turn", &returned, &Ok(turned))?;
-    let after = (0, 7, next, [Some(one), Some(two), Some(three)]);
+    let after = (0, next, [Some(one), Some(two), Some(three)]);
     same("after a turn", &said_by(heap, runner)?, &after)?;
     Ok(tried)
 }
@@ -247,6 +241,60 @@ fn try_turn<R: Threads + Sync>(
     let parts = parts_of(rt, heap, &day, 1)?;
     let mut runner = Runner::new(heap, &parts, 0)?;
     turn_under(heap, &mut runner, earlier, *wanted, refusal)
+}
+
+// The worker of the two stocks looks ahead before its turns and after some of them. Where it has found messages, it
+// says of which stocks they are.
+#[test]
+fn messages_that_were_found_ahead_take_their_turns(rt: HostRuntime) -> Result<(), Fail> {
+    let day = two_stocks(rt.alloc())?;
+    let parts = parts_of(&rt, rt.alloc(), &day, 1)?;
+    let mut runner = Runner::new(rt.alloc(), &parts, 0)?;
+    same("nothing ahead", &runner.stock_ahead(0), &None)?;
+    runner.look_ahead();
+    for (index, stock) in [1, 0, 1, 0, 2, 0].into_iter().enumerate() {
+        same("a stock ahead", &runner.stock_ahead(index), &Some(stock))?;
+    }
+    same("the end", &runner.stock_ahead(6), &None)?;
+    for (index, (wanted, _, _)) in turns_of_two_stocks().into_iter().enumerate() {
+        take("a turn", &mut runner, wanted)?;
+        if index % 3 == 1 {
+            runner.look_ahead();
+        }
+    }
+    Ok(())
+}
+
+// A worker of 40 messages of a stock that has no directory message finds 32 after its first one ahead, and when it has
+// done 17 of them the last ones.
+#[test]
+fn messages_ahead_are_32(rt: HostRuntime) -> Result<(), Fail> {
+    let mut file = Vec::new(rt.alloc());
+    for reference in 0..40 {
+        add_entry(rt.alloc(), &mut file, &AAPL.delete(reference))?;
+    }
+    let day = day_of(rt.alloc(), file)?;
+    let parts = parts_of(&rt, rt.alloc(), &day, 1)?;
+    let mut runner = Runner::new(rt.alloc(), &parts, 0)?;
+    for message in 1..41 {
+        let found = match message {
+            1 => Some(32),
+            18 => Some(22),
+            _ => None,
+        };
+        if let Some(found) = found {
+            runner.look_ahead();
+            let last = (runner.stock_ahead(found - 1), runner.stock_ahead(found));
+            same(
+                "messages ahead",
+                &(message, last),
+                &(message, (Some(0), None)),
+            )?;
+        }
+        let refused = turned(message, Outcome::Refused(Fault::NoDirectory), 0);
+        take("a turn", &mut runner, refused)?;
+    }
+    take("the end", &mut runner, None)
 }
 
 // Only the two orders need memory.

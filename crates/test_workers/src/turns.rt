@@ -15,7 +15,7 @@ use std::thread::Threads;
 use stock_workers::{FreeGate, Gate, Worker};
 use test_refusing::{Refusal, Refusing, Tried, refuse_any, refuse_each};
 use test_support::{
-    AAPL, MSFT, Ticker, crossed_book, day_with, same, same_list, system, two_stocks,
+    AAPL, MSFT, Ticker, crossed_book, day_with, same, system, two_stocks,
 };
 use top_cell::{Board, Reading, Screen, TopWriter};
 
@@ -185,7 +185,7 @@ fn past_two_workers<R: Threads + Wait + Sync, A: Allocator + Copy + Send + Sync>
     messages: (usize, usize),
 ) -> Result<(), Fail> {
     let parts = split(rt, alloc, day, 2)?;
-    let own = (parts.own(0).len(), parts.own(1).len());
+    let own = (parts.own(0).count(), parts.own(1).count());
     same("the workers' messages", &own, &messages)?;
     let (board, _writers) = Board::new(&alloc, day)?;
     for number in [2, 3, 63, 64, u32::MAX] {
@@ -216,11 +216,12 @@ fn make_worker<'h, R: Threads + Wait + Sync>(
     heap.restart(refusal);
     let made = only_worker(heap, &parts, waiting).is_ok();
     let tried = heap.tried(!made);
-    same_list(
-        "the worker's messages",
-        parts.own(0),
-        &[1, 2, 3, 4, 5, 6, 7],
-    )?;
+    let mut own = parts.own(0);
+    for number in 1..8u32 {
+        let found = own.next().map(|message| message.number);
+        same("a message of the worker", &found, &Some(number))?;
+    }
+    same("its last one", &own.next().is_none(), &true)?;
     Ok(tried)
 }
 

@@ -1,18 +1,19 @@
-use Rattle.std.proofs.Common.{◌++◌, ◌||◌, false, [], length, get_or, map, ap, sym, ◌∙◌, arith}
-use Rattle.std.proofs.lemmas.List.{length-map}
-use Rattle.day_core.proofs.Dealt.{joined}
+use Rattle.std.proofs.Common.{◌++◌, ◌∷◌, ◌||◌, false, [], length, get_or, map, ap, sym, ◌∙◌, arith}
+use Rattle.std.proofs.lemmas.List.{map-append}
+use Rattle.day_core.specs.Stretches.{own_in_all}
+use Rattle.day_core.proofs.Dealt.{all_long, joined, one_stretch}
 use Rattle.day_core.proofs.dealing.append.Goals as goal
 
 pub returns : goal.returns
 returns g c = λ day workers from middle to before then.
     let seen = c.deref.ensures.value in
-    let own = c.deref-2.ensures.value in
-    joined day workers from middle to _ _ _ _ _ _ _ _ _ _ _ _ before then
+    let first = map (λ own. map (λ list. list.items) own.items) c.args.whole.now.own.items in
+    let all = map (λ own. map (λ list. list.items) own.items) c.push.new.self.items in
+    let pushed = ap (map (λ own. map (λ list. list.items) own.items)) (rw (c.in_ok-push.was {u = tt}) at c.push.ensures.items) ∙ map-append (λ own. map (λ list. list.items) own.items) c.args.whole.now.own.items (c.args.more.own ∷ []) in
+    joined day workers from middle to _ _ _ (own_in_all workers first) _ (own_in_all workers all) _ _ _ _ _ _ before then
     c.mark.ensures.long
     (λ k lt. c.mark.ensures.both k (omega (arith, lt, ap length seen)) ∙ ap (λ l. get_or c.args.whole.now.seen.items k false || get_or l k false) seen)
-    (length-map c.append_lists.new.own.items (λ v. v.items) ∙ c.append_lists.ensures.long ∙ sym (length-map c.args.whole.now.own.items (λ v. v.items)))
-    (λ k lt.
-    (c.in_ok-append_lists.ensures {u = tt}).appended k (omega (arith, lt, length-map c.args.whole.now.own.items (λ v. v.items)))
-    ∙ ap (λ l. get_or (map (λ v. v.items) c.args.whole.now.own.items) k [] ++ get_or (map (λ v. v.items) l) k []) own)
-    ((c.in_ok-extend_from_slice.ensures {u = tt}).items ∙ ap (λ l. c.args.whole.now.fixed.items ++ l) c.deref-3.ensures.value)
+    (all_long workers all ∙ sym (all_long workers first))
+    (λ k lt. one_stretch workers k first all (map (λ list. list.items) c.args.more.own.items) pushed (omega (arith, lt, all_long workers first)))
+    ((c.in_ok-extend_from_slice.ensures {u = tt}).items ∙ ap (λ l. c.args.whole.now.fixed.items ++ l) c.deref-2.ensures.value)
     c.or-whole.ensures

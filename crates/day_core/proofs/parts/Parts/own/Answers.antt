@@ -1,31 +1,39 @@
-use Rattle.std.proofs.Common.{◌<◌, ◌≤◌, ℕ, List, length, get_or, ap, sym, ◌∙◌, arith}
-use Rattle.std.proofs.lemmas.List.{length-map, get_or-map}
+use Rattle.std.proofs.Common.{◌≡◌, ◌<◌, ◌≤◌, ℕ, List, length, map, ap, sym, subst, ◌∙◌, arith}
+use Rattle.std.specs.List.{All}
+use Rattle.itch_table.specs.Projection.{payload_at}
+use Rattle.day_core.specs.Owners.{own_messages, own_of}
 use Rattle.day_core.specs.Splitting.{Split}
-use Rattle.day_core.specs.Owners.{own_of}
-use Rattle.day_core.proofs.Progress.{own_none}
+use Rattle.day_core.specs.Stretches.{own_among}
+use Rattle.day_core.proofs.Dealt.{own_of_all}
+use Rattle.day_core.proofs.Progress.{own_none, own_within}
 use Rattle.day_core.proofs.parts.Parts.own.Goals as goal
 
--- a worker's messages in a split day
-abbrev own_in : ℕ → Split → List ℕ
-own_in worker s = own_of s.workers worker s.day
+pub new-requires : goal.new-requires
+new-requires g c = λ k d lt. absurd (omega (arith, lt))
 
-pub returns-in-Some : goal.returns-in-Some
-unfolding own_of
-returns-in-Some g c =
-    let lists = c.self.inside.own.items in
-    let list = c.in-Some.list.now in
-    let found = c.in-Some.ensures.lookup in
-    let room : c.args.worker < length lists = omega (arith, found.3.0, ap length c.deref.ensures.value) in
-    let long = length-map lists (λ v. v.items) in
-    c.as_slice.ensures.value
-    ∙ ap (λ v. v.items) (found.1 ∙ ap (λ vs. get_or vs c.args.worker list) c.deref.ensures.value)
-    ∙ sym (get_or-map (λ v. v.items) lists c.args.worker list list.items room)
-    ∙ c.self.invariant.dealt.own_are c.args.worker _ (omega (arith, room, long, c.self.invariant.dealt.own_long))
-    ∙ ap (own_in c.args.worker) c.self.view_is
+pub returns-then-worker-get-clause-messages : goal.returns-then-worker-get-clause-messages
+returns-then-worker-get-clause-messages g c =
+    let split = c.self.inside in
+    let day = split.day.now.payloads in
+    c.new.ensures
+    ∙ sym (ap (map (λ n. (n, payload_at day n))) (own_none split.workers c.args.worker day c.self.invariant.some (omega (arith, c.if-worker-get.true, c.get.ensures.value))))
+    ∙ ap (λ (s : Split). own_messages s.workers c.args.worker s.day) c.self.view_is
 
-pub returns-in-None : goal.returns-in-None
-returns-in-None g c =
-    let lists = c.self.inside.own.items in
-    let long = length-map lists (λ v. v.items) in
-    let past : c.self.inside.workers ≤ c.args.worker = omega (arith, c.in-None.ensures.lookup.3, ap length c.deref.ensures.value, long, c.self.invariant.dealt.own_long) in
-    sym (own_none c.self.inside.workers c.args.worker c.self.inside.day.now.payloads c.self.invariant.some past) ∙ ap (own_in c.args.worker) c.self.view_is
+pub new-requires-2 : goal.new-requires-2
+new-requires-2 g c =
+    let split = c.self.inside in
+    let day = split.day.now.payloads in
+    let mine : c.args.worker < split.workers = omega (arith, c.if-worker-get.false, c.get.ensures.value) in
+    let numbers : own_among c.args.worker (map (λ own. map (λ list. list.items) own.items) c.deref.result.now) ≡ own_of split.workers c.args.worker day =
+    ap (λ ls. own_among c.args.worker (map (λ own. map (λ list. list.items) own.items) ls)) c.deref.ensures.value ∙ own_of_all day split.workers c.args.worker (map (λ own. map (λ list. list.items) own.items) split.own.items) _ _ c.self.invariant.dealt mine in
+    subst (λ (ns : List ℕ). All (λ n. (1 ≤ n) × (n ≤ length day)) ns) (sym numbers) (λ k d lt. own_within split.workers c.args.worker day k d lt)
+
+pub returns-clause-messages : goal.returns-clause-messages
+returns-clause-messages g c =
+    let split = c.self.inside in
+    let day = split.day.now.payloads in
+    let mine : c.args.worker < split.workers = omega (arith, c.if-worker-get.false, c.get.ensures.value) in
+    let numbers : own_among c.args.worker (map (λ own. map (λ list. list.items) own.items) c.deref.result.now) ≡ own_of split.workers c.args.worker day =
+    ap (λ ls. own_among c.args.worker (map (λ own. map (λ list. list.items) own.items) ls)) c.deref.ensures.value ∙ own_of_all day split.workers c.args.worker (map (λ own. map (λ list. list.items) own.items) split.own.items) _ _ c.self.invariant.dealt mine in
+    c.new-2.ensures ∙ ap (map (λ n. (n, payload_at day n))) numbers
+    ∙ ap (λ (s : Split). own_messages s.workers c.args.worker s.day) c.self.view_is

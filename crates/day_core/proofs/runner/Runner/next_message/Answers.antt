@@ -1,0 +1,11 @@
+use Rattle.std.proofs.Common.{ap, sym, ◌∙◌}
+use Rattle.std.specs.List.{slice_get}
+use Rattle.std.specs.Option.{option_map}
+use Rattle.day_core.specs.Workers.{WorkerState, worker_messages}
+use Rattle.day_core.proofs.OwnLeft.{next_is}
+use Rattle.day_core.proofs.runner.Runner.next_message.Goals as goal
+
+pub returns : goal.returns
+returns g c =
+    ap (option_map (λ f. f.number)) (sym (c.in_ok-found.was {u = tt})) ∙ next_is _ _ _ _ _ _ c.self.invariant.1 c.self.invariant.0.within
+    ∙ ap (λ (s : WorkerState). slice_get (worker_messages s) s.done) c.self.view_is
