@@ -14,9 +14,7 @@ use std::test::Fail;
 use std::thread::Threads;
 use stock_workers::{FreeGate, Gate, Worker};
 use test_refusing::{Refusal, Refusing, Tried, refuse_any, refuse_each};
-use test_support::{
-    AAPL, MSFT, Ticker, crossed_book, day_with, same, system, two_stocks,
-};
+use test_support::{AAPL, MSFT, Ticker, crossed_book, day_with, same, system, two_stocks};
 use top_cell::{Board, Reading, Screen, TopWriter};
 
 /// The writers of the only worker of a day, their board, and a screen of the day's first stock.
