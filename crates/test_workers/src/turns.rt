@@ -175,16 +175,31 @@ fn has_stocks<A: Allocator>(worker: &Worker<'_, A>, stocks: [(u16, bool); 3]) ->
     Ok(())
 }
 
-// Numbers from 2 on have nothing of a day that is split for two workers, who have this many messages.
+// A worker has the messages with these numbers, and no others.
+fn has_messages<A: Allocator>(
+    parts: &Parts<'_, A>,
+    worker: u32,
+    numbers: &[u32],
+) -> Result<(), Fail> {
+    let mut own = parts.own(worker);
+    for number in numbers {
+        let found = own.next().map(|message| message.number);
+        same("a message of a worker", &found, &Some(*number))?;
+    }
+    same("its last one", &own.next().is_none(), &true)
+}
+
+// Numbers from 2 on have nothing of a day that is split for two workers, who have these messages.
 fn past_two_workers<R: Threads + Wait + Sync, A: Allocator + Copy + Send + Sync>(
     rt: &R,
     alloc: A,
     day: &Day<A>,
-    messages: (usize, usize),
+    even: &[u32],
+    odd: &[u32],
 ) -> Result<(), Fail> {
     let parts = split(rt, alloc, day, 2)?;
-    let own = (parts.own(0).count(), parts.own(1).count());
-    same("the workers' messages", &own, &messages)?;
+    has_messages(&parts, 0, even)?;
+    has_messages(&parts, 1, odd)?;
     let (board, _writers) = Board::new(&alloc, day)?;
     for number in [2, 3, 63, 64, u32::MAX] {
         let mut worker = no_worker(alloc, &parts, number)?;
@@ -199,8 +214,8 @@ fn past_two_workers<R: Threads + Wait + Sync, A: Allocator + Copy + Send + Sync>
 fn a_number_of_no_worker_has_no_turn(rt: HostRuntime) -> Result<(), Fail> {
     let alloc = rt.alloc();
     let without_stocks = day_with(alloc, &[system(0, b'O')])?;
-    past_two_workers(&rt, alloc, &without_stocks, (0, 0))?;
-    past_two_workers(&rt, alloc, &two_stocks(alloc)?, (2, 5))
+    past_two_workers(&rt, alloc, &without_stocks, &[], &[])?;
+    past_two_workers(&rt, alloc, &two_stocks(alloc)?, &[2, 4], &[1, 3, 5, 6, 7])
 }
 
 // Makes the only worker of the two stocks under a refusal. Where it is refused, the parts are as they were.
@@ -214,12 +229,7 @@ fn make_worker<'h, R: Threads + Wait + Sync>(
     heap.restart(refusal);
     let made = only_worker(heap, &parts, waiting).is_ok();
     let tried = heap.tried(!made);
-    let mut own = parts.own(0);
-    for number in 1..8u32 {
-        let found = own.next().map(|message| message.number);
-        same("a message of the worker", &found, &Some(number))?;
-    }
-    same("its last one", &own.next().is_none(), &true)?;
+    has_messages(&parts, 0, &[1, 2, 3, 4, 5, 6, 7])?;
     Ok(tried)
 }
 
