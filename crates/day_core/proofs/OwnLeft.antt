@@ -149,9 +149,6 @@ module _ (s : WorkerState) (locates : List ℕ) (next : Option FoundMessage) (ah
   pub next_number : f.number ≡ get_or (worker_messages s) s.done 0
   next_number = ap (λ (m : ℕ × List ℕ). m.0) at.1
 
-  pub next_fits : f.number < 2 ^ 32
-  next_fits = omega (arith, next_number, own_within s.workers s.worker s.day s.done 0 at.0, has.few)
-
   pub next_payload : f.payload.now ≡ payload_at s.day f.number
   next_payload = ap (λ (m : ℕ × List ℕ). m.1) at.1 ∙ ap (payload_at s.day) (sym next_number)
 
@@ -186,7 +183,6 @@ pub ahead_after : (s : WorkerState) (locates : List ℕ) (next after : Option Fo
     → IfNone after ((drop then lent ≡ []) × (rest ≡ [])) → IfSome after (λ x. IsFound locates x.payload.now x.index) → AreOfStocks locates rest
     → AreAhead (record s { done = s.done + 1 }) locates after ahead then rest
 ahead_after s locates next after ahead lent taken then left rest f has is same within all none found are = record {
-  few = has.few;
   within = omega (arith, within, ap length same);
   all =
       ap (λ (fs : List FoundMessage). numbered (option_to_list after ++ drop then fs) ++ rest) (sym same) ∙ all
@@ -204,7 +200,6 @@ pub ahead_further : (s : WorkerState) (locates : List ℕ) (next : Option FoundM
 ahead_further s locates next ahead kept more taken left rest has kept_is same found are =
     let further : numbered more ++ rest ≡ numbered (drop taken ahead) ++ left = same ∙ ap (λ (fs : List FoundMessage). numbered fs ++ left) kept_is in
     record {
-      few = has.few;
       within = omega arith;
       all = same_after (option_to_list next) more (drop taken ahead) rest left further ∙ has.all;
       none = nothing next further has.none;
@@ -218,10 +213,9 @@ ahead_further s locates next ahead kept more taken left rest has kept_is same fo
     nothing (Some f) further none = tt
 
 -- a runner that has done nothing yet
-pub ahead_first : (s : WorkerState) (locates : List ℕ) (next : Option FoundMessage) (ahead : List FoundMessage) (all left : List (ℕ × List ℕ)) → length s.day < 2 ^ 32 → s.done ≡ 0
+pub ahead_first : (s : WorkerState) (locates : List ℕ) (next : Option FoundMessage) (ahead : List FoundMessage) (all left : List (ℕ × List ℕ)) → s.done ≡ 0
     → all ≡ own_messages s.workers s.worker s.day → Found locates all left next → ahead ≡ [] → AreOfStocks locates left → AreAhead s locates next ahead 0 left
-ahead_first s locates next ahead all left few none is found nothing are = record {
-  few = few;
+ahead_first s locates next ahead all left none is found nothing are = record {
   within = omega arith;
   all =
       found_after locates all left next ahead found nothing ∙ ap (λ (fs : List FoundMessage). numbered fs ++ all) nothing ∙ is

@@ -184,6 +184,9 @@ module _ (s : WorkerState) (locates : List ℕ) (stocks : List StockMachine) (ru
   next_within : (1 ≤ n) × (n ≤ length s.day)
   next_within = rw next (own_within s.workers s.worker s.day s.done 0 more)
 
+  pub next_fits : n < 2 ^ 32
+  next_fits = omega (arith, next_within, runner.few)
+
   -- the stock is as the messages before it have left it
   pub stock_before : (place : ℕ) (d : StockMachine) → place < length locates → get_or stocks place d ≡ machine_of s.day (get_or locates place 0) (n - 1)
   stock_before place d lt =
@@ -217,8 +220,8 @@ module _ (s : WorkerState) (locates : List ℕ) (stocks : List StockMachine) (ru
     pub step_own : (payload : List ℕ) → payload ≡ payload_at s.day n → part payload ≡ Locate before.locate
     step_own payload here = ap part here ∙ owned ∙ ap (λ (m : StockMachine). Locate m.locate) (sym stands)
 
-    pub step_few : n < 2 ^ 32 → before.steps < 2 ^ 32 - 1
-    step_few fits = omega (arith, fits, ap (λ (m : StockMachine). m.steps) stands, steps_most s.day (get_or locates place 0) (n - 1), next_within)
+    pub step_few : before.steps < 2 ^ 32 - 1
+    step_few = omega (arith, next_fits, ap (λ (m : StockMachine). m.steps) stands, steps_most s.day (get_or locates place 0) (n - 1), next_within)
 
     -- and then is as the message has left it
     pub stock_stepped : (m : StockMachine) (o : Outcome) (payload : List ℕ) → payload ≡ payload_at s.day n → m.locate ≡ before.locate → m.steps ≡ before.steps + 1 → (o, m.world) ≡ step before.world payload
@@ -228,6 +231,7 @@ module _ (s : WorkerState) (locates : List ℕ) (stocks : List StockMachine) (ru
 
     pub runner_after : (m : StockMachine) → m ≡ machine_of s.day (get_or locates place 0) n → IsRunner (record s { done = s.done + 1 }) locates (set stocks place m)
     runner_after m stepped = record {
+      few = runner.few;
       within = omega (arith, more);
       locates_are = runner.locates_are;
       stocks_are = stocks_after place m listed owned stepped;
@@ -294,9 +298,10 @@ unfolding own_locates
 codes_are workers worker day = refl
 
 pub runner_new : (split : Split) (worker : ℕ) (locates : List ℕ) (stocks : List StockMachine)
-    → locates ≡ own_locates split.workers worker split.day → stocks ≡ map new_machine locates
+    → length split.day < 2 ^ 32 → locates ≡ own_locates split.workers worker split.day → stocks ≡ map new_machine locates
     → IsRunner (state_in split worker 0) locates stocks
-runner_new split worker locates stocks codes made = record {
+runner_new split worker locates stocks few codes made = record {
+  few = few;
   within = omega arith;
   locates_are = codes;
   stocks_are = made ∙ begins split.day split.workers locates;

@@ -96,7 +96,6 @@ numbered found = map (λ f. (f.number, f.payload.now)) found
 -- it, of which this many were taken, and those that are left to be found
 pub record AreAhead (s : WorkerState) (locates : List ℕ) (next : Option FoundMessage)
     (ahead : List FoundMessage) (taken : ℕ) (left : List (ℕ × List ℕ)) : Type 0 where
-  pub few : length s.day < 2 ^ 32
   pub within : taken ≤ length ahead
   pub all : numbered (option_to_list next ++ drop taken ahead) ++ left
       ≡ drop s.done (own_messages s.workers s.worker s.day)
@@ -105,8 +104,10 @@ pub record AreAhead (s : WorkerState) (locates : List ℕ) (next : Option FoundM
   pub found : All (λ f. IsFound locates f.payload.now f.index) ahead
   pub left_are : AreOfStocks locates left
 
--- what a runner keeps: its stocks' locate codes, and their machines as far as it has come
+-- what a runner keeps, on a day whose messages 32 bits count: its stocks' locate codes, and their machines as far as
+-- it has come
 pub record IsRunner (s : WorkerState) (locates : List ℕ) (stocks : List StockMachine) : Type 0 where
+  pub few : length s.day < 2 ^ 32
   pub within : s.done ≤ length (worker_messages s)
   pub locates_are : locates ≡ worker_locates s
   pub stocks_are : stocks ≡ map (machine_at s) locates

@@ -15,13 +15,14 @@ use std::marker::Model;
 /// A stock's live orders, the references that they have had, its trades, and what is known of it.
 #[derive(Drop)]
 pub(crate) struct Rows<A: Allocator> {
-    // What every message reads stands first, in few lines of memory. Then comes what executions read, and last what new
-    // orders read, whose first line is read ahead for all.
-    book: Book<A>,
+    // The order is that of memory. A machine takes three pairs of lines of 64 bytes, and begins 16 bytes into the first
+    // line of a pair: in that pair stands what new orders and directory messages read, and the book's heads, which every
+    // message about an order reads, fill the next pair.
     known: Option<StockRow>,
     locate: u16,
-    trades: Trades<A>,
     spent: SpentReferences<A>,
+    book: Book<A>,
+    trades: Trades<A>,
 }
 
 impl<A: Allocator> Model for Rows<A> {

@@ -19,6 +19,6 @@ pub invariant_of-result : goal.invariant_of-result
 invariant_of-result g c =
     let codes = c.in_ok-indices.ensures in
     let stocks = c.in_ok-stocks.ensures ∙ ap (map new_machine) (c.deref.ensures.value ∙ sym codes) in (
-      runner_new c.args.parts.now c.args.worker _ _ (codes ∙ c.in_ok-locates.ensures) stocks,
-      ahead_first _ _ _ _ _ _ c.own-left.ensures.few refl c.own-left.ensures.messages c.find_next-next.ensures.found (c.in_ok-ahead.ensures {u = tt}).items c.find_next-next.ensures.left,
+      runner_new c.args.parts.now c.args.worker _ _ c.own-left.ensures.few (codes ∙ c.in_ok-locates.ensures) stocks,
+      ahead_first _ _ _ _ _ _ refl c.own-left.ensures.messages c.find_next-next.ensures.found (c.in_ok-ahead.ensures {u = tt}).items c.find_next-next.ensures.left,
     )

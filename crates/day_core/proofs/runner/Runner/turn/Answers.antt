@@ -4,8 +4,8 @@ use Rattle.std.proofs.lemmas.List.{length-map, set-get_or}
 use Rattle.stock_machine.specs.StockRows.{StockMachine}
 use Rattle.day_core.specs.Workers.{IsFound, IsRunner, IsTurned, MayGrowNext, WorkerState, machine_at, state_in, worker_messages}
 use Rattle.day_core.specs.declared.runner.FoundMessage.{FoundMessage}
-use Rattle.day_core.proofs.OwnLeft.{ahead_after, done_below, next_fits, next_index, next_more, next_number, next_payload, next_stock, none_next}
-use Rattle.day_core.proofs.Running.{grows, on_err, runner_after, step_few, step_own, stock_stepped, turned_is}
+use Rattle.day_core.proofs.OwnLeft.{ahead_after, done_below, next_index, next_more, next_number, next_payload, next_stock, none_next}
+use Rattle.day_core.proofs.Running.{grows, next_fits, on_err, runner_after, step_few, step_own, stock_stepped, turned_is}
 use Rattle.day_core.proofs.runner.Runner.turn.Goals as goal
 
 pub returns-in_default-clause-turned : goal.returns-in_default-clause-turned
@@ -25,14 +25,14 @@ step-requires-clause-own g c =
 pub step-requires-clause-few : goal.step-requires-clause-few
 step-requires-clause-few g c =
     let has = c.self.invariant.1 in
-    step_few _ _ _ c.self.invariant.0 _ (next_more _ _ _ _ _ _ has _ c.in-Some.is) (next_number _ _ _ _ _ _ has _ c.in-Some.is) _ c.index_mut.result.now (next_index _ _ _ _ _ _ has _ c.in-Some.is) (next_stock _ _ _ _ _ _ has _ c.in-Some.is) c.index_mut.ensures.value (next_fits _ _ _ _ _ _ has _ c.in-Some.is)
+    step_few _ _ _ c.self.invariant.0 _ (next_more _ _ _ _ _ _ has _ c.in-Some.is) (next_number _ _ _ _ _ _ has _ c.in-Some.is) _ c.index_mut.result.now (next_index _ _ _ _ _ _ has _ c.in-Some.is) (next_stock _ _ _ _ _ _ has _ c.in-Some.is) c.index_mut.ensures.value
 
 pub overflow_add-self : goal.overflow_add-self
 overflow_add-self g c =
     let has = c.self.invariant.1 in
     let inside = c.self.inside in
     let more = next_more _ _ _ _ _ _ has _ c.in-Some.is in
-    omega (arith, next_number _ _ _ _ _ _ has _ c.in-Some.is, next_fits _ _ _ _ _ _ has _ c.in-Some.is, done_below inside.parts.now.workers inside.worker inside.parts.now.day inside.done more)
+    omega (arith, next_number _ _ _ _ _ _ has _ c.in-Some.is, next_fits _ _ _ c.self.invariant.0 _ more (next_number _ _ _ _ _ _ has _ c.in-Some.is), done_below inside.parts.now.workers inside.worker inside.parts.now.day inside.done more)
 
 pub take_next-self-inside-requires-clause-found : goal.take_next-self-inside-requires-clause-found
 take_next-self-inside-requires-clause-found g c =
