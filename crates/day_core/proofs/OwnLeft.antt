@@ -1,5 +1,5 @@
 -- A worker's messages of a day, each with its payload: those that are left, and those that were found ahead.
-use Rattle.std.proofs.Common.{◌≡◌, ℕ, zero, suc, ◌+◌, ◌-◌, ◌^◌, ◌<◌, ◌≤◌, List, [], ◌∷◌, ◌++◌, length, drop, take, get_or, eqb, map, true, false, Option, Some, None, IfNone, IfSome, MatchOption, refl, append-nil, append_assoc, ap, sym, subst, ◌∙◌, arith}
+use Rattle.std.proofs.Common.{◌≡◌, ℕ, zero, suc, ◌+◌, ◌-◌, ◌<◌, ◌≤◌, List, [], ◌∷◌, ◌++◌, length, drop, take, get_or, eqb, map, true, false, Option, Some, None, IfNone, IfSome, MatchOption, refl, append-nil, append_assoc, ap, sym, subst, ◌∙◌, arith}
 use Rattle.std.specs.List.{All, Contains, range_with_len, slice_get}
 use Rattle.std.specs.Option.{option_map, option_to_list}
 use Rattle.std.proofs.lemmas.List.{length-drop, length-map, map-append, take_all}

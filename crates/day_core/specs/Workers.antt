@@ -104,8 +104,8 @@ pub record AreAhead (s : WorkerState) (locates : List ℕ) (next : Option FoundM
   pub found : All (λ f. IsFound locates f.payload.now f.index) ahead
   pub left_are : AreOfStocks locates left
 
--- what a runner keeps, on a day whose messages 32 bits count: its stocks' locate codes, and their machines as far as
--- it has come
+-- what a runner keeps, of a day of fewer than 2^32 messages: its stocks' locate codes, and their machines as far as it
+-- has come
 pub record IsRunner (s : WorkerState) (locates : List ℕ) (stocks : List StockMachine) : Type 0 where
   pub few : length s.day < 2 ^ 32
   pub within : s.done ≤ length (worker_messages s)

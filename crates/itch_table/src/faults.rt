@@ -60,6 +60,7 @@ fn has_shares(shares: u32) -> Result<(), Fault>
 
 // No order lives under the reference, and none has had it. An order is looked for only to tell which of the two faults
 // it is.
+#[inline(always)]
 fn is_new_reference<S: Store>(store: &S, locate: u16, reference: u64) -> Result<(), Fault>
     requires { Holds (S.held store.now) locate }
     ensures { let w = (S.held store.now).world in
@@ -75,6 +76,7 @@ fn is_new_reference<S: Store>(store: &S, locate: u16, reference: u64) -> Result<
 }
 
 // An order lives under the reference.
+#[inline(always)]
 fn is_live<S: Store>(store: &S, locate: u16, reference: u64) -> Result<Found, Fault>
     requires { Holds (S.held store.now) locate }
     ensures fault { result_err result ≡ is_live (S.held store.now).world locate reference }
@@ -138,6 +140,7 @@ pub(crate) fn check_side<S: Store>(
 }
 
 /// The checks of a new order.
+#[inline(always)]
 pub(crate) fn check_add<S: Store>(
     store: &S,
     locate: u16,
@@ -157,6 +160,7 @@ pub(crate) fn check_add<S: Store>(
 }
 
 /// The checks of a message that takes shares off an order, which find that order.
+#[inline(always)]
 pub(crate) fn check_shares<S: Store>(
     store: &S,
     locate: u16,
@@ -176,6 +180,7 @@ pub(crate) fn check_shares<S: Store>(
 }
 
 /// The checks of an execution at a price of its own, which find the order.
+#[inline(always)]
 pub(crate) fn check_execute_price<S: Store>(
     store: &S,
     head: &Head,
@@ -195,6 +200,7 @@ pub(crate) fn check_execute_price<S: Store>(
 }
 
 /// The checks of a delete, which find the order.
+#[inline(always)]
 pub(crate) fn check_delete<S: Store>(store: &S, locate: u16, reference: u64) -> Result<Found, Fault>
     requires { Holds (S.held store.now) locate }
     ensures fault { let w = (S.held store.now).world in
@@ -206,6 +212,7 @@ pub(crate) fn check_delete<S: Store>(store: &S, locate: u16, reference: u64) -> 
 }
 
 /// The checks of a replacement, which find the order that is replaced.
+#[inline(always)]
 pub(crate) fn check_replace<S: Store>(
     store: &S,
     head: &Head,

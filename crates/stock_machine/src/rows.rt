@@ -15,9 +15,7 @@ use std::marker::Model;
 /// A stock's live orders, the references that they have had, its trades, and what is known of it.
 #[derive(Drop)]
 pub(crate) struct Rows<A: Allocator> {
-    // The order is that of memory. A machine takes three pairs of lines of 64 bytes, and begins 16 bytes into the first
-    // line of a pair: in that pair stands what new orders and directory messages read, and the book's heads, which every
-    // message about an order reads, fill the next pair.
+    // In the order of memory: what most messages read lies in few lines, as docs/DECISIONS.md explains.
     known: Option<StockRow>,
     locate: u16,
     spent: SpentReferences<A>,
