@@ -100,7 +100,7 @@ fn gathered<A: Allocator + Copy>(
 /// The first faulty piece, in the order of the lists and in each of its own, is the fault: [`MergeFault::Double`] or
 /// [`MergeFault::Stranger`]. Where all pieces are sound and a message has none, the least such message is
 /// [`MergeFault::Missing`]. [`MergeFault::Memory`] where memory is refused: all of it is taken before the pieces are
-/// looked at.
+/// looked at. After a fault the lists are gone.
 pub fn merge<A: Allocator + Copy>(
     alloc: A,
     messages: u32,

@@ -77,6 +77,8 @@ fn queues_of<T: Drop, A: Allocator + Copy>(
 
 /// What each worker has for its stocks, for all stocks of a day by rising locate code. The caller passes for each
 /// worker, in the order of their numbers, one value for each of its stocks, by rising locate code.
+///
+/// After an error the values are gone.
 pub fn in_order<T: Drop, A: Allocator + Copy>(
     alloc: A,
     parts: &Parts<'_, A>,

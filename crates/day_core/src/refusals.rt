@@ -51,6 +51,8 @@ fn joined<A: Allocator + Copy>(
 
 /// The refused messages of a day with their outcomes, by rising number. The caller passes for each worker, in the order
 /// of their numbers, those of its messages that were refused, by their rising numbers.
+///
+/// After an error these lists are gone.
 pub fn all_refused<A: Allocator + Copy>(
     alloc: A,
     parts: &Parts<'_, A>,

@@ -21,8 +21,8 @@
 //!
 //! All meet one contract, `Runs`, which says what was read, written and returned for each result. [`limits`] has the
 //! greatest inputs that they take, and [`status`] the exit status for what an engine returned. The functions that begin
-//! with `put_` add the lines of a report that other outputs have too; after an error the text may have a part of what
-//! was to be added.
+//! with `put_` add the lines of a report that other outputs have too; what the text holds after an error, no contract
+//! says.
 //!
 //! Reports, texts and their lines, limits and exit statuses are of this project. An `AllocError` and
 //! `ProgFault::Memory` say that memory was refused.

@@ -13,7 +13,8 @@ use std::marker::Model;
 
 /// The live orders of one stock, each under its reference, and the levels that they make.
 ///
-/// The levels are kept beside the orders, so that no call but [`Book::orders`] and [`Book::copy`] walks all orders.
+/// The levels are kept beside the orders, so that no call sums them over the orders. [`Book::orders`] and [`Book::copy`]
+/// walk all orders, and so does now and then a call that takes one away, which then drops those that have gone.
 ///
 /// What the calls do is of Nasdaq TotalView-ITCH 5.0, "Add Order Message" and "Modify Order Messages"; levels are of
 /// this project. A book refuses nothing: its caller sees by [`Book::order`] that a reference is live, or isn't. Prices

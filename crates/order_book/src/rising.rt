@@ -208,8 +208,8 @@ fn window_of(rows: &[RisenRow], distance: u64) -> Window
     Window { start: 0, end }
 }
 
-// The index of the order that lives under a reference. The window is halved without a branch on what is found, which
-// goes either way as often: the processor would guess wrong at every second step.
+// The index of the order that lives under a reference. The window is halved by a choice between two places, of which
+// the compiler makes a branch; a form without one was no faster (docs/PERFORMANCE.md).
 #[inline(always)]
 fn index_of(first: u64, rows: &[RisenRow], reference: u64) -> Option<usize>
     requires { AreRising rows.now }

@@ -275,6 +275,19 @@ fn a_list_or_a_copy_without_memory_is_none(rt: HostRuntime) -> Result<(), Fail> 
 }
 
 #[test]
+fn lists_and_a_copy_take_memory_of_their_allocator(rt: HostRuntime) -> Result<(), Fail> {
+    let heap = Refusing::new(rt.alloc(), Refusal::Never);
+    let other = Refusing::new(rt.alloc(), Refusal::Never);
+    let book = both_sided(&heap)?;
+    heap.restart(Refusal::From(1));
+    for listing in LISTINGS {
+        list(&other, &book, listing)??;
+    }
+    let copy = book.copy(&other)?;
+    same_copy(&other, &copy, &book)
+}
+
+#[test]
 fn shares_and_orders_go_without_memory(rt: HostRuntime) -> Result<(), Fail> {
     let heap = Refusing::new(rt.alloc(), Refusal::Never);
     let mut book = both_sided(&heap)?;

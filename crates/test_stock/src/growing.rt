@@ -337,6 +337,19 @@ fn a_list_or_a_copy_without_memory_is_none(rt: HostRuntime) -> Result<(), Fail> 
     Ok(())
 }
 
+#[test]
+fn lists_and_a_copy_take_memory_of_their_allocator(rt: HostRuntime) -> Result<(), Fail> {
+    let heap = Refusing::new(rt.alloc(), Refusal::Never);
+    let other = Refusing::new(rt.alloc(), Refusal::Never);
+    let stock = after(&heap, &both_sides())?;
+    heap.restart(Refusal::From(1));
+    for listing in LISTINGS {
+        list(&other, &stock, listing)??;
+    }
+    let copy = stock.copy(&other)?;
+    same_copy(&other, &copy, &stock)
+}
+
 // A message that is applied.
 fn applied(msg: Msg) -> (Msg, Outcome) {
     (msg, Outcome::Applied)

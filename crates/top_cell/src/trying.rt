@@ -1,4 +1,4 @@
-// The tries of a screen.
+//! The tries of a screen.
 ghost use Rattle.std.specs.Prelude.{◌≡◌, ◌+◌, ◌*◌, ◌<◌, ◌≤◌, [], IfOk, IfErr, Some};
 ghost use Rattle.top_cell.specs.Rule.{IsScreen, sight, sight_of, stock_of};
 ghost use Rattle.top_cell.specs.Seats.{IsSameSeat, IsSeatOf};

@@ -1,4 +1,4 @@
-// The steps of a writer.
+//! The steps of a writer.
 ghost use Rattle.std.specs.Prelude.{◌≡◌, ◌+◌, ◌<◌, slice_index};
 ghost use Rattle.top_cell.specs.Rule.{IsIdle, IsWriting, ShowsOf, Turns, change_of, number_in, number_of, stock_of};
 ghost use Rattle.top_cell.specs.Seats.{HasFewMessages, IsSameSeat, IsSeatOf};
