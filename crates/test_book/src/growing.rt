@@ -280,9 +280,8 @@ fn lists_and_a_copy_take_memory_of_their_allocator(rt: HostRuntime) -> Result<()
     let other = Refusing::new(rt.alloc(), Refusal::Never);
     let book = both_sided(&heap)?;
     heap.restart(Refusal::From(1));
-    for listing in LISTINGS {
-        list(&other, &book, listing)??;
-    }
+    let mut grown = Book::new(&heap).copy(&other)?;
+    make_all(&mut grown, &both_sides())?;
     let copy = book.copy(&other)?;
     same_copy(&other, &copy, &book)
 }

@@ -343,8 +343,9 @@ fn lists_and_a_copy_take_memory_of_their_allocator(rt: HostRuntime) -> Result<()
     let other = Refusing::new(rt.alloc(), Refusal::Never);
     let stock = after(&heap, &both_sides())?;
     heap.restart(Refusal::From(1));
-    for listing in LISTINGS {
-        list(&other, &stock, listing)??;
+    let mut grown = Stock::new(&heap, 1).copy(&other)?;
+    for msg in &both_sides() {
+        take_message(&other, &mut grown, msg, Outcome::Applied)?;
     }
     let copy = stock.copy(&other)?;
     same_copy(&other, &copy, &stock)
