@@ -274,16 +274,24 @@ fn a_list_or_a_copy_without_memory_is_none(rt: HostRuntime) -> Result<(), Fail> 
     Ok(())
 }
 
+// Copies a book without orders and one of both sides into memory of this allocator. The first gets the orders of the
+// other then.
+fn copies_in<A: Allocator + Copy>(alloc: A, empty: &Book<A>, book: &Book<A>) -> Result<(), Fail> {
+    let mut grown = empty.copy(alloc)?;
+    make_all(&mut grown, &both_sides())?;
+    same_copy(alloc, &grown, book)?;
+    let copy = book.copy(alloc)?;
+    same_copy(alloc, &copy, book)
+}
+
 #[test]
 fn lists_and_a_copy_take_memory_of_their_allocator(rt: HostRuntime) -> Result<(), Fail> {
     let heap = Refusing::new(rt.alloc(), Refusal::Never);
     let other = Refusing::new(rt.alloc(), Refusal::Never);
+    let empty = Book::new(&heap);
     let book = both_sided(&heap)?;
     heap.restart(Refusal::From(1));
-    let mut grown = Book::new(&heap).copy(&other)?;
-    make_all(&mut grown, &both_sides())?;
-    let copy = book.copy(&other)?;
-    same_copy(&other, &copy, &book)
+    copies_in(&other, &empty, &book)
 }
 
 #[test]

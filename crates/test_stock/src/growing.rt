@@ -337,18 +337,30 @@ fn a_list_or_a_copy_without_memory_is_none(rt: HostRuntime) -> Result<(), Fail> 
     Ok(())
 }
 
+// Copies a machine without messages and one of both sides into memory of this allocator. The first takes the messages
+// of the other then.
+fn copies_in<A: Allocator + Copy>(
+    alloc: A,
+    empty: &Stock<A>,
+    stock: &Stock<A>,
+) -> Result<(), Fail> {
+    let mut grown = empty.copy(alloc)?;
+    for msg in both_sides() {
+        take_message(alloc, &mut grown, &msg, Outcome::Applied)?;
+    }
+    same_copy(alloc, &grown, stock)?;
+    let copy = stock.copy(alloc)?;
+    same_copy(alloc, &copy, stock)
+}
+
 #[test]
 fn lists_and_a_copy_take_memory_of_their_allocator(rt: HostRuntime) -> Result<(), Fail> {
     let heap = Refusing::new(rt.alloc(), Refusal::Never);
     let other = Refusing::new(rt.alloc(), Refusal::Never);
+    let empty = Stock::new(&heap, 1);
     let stock = after(&heap, &both_sides())?;
     heap.restart(Refusal::From(1));
-    let mut grown = Stock::new(&heap, 1).copy(&other)?;
-    for msg in &both_sides() {
-        take_message(&other, &mut grown, msg, Outcome::Applied)?;
-    }
-    let copy = stock.copy(&other)?;
-    same_copy(&other, &copy, &stock)
+    copies_in(&other, &empty, &stock)
 }
 
 // A message that is applied.
