@@ -1,3 +1,5 @@
 pub mod ByteRanges
 pub mod Splitting
 pub mod Offsets
+pub mod PiecesRead
+pub mod Fronts

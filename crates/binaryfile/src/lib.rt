@@ -29,18 +29,26 @@ mod day;
 mod feed;
 mod load;
 mod payloads;
+mod pieces;
 mod scan;
 mod sink;
 
 pub use crate::day::{Day, Limits};
 pub use crate::feed::Feed;
-pub use crate::load::{LoadFault, read_to_end};
+pub use crate::load::{LoadFault, read_in_pieces, read_to_end};
 pub use crate::payloads::Payloads;
+pub use crate::pieces::FileBytes;
 pub use crate::scan::Place;
 pub use crate::sink::{Sink, WriteFault, send};
 
 /// One entry in every 8 has its place in the index of a day, so the index has a byte a message.
 const STRIDE: usize = 8;
+
+/// How many bytes a piece of a file has that is loaded in pieces, without those that it has of the next one.
+const PIECE: usize = 1 << 22;
+
+/// How many bytes of the next pieces a piece has after its own: the most that an entry has.
+const OVERLAP: usize = 2 + 65_535;
 
 /// The law on which the view of a [`Day`] rests: every string of bytes has exactly one splitting into payloads, a
 /// marker or none, and a tail. Calling it does nothing.
