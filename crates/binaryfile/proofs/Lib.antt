@@ -3,3 +3,5 @@ pub mod Splitting
 pub mod Offsets
 pub mod PiecesRead
 pub mod Fronts
+pub mod Joining
+pub mod Taking

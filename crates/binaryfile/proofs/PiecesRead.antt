@@ -3,6 +3,9 @@ use Rattle.std.proofs.Common.{inl, inr, ◌≡◌, ◌⊎◌, ℕ, zero, suc, �
 use Rattle.std.proofs.lemmas.List.{drop_at, drop-drop, drop-take, drop_all, length-append, length-take, length-take-le, length-drop, take_all}
 use Rattle.std.proofs.lemmas.Bool.{cases_lt}
 use Rattle.std.proofs.Math.Seq.{take-length}
+use Rattle.std.proofs.lemmas.List.Elements.{All-append, All-head, All-nil, All-tail, All-take}
+use Rattle.std.specs.List.{All}
+use Rattle.byte_strings.specs.Bytes.{IsByte, AreBytes}
 use Rattle.binaryfile.specs.Pieces.{OverlapBy, joined_by}
 
 -- what stands after the bytes of the first piece's own
@@ -115,3 +118,11 @@ joined_length own shared first more overlap =
 pub last_piece : (own shared : ℕ) (first : List ℕ) (more : List (List ℕ)) → OverlapBy own shared (first ∷ more)
     → get_or (first ∷ more) (length more) [] ≡ drop (length more * own) (joined_by own (first ∷ more))
 last_piece own shared first more overlap = (piece_at own shared first more (length more) overlap (omega arith)).whole refl
+
+-- the bytes of pieces are bytes
+pub joined_are : (own : ℕ) (pieces : List (List ℕ)) → All AreBytes pieces → AreBytes (joined_by own pieces)
+joined_are own [] each = All-nil IsByte
+joined_are own (piece ∷ []) each = All-head AreBytes piece [] each
+joined_are own (piece ∷ next ∷ more) each =
+    All-append IsByte (take own piece) (joined_by own (next ∷ more)) (All-take IsByte own piece (All-head AreBytes piece (next ∷ more) each))
+    (joined_are own (next ∷ more) (All-tail AreBytes piece (next ∷ more) each))

@@ -24,6 +24,11 @@ joined pieces = joined_by PIECE pieces
 abbrev pub Overlap : List (List ℕ) → Type 0
 Overlap pieces = OverlapBy PIECE OVERLAP pieces
 
+-- pieces that overlap, each of them with PIECE bytes of its own, also the last one
+pub record AreFull (pieces : List (List ℕ)) : Type 0 where
+  pub overlap : Overlap pieces
+  pub whole : length (joined pieces) ≡ length pieces * PIECE
+
 -- where the last piece begins
 abbrev pub last_start : List (List ℕ) → ℕ
 last_start [] = 0

@@ -27,6 +27,7 @@ ghost use Rattle.binaryfile.specs.Entries.{EachHasOneSplitting};
 
 mod day;
 mod feed;
+mod file_bytes;
 mod load;
 mod payloads;
 mod pieces;
@@ -35,9 +36,9 @@ mod sink;
 
 pub use crate::day::{Day, Limits};
 pub use crate::feed::Feed;
+pub use crate::file_bytes::FileBytes;
 pub use crate::load::{LoadFault, read_in_pieces, read_to_end};
 pub use crate::payloads::Payloads;
-pub use crate::pieces::FileBytes;
 pub use crate::scan::Place;
 pub use crate::sink::{Sink, WriteFault, send};
 

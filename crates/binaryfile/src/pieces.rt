@@ -1,195 +1,266 @@
-//! The bytes of a file in memory.
-ghost use Rattle.std.specs.Prelude.{◌≡◌, ◌+◌, ◌<◌, ◌≤◌, ◌^◌, [], ◌∷◌, drop, length, map, IfErr, IfOk, IsErr, IsOk, MatchOption, slice_index_or};
-ghost use Rattle.binaryfile.specs.Devices.{HasFailed, Sends};
-ghost use Rattle.byte_strings.specs.Bytes.{AreBytes};
-ghost use Rattle.binaryfile.specs.Index.{payloads_of};
-ghost use Rattle.binaryfile.specs.Pieces.{ArePieces, IsFront, joined};
+//! Reading the whole of an input into pieces of memory, which other threads make meanwhile.
+ghost use Rattle.std.specs.Prelude.{◌≡◌, ◌≢◌, ◌+◌, ◌*◌, ◌<◌, ◌≤◌, ◌^◌, ◌↔◌, ◌++◌, All, length, map, take, vec_len, Ok, Err, IfOk, OnOk, IsErr, IsErrOf, true, false};
+ghost use Rattle.std.specs.Thread.{IsSend, IsSync};
+ghost use denote.Param.Send.{Frees};
+ghost use Rattle.std.specs.Io.KnownBytes.{Consumes, IsAtEnd};
+ghost use Rattle.binaryfile.specs.Devices.{HasFailed, GaveAll, GaveMore, GaveUpTo};
+ghost use Rattle.binaryfile.specs.Loading.{TookSome, TookMore};
+ghost use Rattle.binaryfile.specs.Pieces.{joined, Overlap, AreFull};
 
-use crate::{PIECE, Sink, WriteFault, send};
+use crate::load::read_up_to;
+use crate::{Feed, LoadFault, OVERLAP, PIECE};
 use std::alloc::{AllocError, Allocator};
-use std::io::Write;
-use std::marker::Model;
+use std::io;
+use std::io::Read;
+use std::thread::{Threads, join_mut, map_indices};
 
-/// The bytes of a file in memory, in one piece or in several of 4 MiB each, whose memory several threads can prepare.
+/// How many rooms are made at a time, each by a thread of its own.
+const ROOMS: usize = 4;
+
+/// Memory for one piece, whose every page has been written to, or the refusal of it.
+type Room<A> = Result<Vec<u8, A>, AllocError>;
+
+// A room: the bytes of a piece, all zeros, and the capacity for those that it has of the next one.
+fn new_room<A: Allocator>(alloc: A) -> Room<A>
+    ensures { IfOk result (λ room. length room.items ≡ PIECE) }
+{
+    let mut room = Vec::from_elem(alloc, 0, PIECE + OVERLAP)?;
+    room.truncate(PIECE);
+    Ok(room)
+}
+
+// Some rooms, made side by side.
+fn new_rooms<T: Threads + Sync, A: Allocator + Copy + Send + Sync>(
+    rt: &T,
+    alloc: A,
+) -> Result<Vec<Room<A>, A>, AllocError>
+    ensures some { IfOk result (λ rooms. 0 < vec_len rooms) }
+    ensures each { IfOk result (λ rooms. All (λ room. IfOk room (λ r. length r.items ≡ PIECE)) rooms.items) }
+{
+    map_indices(rt, alloc, ROOMS, &|_| new_room(alloc))
+}
+
+// Reads until `room` is full or the input ends, and returns how many bytes came.
+fn fill<R: Read>(feed: &mut Feed<R>, room: &mut [u8]) -> io::Result<usize>
+    requires working { feed.old.failed ≡ false }
+    ensures took { TookSome (R.remaining feed.old.device) (R.remaining feed.new.device) room.new result }
+    ensures failed { IsErr result ↔ HasFailed feed.new }
+{
+    let mut count = 0;
+    while count < room.len() {
+        let read = feed.read(&mut room[count..])?;
+        if read == 0 {
+            return Ok(count);
+        }
+        count += read;
+    }
+    Ok(count)
+}
+
+// Adds a piece: the one before goes on with the first of its bytes.
+fn add_piece<A: Allocator>(
+    pieces: &mut Vec<Vec<u8, A>, A>,
+    next: Vec<u8, A>,
+) -> Result<(), AllocError>
+    requires { AreFull (map (λ piece. piece.items) pieces.old.items) }
+    ensures overlap { OnOk result (Overlap (map (λ piece. piece.items) pieces.new.items)) }
+    ensures joined { OnOk result (joined (map (λ piece. piece.items) pieces.new.items)
+        ≡ joined (map (λ piece. piece.items) pieces.old.items) ++ next.items) }
+    ensures count { OnOk result (vec_len pieces.new ≡ vec_len pieces.old + 1) }
+{
+    if let Some(mut last) = pieces.pop() {
+        last.extend_from_slice(&next[..next.len().min(OVERLAP)])?;
+        pieces.push(last)?;
+    }
+    pieces.push(next)?;
+    Ok(())
+}
+
+// Fills one room and adds it, cut to what came. Returns false at the end of the input.
+fn read_piece<R: Read, A: Allocator>(
+    feed: &mut Feed<R>,
+    mut room: Vec<u8, A>,
+    pieces: &mut Vec<Vec<u8, A>, A>,
+    limit: u64,
+) -> Result<bool, LoadFault>
+    requires working { feed.old.failed ≡ false }
+    requires room { length room.items ≡ PIECE }
+    requires full { AreFull (map (λ piece. piece.items) pieces.old.items) }
+    requires within { vec_len pieces.old * PIECE ≤ limit }
+    requires limit { limit ≤ 2 ^ 40 }
+    ensures took { TookMore (R.remaining feed.old.device) (R.remaining feed.new.device)
+        (map (λ piece. piece.items) pieces.old.items)
+        (map (λ piece. piece.items) pieces.new.items) limit result }
+    ensures full { result ≡ Ok true → AreFull (map (λ piece. piece.items) pieces.new.items) }
+    ensures end { result ≡ Ok false → IsAtEnd (R.remaining feed.new.device) }
+    ensures more { result ≡ Ok true → vec_len pieces.new ≡ vec_len pieces.old + 1 }
+    ensures failed { IsErrOf result LoadFault.Read ↔ HasFailed feed.new }
+    ensures not_messages { result ≢ Err LoadFault.TooManyMessages }
+{
+    let most = limit + 1 - (pieces.len() * PIECE) as u64;
+    let asked = most.min(PIECE as u64) as usize;
+    room.truncate(asked);
+    let count = fill(feed, &mut room)?;
+    if count as u64 == most {
+        return Err(LoadFault::TooManyBytes);
+    }
+    if count == 0 {
+        return Ok(false);
+    }
+    room.truncate(count);
+    add_piece(pieces, room)?;
+    Ok(count == PIECE)
+}
+
+// Fills the rooms one after another and adds them. Returns false at the end of the input.
+fn read_rooms<R: Read, A: Allocator>(
+    feed: &mut Feed<R>,
+    rooms: &mut Vec<Room<A>, A>,
+    pieces: &mut Vec<Vec<u8, A>, A>,
+    limit: u64,
+) -> Result<bool, LoadFault>
+    requires working { feed.old.failed ≡ false }
+    requires some { 0 < vec_len rooms.old }
+    requires rooms { All (λ room. IfOk room (λ r. length r.items ≡ PIECE)) rooms.old.items }
+    requires full { AreFull (map (λ piece. piece.items) pieces.old.items) }
+    requires within { vec_len pieces.old * PIECE ≤ limit }
+    requires limit { limit ≤ 2 ^ 40 }
+    ensures took { TookMore (R.remaining feed.old.device) (R.remaining feed.new.device)
+        (map (λ piece. piece.items) pieces.old.items)
+        (map (λ piece. piece.items) pieces.new.items) limit result }
+    ensures full { result ≡ Ok true → AreFull (map (λ piece. piece.items) pieces.new.items) }
+    ensures end { result ≡ Ok false → IsAtEnd (R.remaining feed.new.device) }
+    ensures more { result ≡ Ok true → vec_len pieces.old < vec_len pieces.new }
+    ensures failed { IsErrOf result LoadFault.Read ↔ HasFailed feed.new }
+    ensures not_messages { result ≢ Err LoadFault.TooManyMessages }
+{
+    while let Some(room) = rooms.pop() {
+        if !read_piece(feed, room?, pieces, limit)? {
+            return Ok(false);
+        }
+    }
+    Ok(true)
+}
+
+// Fills the rooms, while other threads make the rooms after them.
+fn read_round<'a, T: Threads + Sync, R: Read, A: Allocator + Copy + Send + Sync>(
+    rt: &T,
+    alloc: A,
+    feed: &'a mut Feed<R>,
+    rooms: &'a mut Vec<Room<A>, A>,
+    pieces: &'a mut Vec<Vec<u8, A>, A>,
+    limit: u64,
+) -> (Result<Vec<Room<A>, A>, AllocError>, Result<bool, LoadFault>)
+    requires working { feed.old.failed ≡ false }
+    requires some { 0 < vec_len rooms.old }
+    requires rooms { All (λ room. IfOk room (λ r. length r.items ≡ PIECE)) rooms.old.items }
+    requires full { AreFull (map (λ piece. piece.items) pieces.old.items) }
+    requires within { vec_len pieces.old * PIECE ≤ limit }
+    requires limit { limit ≤ 2 ^ 40 }
+    ensures some { IfOk result.0 (λ next. 0 < vec_len next) }
+    ensures each { IfOk result.0 (λ next. All (λ room. IfOk room (λ r. length r.items ≡ PIECE)) next.items) }
+    ensures took { TookMore (R.remaining feed.old.device) (R.remaining feed.new.device)
+        (map (λ piece. piece.items) pieces.old.items)
+        (map (λ piece. piece.items) pieces.new.items) limit result.1 }
+    ensures full { result.1 ≡ Ok true → AreFull (map (λ piece. piece.items) pieces.new.items) }
+    ensures end { result.1 ≡ Ok false → IsAtEnd (R.remaining feed.new.device) }
+    ensures more { result.1 ≡ Ok true → vec_len pieces.old < vec_len pieces.new }
+    ensures failed { IsErrOf result.1 LoadFault.Read ↔ HasFailed feed.new }
+    ensures not_messages { result.1 ≢ Err LoadFault.TooManyMessages }
+{
+    let mut make = move || -> Result<Vec<Room<A>, A>, AllocError>
+        requires { IsSync T.row × IsSend A.row × IsSync A.row × Frees A.Allocator A.dealloc_token }
+        ensures { IfOk result (λ next. (0 < vec_len next)
+            × All (λ room. IfOk room (λ r. length r.items ≡ PIECE)) next.items) }
+    { new_rooms(rt, alloc) };
+    let mut read = || -> Result<bool, LoadFault>
+        requires { (feed.now.failed ≡ false) × (0 < vec_len rooms.now)
+            × All (λ room. IfOk room (λ r. length r.items ≡ PIECE)) rooms.now.items
+            × AreFull (map (λ piece. piece.items) pieces.now.items)
+            × (vec_len pieces.now * PIECE ≤ limit) × (limit ≤ 2 ^ 40) }
+        ensures took { TookMore (R.remaining feed.entry.now.device) (R.remaining feed.exit.now.device)
+            (map (λ piece. piece.items) pieces.entry.now.items)
+            (map (λ piece. piece.items) pieces.exit.now.items) limit result }
+        ensures full { result ≡ Ok true → AreFull (map (λ piece. piece.items) pieces.exit.now.items) }
+        ensures end { result ≡ Ok false → IsAtEnd (R.remaining feed.exit.now.device) }
+        ensures more { result ≡ Ok true → vec_len pieces.entry.now < vec_len pieces.exit.now }
+        ensures failed { IsErrOf result LoadFault.Read ↔ HasFailed feed.exit.now }
+        ensures not_messages { result ≢ Err LoadFault.TooManyMessages }
+    { read_rooms(feed, rooms, pieces, limit) };
+    join_mut(rt, &mut make, &mut read)
+}
+
+// Adds all that the feed has after the full pieces that were read.
+fn read_rest<T: Threads + Sync, R: Read, A: Allocator + Copy + Send + Sync>(
+    rt: &T,
+    alloc: A,
+    feed: &mut Feed<R>,
+    pieces: &mut Vec<Vec<u8, A>, A>,
+    limit: u64,
+) -> Result<(), LoadFault>
+    requires some { 0 < vec_len pieces.old }
+    requires working { feed.old.failed ≡ false }
+    requires full { AreFull (map (λ piece. piece.items) pieces.old.items) }
+    requires within { vec_len pieces.old * PIECE ≤ limit }
+    requires limit { limit ≤ 2 ^ 40 }
+    ensures took { TookMore (R.remaining feed.old.device) (R.remaining feed.new.device)
+        (map (λ piece. piece.items) pieces.old.items)
+        (map (λ piece. piece.items) pieces.new.items) limit result }
+    ensures end { OnOk result (IsAtEnd (R.remaining feed.new.device)) }
+    ensures some { OnOk result (0 < vec_len pieces.new) }
+    ensures failed { IsErrOf result LoadFault.Read ↔ HasFailed feed.new }
+    ensures not_messages { result ≢ Err LoadFault.TooManyMessages }
+{
+    let mut rooms = new_rooms(rt, alloc)?;
+    loop {
+        let (next, more) = read_round(rt, alloc, feed, &mut rooms, pieces, limit);
+        if !more? {
+            return Ok(());
+        }
+        rooms = next?;
+    }
+}
+
+/// All that the feed gives to its end, where that is no more than `limit` bytes, which are no more than 2^40, in
+/// pieces: each but the last has [`PIECE`] bytes of its own, and goes on with [`OVERLAP`] bytes of those after it, or
+/// as many as there are. All memory is that of `alloc`.
 ///
-/// It is seen as the bytes, and from which place on all of them lie in one piece.
-#[derive(Drop)]
-pub struct FileBytes<A: Allocator> {
-    // Each piece but the last has `PIECE` bytes of its own, and after these the next `OVERLAP` bytes of the file, or as
-    // many as there are. So each entry lies whole in the piece in which it begins.
-    first: Vec<u8, A>,
-    more: Vec<Vec<u8, A>, A>,
-}
-
-impl<A: Allocator> Model for FileBytes<A> {
-    ghost use Rattle.std.specs.Prelude.{◌∷◌, map};
-    ghost use Rattle.binaryfile.specs.Pieces.{ArePieces, FileView, view_of};
-
-    ghost Value = { FileView };
-
-    ghost view = { λ file. view_of (file.first.items ∷ map (λ piece. piece.items) file.more.items) };
-
-    ghost invariant = { λ file. ArePieces (file.first.items ∷ map (λ piece. piece.items) file.more.items) };
-}
-
-// The payload of the first entry, where a whole one stands there.
-fn first_payload(bytes: &[u8]) -> Option<&[u8]>
-    ensures found { MatchOption result (payloads_of bytes.now ≡ [])
-        (λ payload. payloads_of bytes.now ≡ payload.now ∷ payloads_of (drop (2 + length payload.now) bytes.now)) }
-    ensures within { MatchOption result (0 ≤ 0) (λ payload. 2 + length payload.now ≤ length bytes.now) }
+/// It is written to first by other threads, while this one reads. A file that isn't longer than a piece is read into
+/// one that grows, and no thread is started.
+///
+/// The faults are those of [`crate::read_to_end`]. Where the feed fails, memory that was refused meanwhile isn't told.
+pub(crate) fn read_pieces<T: Threads + Sync, R: Read, A: Allocator + Copy + Send + Sync>(
+    rt: &T,
+    alloc: A,
+    feed: &mut Feed<R>,
+    limit: u64,
+) -> Result<Vec<Vec<u8, A>, A>, LoadFault>
+    requires { limit ≤ 2 ^ 40 }
+    ensures all { IfOk result (λ pieces. GaveAll (R.remaining feed.old.device) (R.remaining feed.new.device)
+        (joined (map (λ piece. piece.items) pieces.items))) }
+    ensures within { IfOk result (λ pieces.
+        length (joined (map (λ piece. piece.items) pieces.items)) ≤ limit) }
+    ensures some { IfOk result (λ pieces. 0 < length pieces.items) }
+    ensures overlap { IfOk result (λ pieces. Overlap (map (λ piece. piece.items) pieces.items)) }
+    // The fault is Read exactly where the feed has failed at return.
+    ensures failed { IsErrOf result LoadFault.Read ↔ HasFailed feed.new }
+    // A failed feed stays as it is, and its reader is not asked.
+    ensures for_good { HasFailed feed.old → feed.new ≡ feed.old }
+    ensures too_many_bytes { IsErrOf result LoadFault.TooManyBytes →
+        GaveMore (R.remaining feed.old.device) (R.remaining feed.new.device) limit }
+    ensures not_messages { result ≢ Err LoadFault.TooManyMessages }
+    // Whatever the result, no more is taken than the limit and one byte.
+    ensures taken { GaveUpTo (R.remaining feed.old.device) (R.remaining feed.new.device) (limit + 1) }
 {
-    let (head, rest) = bytes.split_first_chunk::<2>()?;
-    let length = u16::from_be_bytes(*head) as usize;
-    if length == 0 || length > rest.len() {
-        return None;
+    let first = read_up_to(alloc, feed, (limit + 1).min(PIECE as u64))?;
+    if first.len() as u64 > limit {
+        return Err(LoadFault::TooManyBytes);
     }
-    Some(&rest[..length])
-}
-
-// Each element of a slice of bytes is a byte, as its type says. Calling it does nothing.
-fn elements_are_bytes(bytes: &[u8])
-    ensures are { AreBytes bytes.now }
-    ensures fits { length bytes.now < 2 ^ 64 }
-{}
-
-impl<A: Allocator + Copy> FileBytes<A> {
-    /// Bytes that lie in one piece.
-    pub fn in_one_piece(alloc: A, bytes: Vec<u8, A>) -> FileBytes<A>
-        ensures { result ≡ record { bytes = bytes.items; solid = 0 } }
-    {
-        elements_are_bytes(&bytes);
-        FileBytes {
-            first: bytes,
-            more: Vec::new(alloc),
-        }
+    let is_full = first.len() == PIECE;
+    let mut pieces = Vec::new(alloc);
+    add_piece(&mut pieces, first)?;
+    if is_full {
+        read_rest(rt, alloc, feed, &mut pieces, limit)?;
     }
-
-    /// A copy of the bytes, in one piece.
-    pub fn to_vec(&self, alloc: A) -> Result<Vec<u8, A>, AllocError>
-        ensures { IfOk result (λ bytes. bytes.items ≡ self.now.bytes) }
-    {
-        let mut bytes = Vec::with_capacity(alloc, self.len())?;
-        while bytes.len() < self.len() {
-            bytes.extend_from_slice(self.from(bytes.len()))?;
-        }
-        Ok(bytes)
-    }
-}
-
-// A piece with what it has of the next ones.
-fn piece_of<'a, A: Allocator>(
-    first: &'a Vec<u8, A>,
-    more: &'a [Vec<u8, A>],
-    index: usize,
-) -> &'a [u8]
-    requires { index ≤ length more.now }
-    ensures { result.now ≡ slice_index_or
-        (first.entry.now.items ∷ map (λ piece. piece.items) more.entry.now) index [] }
-{
-    match index.checked_sub(1) {
-        None => first,
-        Some(index) => &more[index],
-    }
-}
-
-impl<A: Allocator + Copy> FileBytes<A> {
-    /// The same bytes, of which those from a place on lie in one piece: all of them are copied into one where they
-    /// don't.
-    pub(crate) fn solid_from(self, alloc: A, at: usize) -> Result<FileBytes<A>, AllocError>
-        ensures same { IfOk result (λ file. file.bytes ≡ self.bytes) }
-        ensures solid { IfOk result (λ file. file.solid ≤ at) }
-    {
-        if self.solid() <= at {
-            return Ok(self);
-        }
-        let bytes = self.to_vec(alloc)?;
-        Ok(FileBytes::in_one_piece(alloc, bytes))
-    }
-}
-
-impl<A: Allocator> FileBytes<A> {
-    /// Sends all the bytes, or a prefix of them up to where the writer fails, as [`send`] does.
-    pub(crate) fn send_to<W: Write>(&self, sink: &mut Sink<W>) -> Result<(), WriteFault>
-        ensures sent { Sends (W.contents sink.old.device) (W.contents sink.new.device) self.now.bytes result }
-        ensures failed { IsErr result → HasFailed sink.new }
-        ensures kept { IsOk result → sink.new.failed ≡ sink.old.failed }
-        ensures for_good { HasFailed sink.old → sink.new ≡ sink.old }
-        ensures refused { HasFailed sink.old → 0 < length self.now.bytes → IsErr result }
-        ensures nothing { HasFailed sink.old → IfErr result (λ fault. fault.written ≡ 0) }
-    {
-        let mut sent = 0;
-        while sent < self.len() {
-            let part = self.from(sent);
-            if let Err(fault) = send(sink, part) {
-                return Err(WriteFault {
-                    written: sent as u64 + fault.written,
-                });
-            }
-            sent += part.len();
-        }
-        Ok(())
-    }
-
-    /// How many bytes there are.
-    pub fn len(&self) -> usize
-        ensures len { result ≡ length self.now.bytes }
-        // Each is a byte, which the laws over byte strings ask for.
-        ensures are { AreBytes self.now.bytes }
-    {
-        self.solid() + self.last().len()
-    }
-
-    /// From which place on all bytes lie in one piece.
-    pub(crate) fn solid(&self) -> usize
-        ensures place { result ≡ self.now.solid }
-        ensures within { self.now.solid ≤ length self.now.bytes }
-        ensures are { AreBytes self.now.bytes }
-        ensures fits { length self.now.bytes < 2 ^ 64 }
-    {
-        self.more.len() * PIECE
-    }
-
-    // The bytes from there on.
-    fn last(&self) -> &[u8]
-        ensures { result.now ≡ drop self.now.solid self.now.bytes }
-    {
-        piece_of(&self.first, &self.more, self.more.len())
-    }
-
-    /// The bytes from a place on, all of them or as many as an entry may have. There are none from a place after the
-    /// end on.
-    pub(crate) fn from(&self, at: usize) -> &[u8]
-        ensures front { IsFront result.now (drop at self.now.bytes) }
-        ensures are { AreBytes self.now.bytes }
-        ensures fits { length self.now.bytes < 2 ^ 64 }
-    {
-        let index = (at / PIECE).min(self.more.len());
-        let piece = piece_of(&self.first, &self.more, index);
-        let start = (at - index * PIECE).min(piece.len());
-        &piece[start..]
-    }
-
-    /// All bytes from a place on, from which they lie in one piece.
-    pub(crate) fn rest(&self, at: usize) -> &[u8]
-        requires solid { self.now.solid ≤ at }
-        requires within { at ≤ length self.now.bytes }
-        ensures { result.now ≡ drop at self.now.bytes }
-    {
-        let start = at - self.solid();
-        &self.last()[start..]
-    }
-
-    /// The payload of the entry that begins at a place, where a whole one stands there.
-    #[inline(always)]
-    pub(crate) fn payload_at(&self, at: usize) -> Option<&[u8]>
-        requires { at ≤ length self.now.bytes }
-        ensures found { MatchOption result (payloads_of (drop at self.now.bytes) ≡ []) (λ payload.
-            payloads_of (drop at self.now.bytes)
-            ≡ payload.now ∷ payloads_of (drop (at + (2 + length payload.now)) self.now.bytes)) }
-        ensures within { MatchOption result (0 ≤ 0) (λ payload. at + (2 + length payload.now) ≤ length self.now.bytes) }
-        ensures are { AreBytes self.now.bytes }
-        ensures fits { length self.now.bytes < 2 ^ 64 }
-    {
-        first_payload(self.from(at))
-    }
+    Ok(pieces)
 }
