@@ -143,7 +143,8 @@ fn try_board(heap: &Refusing<Global>, refusal: Refusal) -> Result<Tried, Fail> {
     let mut count = count_writers(&heap, &day);
     let tried = heap.tried(count.is_err());
     if tried.refused {
-        same_bytes("the day", day.bytes(), two_stocks(heap)?.bytes())?;
+        let wanted = two_stocks(heap)?.to_bytes(heap)?;
+        same_bytes("the day", &day.to_bytes(heap)?, &wanted)?;
         count = count_writers(&heap, &day);
     }
     same("how many writers", &count, &Ok(3))?;

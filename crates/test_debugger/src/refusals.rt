@@ -151,7 +151,8 @@ fn try_new(heap: &Refusing<Global>, refusal: Refusal) -> Result<Tried, Fail> {
     let day = tour(heap)?;
     let tried = new_under(heap, &day, refusal)?;
     if tried.refused {
-        same_bytes("the day", day.bytes(), tour(heap)?.bytes())?;
+        let wanted = tour(heap)?.to_bytes(heap)?;
+        same_bytes("the day", &day.to_bytes(heap)?, &wanted)?;
         let again = new_under(heap, &day, Refusal::Never)?;
         same("a debugger with memory", &again.refused, &false)?;
     }

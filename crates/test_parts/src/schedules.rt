@@ -147,7 +147,8 @@ fn try_play<R: Threads + Sync>(
     heap.restart(refusal);
     let played = play(rt, heap, &day, 2, &schedule(1));
     let tried = heap.tried(played.is_err());
-    same_bytes("the day", day.bytes(), crossed_book(heap)?.bytes())?;
+    let wanted = crossed_book(heap)?.to_bytes(heap)?;
+    same_bytes("the day", &day.to_bytes(heap)?, &wanted)?;
     let list = match played {
         Ok(list) => list,
         Err(fault) => {
