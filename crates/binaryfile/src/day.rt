@@ -245,7 +245,10 @@ impl<A: Allocator> Day<A> {
 
     /// How many bytes were loaded.
     pub fn size(&self) -> usize
-        ensures { result ≡ length (bytes_of self.now) }
+        ensures size { result ≡ length (bytes_of self.now) }
+        ensures split { Splits (bytes_of self.now) self.now }
+        // Each is a byte, which the laws over byte strings ask for.
+        ensures are { AreBytes (bytes_of self.now) }
     {
         self.file.len()
     }

@@ -14,8 +14,8 @@ use std::io;
 use std::io::Read;
 use std::thread::{Threads, join_mut, map_indices};
 
-/// How many rooms are made at a time, each by a thread of its own.
-const ROOMS: usize = 4;
+/// How many rooms are made at a time at most, each by a thread of its own.
+const ROOMS: u64 = 4;
 
 /// Memory for one piece, whose every page has been written to, or the refusal of it.
 type Room<A> = Result<Vec<u8, A>, AllocError>;
@@ -29,15 +29,41 @@ fn new_room<A: Allocator>(alloc: A) -> Room<A>
     Ok(room)
 }
 
-// Some rooms, made side by side.
+// So many rooms, made side by side.
 fn new_rooms<T: Threads + Sync, A: Allocator + Copy + Send + Sync>(
     rt: &T,
     alloc: A,
+    count: usize,
 ) -> Result<Vec<Room<A>, A>, AllocError>
+    ensures count { IfOk result (λ rooms. vec_len rooms ≡ count) }
+    ensures each { IfOk result (λ rooms. All (λ room. IfOk room (λ r. length r.items ≡ PIECE)) rooms.items) }
+{
+    map_indices(rt, alloc, count, &|_| new_room(alloc))
+}
+
+// The rooms that were made, or one more where there is none.
+fn some_rooms<T: Threads + Sync, A: Allocator + Copy + Send + Sync>(
+    rt: &T,
+    alloc: A,
+    made: Vec<Room<A>, A>,
+) -> Result<Vec<Room<A>, A>, AllocError>
+    requires { All (λ room. IfOk room (λ r. length r.items ≡ PIECE)) made.items }
     ensures some { IfOk result (λ rooms. 0 < vec_len rooms) }
     ensures each { IfOk result (λ rooms. All (λ room. IfOk room (λ r. length r.items ≡ PIECE)) rooms.items) }
 {
-    map_indices(rt, alloc, ROOMS, &|_| new_room(alloc))
+    if made.is_empty() {
+        return new_rooms(rt, alloc, 1);
+    }
+    Ok(made)
+}
+
+// How many rooms are worth making at once after `count` pieces, where so many bytes are expected in all: no more than
+// they take, since memory that is given back unused would make the allocator treat other large pieces otherwise.
+fn rooms_after(count: usize, expected: u64) -> usize
+    ensures { result ≤ ROOMS }
+{
+    let wanted = (expected / PIECE as u64).saturating_add(1);
+    wanted.saturating_sub(count as u64).min(ROOMS) as usize
 }
 
 // Reads until `room` is full or the input ends, and returns how many bytes came.
@@ -142,10 +168,11 @@ fn read_rooms<R: Read, A: Allocator>(
     Ok(true)
 }
 
-// Fills the rooms, while other threads make the rooms after them.
+// Fills the rooms, while other threads make so many rooms after them.
 fn read_round<'a, T: Threads + Sync, R: Read, A: Allocator + Copy + Send + Sync>(
     rt: &T,
     alloc: A,
+    count: usize,
     feed: &'a mut Feed<R>,
     rooms: &'a mut Vec<Room<A>, A>,
     pieces: &'a mut Vec<Vec<u8, A>, A>,
@@ -157,7 +184,6 @@ fn read_round<'a, T: Threads + Sync, R: Read, A: Allocator + Copy + Send + Sync>
     requires full { AreFull (map (λ piece. piece.items) pieces.old.items) }
     requires within { vec_len pieces.old * PIECE ≤ limit }
     requires limit { limit ≤ 2 ^ 40 }
-    ensures some { IfOk result.0 (λ next. 0 < vec_len next) }
     ensures each { IfOk result.0 (λ next. All (λ room. IfOk room (λ r. length r.items ≡ PIECE)) next.items) }
     ensures took { TookMore (R.remaining feed.old.device) (R.remaining feed.new.device)
         (map (λ piece. piece.items) pieces.old.items)
@@ -170,9 +196,8 @@ fn read_round<'a, T: Threads + Sync, R: Read, A: Allocator + Copy + Send + Sync>
 {
     let mut make = move || -> Result<Vec<Room<A>, A>, AllocError>
         requires { IsSync T.row × IsSend A.row × IsSync A.row × Frees A.Allocator A.dealloc_token }
-        ensures { IfOk result (λ next. (0 < vec_len next)
-            × All (λ room. IfOk room (λ r. length r.items ≡ PIECE)) next.items) }
-    { new_rooms(rt, alloc) };
+        ensures { IfOk result (λ next. All (λ room. IfOk room (λ r. length r.items ≡ PIECE)) next.items) }
+    { new_rooms(rt, alloc, count) };
     let mut read = || -> Result<bool, LoadFault>
         requires { (feed.now.failed ≡ false) × (0 < vec_len rooms.now)
             × All (λ room. IfOk room (λ r. length r.items ≡ PIECE)) rooms.now.items
@@ -211,13 +236,15 @@ fn read_rest<T: Threads + Sync, R: Read, A: Allocator + Copy + Send + Sync>(
     ensures failed { IsErrOf result LoadFault.Read ↔ HasFailed feed.new }
     ensures not_messages { result ≢ Err LoadFault.TooManyMessages }
 {
-    let mut rooms = new_rooms(rt, alloc)?;
-    loop {
-        let (next, more) = read_round(rt, alloc, feed, &mut rooms, pieces, limit);
+    let first = rooms_after(pieces.len(), feed.expected()).max(1);
+    let mut rooms = new_rooms(rt, alloc, first)?;
+    'rounds: loop {
+        let count = rooms_after(pieces.len().saturating_add(rooms.len()), feed.expected());
+        let (next, more) = read_round(rt, alloc, count, feed, &mut rooms, pieces, limit);
         if !more? {
             return Ok(());
         }
-        rooms = next?;
+        rooms = some_rooms(rt, alloc, next?)?;
     }
 }
 

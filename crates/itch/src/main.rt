@@ -44,10 +44,11 @@ fn end(rt: &impl Eprint, returned: Result<u32, ProgFault>) -> ExitCode {
 
 // A file, to be read from its start.
 fn open<R: Runtime>(rt: &R, path: &str) -> Result<Feed<R::File>, ProgFault> {
-    match fs::open(rt, path) {
-        Ok(file) => Ok(Feed::new(file)),
-        Err(_) => Err(ProgFault::Read),
-    }
+    let Ok(file) = fs::open(rt, path) else {
+        return Err(ProgFault::Read);
+    };
+    let size = rt.metadata(path).map_or(0, |metadata| metadata.len());
+    Ok(Feed::of_size(file, size))
 }
 
 // The number of workers that the arguments give, which is in the range of the argument.

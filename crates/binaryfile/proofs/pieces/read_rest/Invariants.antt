@@ -4,8 +4,8 @@ use Rattle.binaryfile.specs.Pieces.{AreFull}
 use Rattle.binaryfile.specs.declared.TheConstants.{PIECE}
 use Rattle.binaryfile.proofs.pieces.read_rest.Given as goal
 
-abbrev pub invariant-loop-next : goal.invariant-loop-next
-invariant-loop-next g l = record {
+abbrev pub invariant-rounds : goal.invariant-rounds
+invariant-rounds g l = record {
   took : TookMore (g.R.Read.remaining l.fn.feed.device) (g.R.Read.remaining l.feed.device) (map (λ piece. piece.items) l.fn.pieces.items) (map (λ piece. piece.items) l.pieces.items) l.limit (Ok true);
   full : AreFull (map (λ piece. piece.items) l.pieces.items);
   within : vec_len l.pieces * PIECE ≤ l.limit;
@@ -14,5 +14,5 @@ invariant-loop-next g l = record {
   working : l.feed.failed ≡ false;
 }
 
-abbrev pub decreases-loop-next : goal.decreases-loop-next
-decreases-loop-next g l = l.limit + 1 - vec_len l.pieces * PIECE
+abbrev pub decreases-rounds : goal.decreases-rounds
+decreases-rounds g l = l.limit + 1 - vec_len l.pieces * PIECE
