@@ -1,5 +1,5 @@
 -- The first payload of some bytes, which is read off the first of them.
-use Rattle.std.proofs.Common.{inl, inr, ◌≡◌, ◌⊎◌, ℕ, ◌+◌, ◌*◌, ◌<◌, ◌≤◌, List, [], ◌∷◌, ◌++◌, length, take, drop, get_or, refl, sym, ◌∙◌, ap, subst, arith}
+use Rattle.std.proofs.Common.{inl, inr, ◌≡◌, ◌⊎◌, ℕ, ◌+◌, ◌-◌, ◌*◌, ◌<◌, ◌≤◌, List, [], ◌∷◌, ◌++◌, length, take, drop, get_or, refl, sym, ◌∙◌, ap, subst, arith}
 use Rattle.std.proofs.lemmas.List.{drop-drop, length-append, length-drop, length-take, length-take-le, take-append-drop, take-append-le, take-take}
 use Rattle.std.proofs.lemmas.List.Elements.{All-drop, All-head, All-tail, All-take}
 use Rattle.std.proofs.lemmas.Bool.{cases_lt}
@@ -7,7 +7,7 @@ use Rattle.std.proofs.Math.Seq.{take-add, take-append_seam}
 use Rattle.std.specs.Prelude.{Option, Some, None, MatchOption}
 use Rattle.byte_strings.specs.Bytes.{IsByte, AreBytes}
 use Rattle.binaryfile.specs.Index.{payloads_of}
-use Rattle.binaryfile.specs.Pieces.{IsFront}
+use Rattle.binaryfile.specs.Pieces.{IsAt, IsFront}
 use Rattle.binaryfile.specs.declared.TheConstants.{OVERLAP}
 use Rattle.binaryfile.proofs.Offsets.{payloads_split}
 
@@ -107,3 +107,39 @@ adds bytes at front inside is =
       within = omega (arith, inside, len, ap length is.is, length-take (length front) (drop at bytes));
       some = λ less. elim is.long [ inl same ↦ omega (arith, less, len, ap length same) | inr long ↦ omega (arith, long) ];
     }
+
+-- one entry on from a place
+pub record OneOn (bytes : List ℕ) (at count : ℕ) (window payload : List ℕ) : Type 0 where
+  pub begins : payloads_of (drop at bytes) ≡ payload ∷ payloads_of (drop (at + (2 + length payload)) bytes)
+  pub next : IsAt bytes (at + (2 + length payload)) (count - (2 + length payload)) (drop (2 + length payload) window)
+
+-- what is read at a place itself
+here : (bytes : List ℕ) (at count : ℕ) (window : List ℕ) → IsAt bytes at count window → 0 < count → IsFront window (drop at bytes)
+here bytes at count window is some =
+    let zero : at + 0 ≡ at = omega arith in
+    subst (λ (k : ℕ). IsFront window (drop k bytes)) zero (is.windows 0 some)
+
+pub one_on : (bytes : List ℕ) (at count : ℕ) (window payload : List ℕ) → IsAt bytes at count window → 0 < count
+    → Begins window payload → 2 + length payload ≤ length window → OneOn bytes at count window payload
+one_on bytes at count window payload is some begins fits =
+    let size : ℕ = 2 + length payload in
+    let front : IsFront window (drop at bytes) = here bytes at count window is some in
+    record {
+      begins =
+          (same_first window (drop at bytes) (All-drop IsByte at bytes is.are) front).some payload begins
+          ∙ ap (λ (x : List ℕ). payload ∷ payloads_of x) (drop-drop size at bytes);
+      next = record {
+        within = omega (arith, fits, is.within, ap length front.is, length-take (length window) (drop at bytes), length-drop at bytes);
+        windows = λ k below.
+            let there : at + (size + k) ≡ at + size + k = omega arith in
+            subst (λ (n : ℕ). IsFront (drop k (drop size window)) (drop n bytes)) there
+            (subst (λ (x : List ℕ). IsFront x (drop (at + (size + k)) bytes)) (sym (drop-drop k size window)) (is.windows (size + k) (omega (arith, below))));
+        are = is.are;
+        fits = is.fits;
+      };
+    }
+
+-- no entry stands at a place
+pub none_on : (bytes : List ℕ) (at count : ℕ) (window : List ℕ) → IsAt bytes at count window → 0 < count → payloads_of window ≡ [] → payloads_of (drop at bytes) ≡ []
+none_on bytes at count window is some none =
+    (same_first window (drop at bytes) (All-drop IsByte at bytes is.are) (here bytes at count window is some)).none none

@@ -126,3 +126,18 @@ joined_are own (piece ∷ []) each = All-head AreBytes piece [] each
 joined_are own (piece ∷ next ∷ more) each =
     All-append IsByte (take own piece) (joined_by own (next ∷ more)) (All-take IsByte own piece (All-head AreBytes piece (next ∷ more) each))
     (joined_are own (next ∷ more) (All-tail AreBytes piece (next ∷ more) each))
+
+-- the same from each of so many places on
+pub windows : (own shared : ℕ) (first : List ℕ) (more : List (List ℕ)) (at index place start count : ℕ) (piece : List ℕ) → OverlapBy own shared (first ∷ more)
+    → index ≤ length more → place ≡ index * own → place ≤ at → (index < length more → at + count ≤ place + own) → piece ≡ get_or (first ∷ more) index []
+    → start ≡ min (at - place) (length piece) → (k : ℕ) → k < count → FrontBy shared (drop k (drop start piece)) (drop (at + k) (joined_by own (first ∷ more)))
+windows own shared first more at index place start count piece overlap within place_is from to piece_is start_is k below =
+    let there : ℕ = min (at + k - place) (length piece) in
+    let same : drop there piece ≡ drop k (drop start piece) = elim (cases_lt (length piece) (at + k - place)) [
+      | inl short ↦ drop_all there piece (omega arith) ∙ sym (drop_all (start + k) piece (omega (arith, short))) ∙ sym (drop-drop k start piece)
+      | inr fits ↦
+          let is : there ≡ start + k = omega (arith, fits) in
+          ap (λ (n : ℕ). drop n piece) is ∙ sym (drop-drop k start piece)
+    ] in
+    subst (λ (x : List ℕ). FrontBy shared x (drop (at + k) (joined_by own (first ∷ more)))) same
+    (reads own shared first more (at + k) index place there piece overlap within place_is (omega (arith, from)) (λ less. omega (arith, to less, below)) piece_is refl)

@@ -1,5 +1,5 @@
 -- The bytes of a file in memory, in one piece or in several.
-use Rattle.std.specs.Prelude.{◌≡◌, ℕ, ◌+◌, ◌*◌, ◌^◌, ◌<◌, ◌≤◌, ◌⊎◌, List, [], ◌∷◌, ◌++◌, length, take}
+use Rattle.std.specs.Prelude.{◌≡◌, ℕ, ◌+◌, ◌*◌, ◌^◌, ◌<◌, ◌≤◌, ◌⊎◌, List, [], ◌∷◌, ◌++◌, length, take, drop}
 use Rattle.byte_strings.specs.Bytes.{AreBytes}
 use Rattle.binaryfile.specs.declared.TheConstants.{PIECE, OVERLAP}
 
@@ -53,3 +53,14 @@ pub record ArePieces (pieces : List (List ℕ)) : Type 0 where
 pub record IsFront (front all : List ℕ) : Type 0 where
   pub is : front ≡ take (length front) all
   pub long : (front ≡ all) ⊎ (OVERLAP ≤ length front)
+
+-- from each of so many places on, what is read is the first of the bytes from there on
+abbrev pub Windows : List ℕ → ℕ → ℕ → List ℕ → Type 0
+Windows bytes at count window = (k : ℕ) → k < count → IsFront (drop k window) (drop (at + k) bytes)
+
+-- a place of a file, and what is read from there on and from each of so many places
+pub record IsAt (bytes : List ℕ) (at count : ℕ) (window : List ℕ) : Type 0 where
+  pub within : at ≤ length bytes
+  pub windows : Windows bytes at count window
+  pub are : AreBytes bytes
+  pub fits : length bytes < 2 ^ 64

@@ -3,7 +3,7 @@ ghost use Rattle.std.specs.Prelude.{◌≡◌, ◌+◌, ◌<◌, ◌≤◌, ◌^
 ghost use Rattle.binaryfile.specs.Devices.{HasFailed, Sends};
 ghost use Rattle.byte_strings.specs.Bytes.{AreBytes};
 ghost use Rattle.binaryfile.specs.Index.{payloads_of};
-ghost use Rattle.binaryfile.specs.Pieces.{ArePieces, IsFront, Overlap, joined};
+ghost use Rattle.binaryfile.specs.Pieces.{ArePieces, IsFront, Overlap, Windows, joined};
 
 use crate::{PIECE, Sink, WriteFault, send};
 use std::alloc::{AllocError, Allocator};
@@ -32,8 +32,8 @@ impl<A: Allocator> Model for FileBytes<A> {
     ghost invariant = { λ file. ArePieces (file.first.items ∷ map (λ piece. piece.items) file.more.items) };
 }
 
-// The payload of the first entry, where a whole one stands there.
-fn first_payload(bytes: &[u8]) -> Option<&[u8]>
+/// The payload of the first entry, where a whole one stands there.
+pub(crate) fn first_payload(bytes: &[u8]) -> Option<&[u8]>
     ensures found { MatchOption result (payloads_of bytes.now ≡ [])
         (λ payload. payloads_of bytes.now ≡ payload.now ∷ payloads_of (drop (2 + length payload.now) bytes.now)) }
     ensures within { MatchOption result (0 ≤ 0) (λ payload. 2 + length payload.now ≤ length bytes.now) }
@@ -180,17 +180,36 @@ impl<A: Allocator> FileBytes<A> {
         piece_of(&self.first, &self.more, self.more.len())
     }
 
-    /// The bytes from a place on, all of them or as many as an entry may have. There are none from a place after the
-    /// end on.
-    pub(crate) fn from(&self, at: usize) -> &[u8]
-        ensures front { IsFront result.now (drop at self.now.bytes) }
+    /// The bytes of a piece from a place on, and how many entries' places these have: from each of so many places on
+    /// an entry lies whole among them. There are none from a place after the end on.
+    #[inline(always)]
+    pub(crate) fn window(&self, at: usize) -> (&[u8], usize)
+        ensures windows { Windows self.now.bytes at result.1 result.0.now }
+        ensures some { 0 < result.1 }
         ensures are { AreBytes self.now.bytes }
         ensures fits { length self.now.bytes < 2 ^ 64 }
     {
         let index = (at / PIECE).min(self.more.len());
         let piece = piece_of(&self.first, &self.more, index);
-        let start = (at - index * PIECE).min(piece.len());
-        &piece[start..]
+        let inside = at - index * PIECE;
+        let start = inside.min(piece.len());
+        let count = if index < self.more.len() {
+            PIECE - inside
+        } else {
+            usize::MAX
+        };
+        (&piece[start..], count)
+    }
+
+    /// The bytes from a place on, all of them or as many as an entry may have.
+    #[inline(always)]
+    pub(crate) fn from(&self, at: usize) -> &[u8]
+        ensures front { IsFront result.now (drop at self.now.bytes) }
+        ensures are { AreBytes self.now.bytes }
+        ensures fits { length self.now.bytes < 2 ^ 64 }
+    {
+        let (window, _) = self.window(at);
+        window
     }
 
     /// All bytes from a place on, from which they lie in one piece.

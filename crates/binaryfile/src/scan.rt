@@ -3,7 +3,7 @@ ghost use Rattle.std.specs.Prelude.{◌≡◌, ◌≢◌, ◌<◌, ◌≤◌, �
 ghost use Rattle.byte_strings.specs.Bytes.{AreBytes};
 ghost use Rattle.binaryfile.specs.Index.{offset, payloads_of, IsIndex, IsPlace};
 
-use crate::{FileBytes, LoadFault, STRIDE};
+use crate::{FileBytes, LoadFault, Payloads, STRIDE};
 use std::alloc::{AllocError, Allocator};
 
 /// How many entries there are, the place where they end, and their index.
@@ -88,7 +88,8 @@ fn index_entries<A: Allocator>(
     let mut starts = Vec::new(alloc);
     let mut count = 0;
     let mut end = 0;
-    while let Some(payload) = file.payload_at(end) {
+    let mut left = Payloads::new(file, 0);
+    while let Some(payload) = left.next() {
         if count % STRIDE == 0 {
             starts.push(end as u64)?;
         }

@@ -1,10 +1,11 @@
-use Rattle.std.proofs.Common.{◌≡◌, ◌-◌, ◌*◌, ◌≤◌, length}
+use Rattle.std.proofs.Common.{◌≡◌, ◌-◌, ◌*◌, ◌≤◌, drop, length}
 use Rattle.binaryfile.specs.Index.{offset, payloads_of}
 use Rattle.binaryfile.proofs.Offsets.{Indexed}
 use Rattle.binaryfile.proofs.scan.index_entries.Given as goal
 
 abbrev pub invariant-loop-payload : goal.invariant-loop-payload
 invariant-loop-payload g l = record {
+  left : l.left ≡ drop l.count (payloads_of l.file.bytes);
   place : l.end ≡ offset (payloads_of l.file.bytes) l.count;
   counted : l.count ≤ length (payloads_of l.file.bytes);
   within : l.end ≤ length l.file.bytes;

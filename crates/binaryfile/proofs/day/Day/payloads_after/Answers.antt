@@ -13,7 +13,7 @@ returns g c =
       | then-count-self w ↦ w.at-is ∙ i.end_is ∙ ap (offset (payloads_of bytes)) (sym w.if-count-self.true)
       | else-count-self w ↦ w.at-is ∙ w.entry_place-at.ensures.place
     ] in
-    c.new.ensures ∙ read_at bytes c.if-count-self.at c.args.count i.are at ∙ ap (λ (x : Contents). drop c.args.count x.payloads) c.self.view_is
+    c.new.ensures.payloads ∙ read_at bytes c.if-count-self.at c.args.count i.are at ∙ ap (λ (x : Contents). drop c.args.count x.payloads) c.self.view_is
 
 pub entry_place-at-requires-clause-index : goal.entry_place-at-requires-clause-index
 entry_place-at-requires-clause-index g c = subst (λ (x : List ℕ). IsIndex x c.self.inside.file.bytes) (sym c.deref.ensures.value) c.self.invariant.index
