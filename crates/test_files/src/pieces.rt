@@ -132,7 +132,7 @@ fn load_in_pieces<T: Threads + Sync, A: Allocator + Copy + Send + Sync, R: Read>
     Day::from_file(alloc, file, AMPLE.messages)
 }
 
-// A file that is read in pieces is split into the parts of its shape.
+// A file that is read in pieces is split into the parts of its shape, whatever size its feed was told.
 fn try_shape<T: Threads + Sync, A: Allocator + Copy + Send + Sync>(
     rt: &T,
     alloc: A,
@@ -147,8 +147,12 @@ fn try_shape<T: Threads + Sync, A: Allocator + Copy + Send + Sync>(
         shape.marked,
         bytes.get(tail..).unwrap_or(b"lost"),
     );
-    let day = load_in_pieces(rt, alloc, &mut Feed::new(&*bytes))?;
-    try_day_and_copy(alloc, &day, file)
+    let size = bytes.len() as u64;
+    for expected in [0, size / 2, size, size.saturating_mul(4)] {
+        let day = load_in_pieces(rt, alloc, &mut Feed::of_size(&*bytes, expected))?;
+        try_day_and_copy(alloc, &day, file)?;
+    }
+    Ok(())
 }
 
 #[test]
