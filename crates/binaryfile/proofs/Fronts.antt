@@ -1,5 +1,5 @@
 -- The first payload of some bytes, which is read off the first of them.
-use Rattle.std.proofs.Common.{inl, inr, ◌≡◌, ◌⊎◌, ℕ, ◌+◌, ◌-◌, ◌*◌, ◌<◌, ◌≤◌, List, [], ◌∷◌, ◌++◌, length, take, drop, get_or, refl, sym, ◌∙◌, ap, subst, arith}
+use Rattle.std.proofs.Common.{inl, inr, ◌≡◌, ℕ, ◌+◌, ◌-◌, ◌*◌, ◌<◌, ◌≤◌, List, [], ◌∷◌, ◌++◌, length, take, drop, get_or, sym, ◌∙◌, ap, subst, arith}
 use Rattle.std.proofs.lemmas.List.{drop-drop, length-append, length-drop, length-take, length-take-le, take-append-drop, take-append-le, take-take}
 use Rattle.std.proofs.lemmas.List.Elements.{All-drop, All-head, All-tail, All-take}
 use Rattle.std.proofs.lemmas.Bool.{cases_lt}
@@ -28,7 +28,7 @@ marks high low rest zero =
     ap (λ (x : ℕ). payloads_of (x ∷ low ∷ rest)) h ∙ ap (λ (x : ℕ). payloads_of (0 ∷ x ∷ rest)) l
 
 -- where there are as many bytes as an entry may have
-same_first_by : (front back : List ℕ) → AreBytes (front ++ back) → 2 + 65535 ≤ length front → SameFirst front (front ++ back)
+same_first_by : (front back : List ℕ) → AreBytes (front ++ back) → OVERLAP ≤ length front → SameFirst front (front ++ back)
 same_first_by [] back are long = absurd (omega arith)
 same_first_by (x ∷ []) back are long = absurd (omega arith)
 same_first_by (high ∷ low ∷ f) back are long =

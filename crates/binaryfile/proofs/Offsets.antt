@@ -1,5 +1,5 @@
 -- Where the entries lie.
-use Rattle.std.proofs.Common.{inl, inr, ◌≡◌, ℕ, zero, suc, ◌+◌, ◌-◌, ◌*◌, ◌%◌, ◌<◌, ◌≤◌, List, [], ◌∷◌, ◌++◌, length, take, drop, get_or, refl, sym, ◌∙◌, ap, subst, arith}
+use Rattle.std.proofs.Common.{inl, inr, ◌≡◌, ℕ, zero, suc, ◌+◌, ◌*◌, ◌%◌, ◌<◌, ◌≤◌, List, [], ◌∷◌, ◌++◌, length, take, drop, get_or, refl, sym, ◌∙◌, ap, arith}
 use Rattle.std.proofs.lemmas.List.{append_assoc, length-append, drop_at, drop_more, drop_all, take_more, length-drop, append-nil, take-append-drop, length-take-le, drop-drop, length_push, get_or_append_left, get_or_push}
 use Rattle.std.proofs.lemmas.Bool.{cases_lt, some_since}
 use Rattle.std.proofs.lemmas.List.Concat.{flat_map-append}
@@ -10,7 +10,7 @@ use Rattle.std.specs.Int.{w16, from_be_bytes}
 use Rattle.binaryfile.specs.Entries.{IsPayload, entry, marker, Contents, Splits}
 use Rattle.byte_strings.specs.Bytes.{AreBytes}
 use Rattle.binaryfile.specs.Scanned.{scanned, contents_of}
-use Rattle.binaryfile.specs.Index.{offset, payloads_of, IsIndex}
+use Rattle.binaryfile.specs.Index.{offset, payloads_of}
 use Rattle.binaryfile.specs.declared.TheConstants.{STRIDE}
 use Rattle.binaryfile.proofs.Splitting.{contents_again, contents_splits, scanned_entry}
 
@@ -168,18 +168,4 @@ after_entries bytes end are is =
     ∙ ap (λ (ps : List (List ℕ)). flat_map entry ps ++ (marker c.marked ++ c.tail)) none in (
       ap (λ (k : ℕ). drop k bytes) is ∙ at,
       ap (λ (k : ℕ). contents_of (drop k bytes)) is ∙ contents_at bytes n are ∙ ap (λ (ps : List (List ℕ)). record { payloads = ps; marked = c.marked; tail = c.tail }) none,
-    )
-
-pub same_index : (bytes items starts places : List ℕ) → bytes ≡ items → starts ≡ places → IsIndex places items → IsIndex starts bytes
-same_index bytes items starts places b s h = subst (λ (x : List ℕ). IsIndex x bytes) (sym s) (subst (λ (x : List ℕ). IsIndex places x) (sym b) h)
-
--- the bytes after the marker, or after the entries where there is none
-pub tail_at : (bytes : List ℕ) (end n : ℕ) → AreBytes bytes → n ≡ length (payloads_of bytes) → end ≡ offset (payloads_of bytes) n
-    → (end + length (marker (contents_of bytes).marked) ≤ length bytes) × (drop (end + length (marker (contents_of bytes).marked)) bytes ≡ (contents_of bytes).tail)
-tail_at bytes end n are all is =
-    let c : Contents = contents_of bytes in
-    let rest : drop end bytes ≡ marker c.marked ++ c.tail = (after_entries bytes end are (is ∙ ap (offset c.payloads) all)).0 in
-    let within : end ≤ length bytes = rw is (offset_within bytes n are) in (
-      omega (arith, ap length rest, length-append (marker c.marked) c.tail, length-drop end bytes),
-      sym (drop-drop (length (marker c.marked)) end bytes) ∙ ap (drop (length (marker c.marked))) rest ∙ drop_at (marker c.marked) c.tail (length (marker c.marked)) refl,
     )

@@ -127,8 +127,8 @@ impl<A: Allocator + Copy> Day<A> {
         Day::from_file(alloc, FileBytes::in_one_piece(alloc, bytes), messages)
     }
 
-    /// The day of a file's bytes, as [`Day::from_bytes`] has it, which may lie in several pieces. A tail that doesn't
-    /// lie in the last of them takes a copy of the bytes.
+    /// The day of a file's bytes, as [`Day::from_bytes`] has it, which may lie in several pieces. Where the
+    /// entries end before the last of them, all bytes are copied into one, which takes as much memory once more.
     pub fn from_file(alloc: A, file: FileBytes<A>, messages: u32) -> Result<Day<A>, LoadFault>
         ensures split { IfOk result (λ day. Splits file.bytes day) }
         ensures within { IfOk result (λ day. length day.payloads ≤ messages) }
@@ -151,7 +151,7 @@ impl<A: Allocator + Copy> Day<A> {
 }
 
 impl<A: Allocator + Copy> Day<A> {
-    /// A copy of the bytes that were loaded.
+    /// A copy of the bytes that were loaded. An error where memory is refused.
     pub fn to_bytes(&self, alloc: A) -> Result<Vec<u8, A>, AllocError>
         ensures bytes { IfOk result (λ bytes. bytes.items ≡ bytes_of self.now) }
         ensures split { IfOk result (λ bytes. Splits bytes.items self.now) }

@@ -35,7 +35,8 @@ impl<A: Allocator> Model for FileBytes<A> {
 /// The payload of the first entry, where a whole one stands there.
 pub(crate) fn first_payload(bytes: &[u8]) -> Option<&[u8]>
     ensures found { MatchOption result (payloads_of bytes.now ≡ [])
-        (λ payload. payloads_of bytes.now ≡ payload.now ∷ payloads_of (drop (2 + length payload.now) bytes.now)) }
+        (λ payload. payloads_of bytes.now
+        ≡ payload.now ∷ payloads_of (drop (2 + length payload.now) bytes.now)) }
     ensures within { MatchOption result (0 ≤ 0) (λ payload. 2 + length payload.now ≤ length bytes.now) }
 {
     let (head, rest) = bytes.split_first_chunk::<2>()?;
@@ -88,7 +89,7 @@ impl<A: Allocator + Copy> FileBytes<A> {
         }
     }
 
-    /// A copy of the bytes, in one piece.
+    /// A copy of the bytes, in one piece. An error where memory is refused.
     pub fn to_vec(&self, alloc: A) -> Result<Vec<u8, A>, AllocError>
         ensures { IfOk result (λ bytes. bytes.items ≡ self.now.bytes) }
     {
@@ -118,7 +119,7 @@ fn piece_of<'a, A: Allocator>(
 
 impl<A: Allocator + Copy> FileBytes<A> {
     /// The same bytes, of which those from a place on lie in one piece: all of them are copied into one where they
-    /// don't.
+    /// don't. An error where memory is refused for that.
     pub(crate) fn solid_from(self, alloc: A, at: usize) -> Result<FileBytes<A>, AllocError>
         ensures same { IfOk result (λ file. file.bytes ≡ self.bytes) }
         ensures solid { IfOk result (λ file. file.solid ≤ at) }
@@ -229,7 +230,8 @@ impl<A: Allocator> FileBytes<A> {
         ensures found { MatchOption result (payloads_of (drop at self.now.bytes) ≡ []) (λ payload.
             payloads_of (drop at self.now.bytes)
             ≡ payload.now ∷ payloads_of (drop (at + (2 + length payload.now)) self.now.bytes)) }
-        ensures within { MatchOption result (0 ≤ 0) (λ payload. at + (2 + length payload.now) ≤ length self.now.bytes) }
+        ensures within { MatchOption result (0 ≤ 0)
+            (λ payload. at + (2 + length payload.now) ≤ length self.now.bytes) }
         ensures are { AreBytes self.now.bytes }
         ensures fits { length self.now.bytes < 2 ^ 64 }
     {

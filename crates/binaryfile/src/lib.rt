@@ -37,8 +37,9 @@ mod sink;
 pub use crate::day::{Day, Limits};
 pub use crate::feed::Feed;
 pub use crate::file_bytes::FileBytes;
-pub use crate::load::{LoadFault, read_in_pieces, read_to_end};
+pub use crate::load::{LoadFault, read_to_end};
 pub use crate::payloads::Payloads;
+pub use crate::pieces::read_in_pieces;
 pub use crate::scan::Place;
 pub use crate::sink::{Sink, WriteFault, send};
 

@@ -5,12 +5,10 @@ ghost use Rattle.binaryfile.specs.Devices.{HasFailed, GaveAll, GaveMore, GaveUpT
 ghost use Rattle.binaryfile.specs.Loading.{TookPiece};
 ghost use Rattle.binaryfile.specs.declared.load.LoadFault.TheVariants.{Memory, Read as ReadFailed};
 
-use crate::pieces::read_pieces;
-use crate::{Feed, FileBytes};
+use crate::Feed;
 use std::alloc::{AllocError, Allocator};
 use std::io;
 use std::io::Read;
-use std::thread::Threads;
 
 /// A reader is asked for at most this number of bytes at once while the memory for them grows.
 const BUFFER: usize = 1 << 16;
@@ -143,31 +141,4 @@ pub fn read_to_end<R: Read, A: Allocator + Copy>(
         return Err(LoadFault::TooManyBytes);
     }
     Ok(bytes)
-}
-
-/// The same as [`read_to_end`], with the bytes in pieces of 4 MiB, whose memory other threads prepare while the calling
-/// one reads: writing memory for the first time takes longer than reading a file that the system holds. A file of one
-/// piece or less is read without threads. Where no thread can be made, the work is done all the same.
-pub fn read_in_pieces<T: Threads + Sync, R: Read, A: Allocator + Copy + Send + Sync>(
-    rt: &T,
-    alloc: A,
-    feed: &mut Feed<R>,
-    limit: u64,
-) -> Result<FileBytes<A>, LoadFault>
-    requires { limit ≤ 2 ^ 40 }
-    ensures all { IfOk result (λ file.
-        GaveAll (R.remaining feed.old.device) (R.remaining feed.new.device) file.bytes) }
-    ensures within { IfOk result (λ file. length file.bytes ≤ limit) }
-    // The fault is Read exactly where the feed has failed at return.
-    ensures failed { IsErrOf result LoadFault.Read ↔ HasFailed feed.new }
-    // A failed feed stays as it is, and its reader is not asked.
-    ensures for_good { HasFailed feed.old → feed.new ≡ feed.old }
-    ensures too_many_bytes { IsErrOf result LoadFault.TooManyBytes →
-        GaveMore (R.remaining feed.old.device) (R.remaining feed.new.device) limit }
-    ensures not_messages { result ≢ Err LoadFault.TooManyMessages }
-    // Whatever the result, no more is taken than the limit and one byte.
-    ensures taken { GaveUpTo (R.remaining feed.old.device) (R.remaining feed.new.device) (limit + 1) }
-{
-    let pieces = read_pieces(rt, alloc, feed, limit)?;
-    Ok(FileBytes::of_pieces(pieces))
 }

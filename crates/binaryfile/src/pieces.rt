@@ -8,7 +8,7 @@ ghost use Rattle.binaryfile.specs.Loading.{TookSome, TookMore};
 ghost use Rattle.binaryfile.specs.Pieces.{joined, Overlap, AreFull};
 
 use crate::load::read_up_to;
-use crate::{Feed, LoadFault, OVERLAP, PIECE};
+use crate::{Feed, FileBytes, LoadFault, OVERLAP, PIECE};
 use std::alloc::{AllocError, Allocator};
 use std::io;
 use std::io::Read;
@@ -58,7 +58,7 @@ fn some_rooms<T: Threads + Sync, A: Allocator + Copy + Send + Sync>(
 }
 
 // How many rooms are worth making at once after `count` pieces, where so many bytes are expected in all: no more than
-// they take, since memory that is given back unused would make the allocator treat other large pieces otherwise.
+// they take and one for the end, since large memory that is given back unused would make the allocator keep more.
 fn rooms_after(count: usize, expected: u64) -> usize
     ensures { result ≤ ROOMS }
 {
@@ -194,6 +194,9 @@ fn read_round<'a, T: Threads + Sync, R: Read, A: Allocator + Copy + Send + Sync>
     ensures failed { IsErrOf result.1 LoadFault.Read ↔ HasFailed feed.new }
     ensures not_messages { result.1 ≢ Err LoadFault.TooManyMessages }
 {
+    if count == 0 {
+        return (Ok(Vec::new(alloc)), read_rooms(feed, rooms, pieces, limit));
+    }
     let mut make = move || -> Result<Vec<Room<A>, A>, AllocError>
         requires { IsSync T.row × IsSend A.row × IsSync A.row × Frees A.Allocator A.dealloc_token }
         ensures { IfOk result (λ next. All (λ room. IfOk room (λ r. length r.items ≡ PIECE)) next.items) }
@@ -248,27 +251,29 @@ fn read_rest<T: Threads + Sync, R: Read, A: Allocator + Copy + Send + Sync>(
     }
 }
 
-/// All that the feed gives to its end, where that is no more than `limit` bytes, which are no more than 2^40, in
-/// pieces: each but the last has [`PIECE`] bytes of its own, and goes on with [`OVERLAP`] bytes of those after it, or
-/// as many as there are. All memory is that of `alloc`.
+/// All that the feed gives to its end, where that is no more than `limit` bytes, which are no more than 2^40, as
+/// [`crate::read_to_end`] gives it, but in pieces of 4 MiB. Where the feed was told its size ([`Feed::of_size`]), other
+/// threads make the memory of the next pieces while this one reads: to write memory for the first time takes longer
+/// than to read a file that the system holds. A file that is shorter than a piece is read without threads; where none
+/// can be made, the work is done all the same. All memory is that of `alloc`.
 ///
-/// It is written to first by other threads, while this one reads. A file that isn't longer than a piece is read into
-/// one that grows, and no thread is started.
+/// The faults are those of [`crate::read_to_end`]. Memory that was refused in another thread isn't told where the feed
+/// fails meanwhile, gives too many bytes, or ends before that memory is needed.
 ///
-/// The faults are those of [`crate::read_to_end`]. Where the feed fails, memory that was refused meanwhile isn't told.
-pub(crate) fn read_pieces<T: Threads + Sync, R: Read, A: Allocator + Copy + Send + Sync>(
+/// ```rust
+/// let mut feed = Feed::of_size(file, size);
+/// let day = Day::from_file(alloc, read_in_pieces(rt, alloc, &mut feed, 1 << 40)?, u32::MAX)?;
+/// ```
+pub fn read_in_pieces<T: Threads + Sync, R: Read, A: Allocator + Copy + Send + Sync>(
     rt: &T,
     alloc: A,
     feed: &mut Feed<R>,
     limit: u64,
-) -> Result<Vec<Vec<u8, A>, A>, LoadFault>
+) -> Result<FileBytes<A>, LoadFault>
     requires { limit ≤ 2 ^ 40 }
-    ensures all { IfOk result (λ pieces. GaveAll (R.remaining feed.old.device) (R.remaining feed.new.device)
-        (joined (map (λ piece. piece.items) pieces.items))) }
-    ensures within { IfOk result (λ pieces.
-        length (joined (map (λ piece. piece.items) pieces.items)) ≤ limit) }
-    ensures some { IfOk result (λ pieces. 0 < length pieces.items) }
-    ensures overlap { IfOk result (λ pieces. Overlap (map (λ piece. piece.items) pieces.items)) }
+    ensures all { IfOk result (λ file.
+        GaveAll (R.remaining feed.old.device) (R.remaining feed.new.device) file.bytes) }
+    ensures within { IfOk result (λ file. length file.bytes ≤ limit) }
     // The fault is Read exactly where the feed has failed at return.
     ensures failed { IsErrOf result LoadFault.Read ↔ HasFailed feed.new }
     // A failed feed stays as it is, and its reader is not asked.
@@ -283,11 +288,11 @@ pub(crate) fn read_pieces<T: Threads + Sync, R: Read, A: Allocator + Copy + Send
     if first.len() as u64 > limit {
         return Err(LoadFault::TooManyBytes);
     }
-    let is_full = first.len() == PIECE;
+    if first.len() < PIECE {
+        return Ok(FileBytes::in_one_piece(alloc, first));
+    }
     let mut pieces = Vec::new(alloc);
     add_piece(&mut pieces, first)?;
-    if is_full {
-        read_rest(rt, alloc, feed, &mut pieces, limit)?;
-    }
-    Ok(pieces)
+    read_rest(rt, alloc, feed, &mut pieces, limit)?;
+    Ok(FileBytes::of_pieces(pieces))
 }

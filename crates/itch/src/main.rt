@@ -47,7 +47,7 @@ fn open<R: Runtime>(rt: &R, path: &str) -> Result<Feed<R::File>, ProgFault> {
     let Ok(file) = fs::open(rt, path) else {
         return Err(ProgFault::Read);
     };
-    let size = rt.metadata(path).map_or(0, |metadata| metadata.len());
+    let size = file.metadata().map_or(0, |metadata| metadata.len());
     Ok(Feed::of_size(file, size))
 }
 

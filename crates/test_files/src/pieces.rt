@@ -7,7 +7,7 @@ use std::io::{self, ErrorKind, Read};
 use std::test::Fail;
 use std::thread::Threads;
 use test_refusing::{Refusal, Refusing, Tried, refuse_each};
-use test_support::{AMPLE, same, same_bytes};
+use test_support::{AMPLE, Pieces, same, same_bytes};
 
 // The lengths of a file's payloads, each with how many of them stand in a row, whether a marker follows them, and how
 // many bytes the tail has.
@@ -41,7 +41,7 @@ const ACROSS: [Shape; 3] = [
 ];
 
 // Files whose entries end at a border or near it.
-const ENDING: [Shape; 4] = [
+const ENDING: [Shape; 5] = [
     // A piece, and one byte more, by a marker and by an entry that is cut.
     Shape {
         runs: &[(65_535, 63), (65_471, 1)],
@@ -57,6 +57,12 @@ const ENDING: [Shape; 4] = [
         runs: &[(65_535, 63), (65_371, 1)],
         marked: false,
         tail: 101,
+    },
+    // Two whole pieces.
+    Shape {
+        runs: &[(65_535, 127), (65_407, 1)],
+        marked: false,
+        tail: 0,
     },
     // A marker at the start, and a tail in three pieces.
     Shape {
@@ -132,7 +138,8 @@ fn load_in_pieces<T: Threads + Sync, A: Allocator + Copy + Send + Sync, R: Read>
     Day::from_file(alloc, file, AMPLE.messages)
 }
 
-// A file that is read in pieces is split into the parts of its shape, whatever size its feed was told.
+// A file that is read in pieces is split into the parts of its shape, whatever size its feed was told and however few
+// bytes its reader gives at a call.
 fn try_shape<T: Threads + Sync, A: Allocator + Copy + Send + Sync>(
     rt: &T,
     alloc: A,
@@ -148,8 +155,14 @@ fn try_shape<T: Threads + Sync, A: Allocator + Copy + Send + Sync>(
         bytes.get(tail..).unwrap_or(b"lost"),
     );
     let size = bytes.len() as u64;
-    for expected in [0, size / 2, size, size.saturating_mul(4)] {
-        let day = load_in_pieces(rt, alloc, &mut Feed::of_size(&*bytes, expected))?;
+    for (most, expected) in [
+        (usize::MAX, 0),
+        (1_000_003, size / 2),
+        (4_194_303, size),
+        (usize::MAX, size.saturating_mul(4)),
+    ] {
+        let mut feed = Feed::of_size(Pieces::new(&bytes, most), expected);
+        let day = load_in_pieces(rt, alloc, &mut feed)?;
         try_day_and_copy(alloc, &day, file)?;
     }
     Ok(())

@@ -1,6 +1,5 @@
-use Rattle.std.proofs.Common.{◌≡◌, ℕ, ◌+◌, ◌<◌, ◌≤◌, List, ◌∷◌, drop, length, refl, ap, subst, sym, ◌∙◌, arith}
+use Rattle.std.proofs.Common.{◌≡◌, ℕ, ◌+◌, ◌<◌, List, ◌∷◌, drop, length, refl, ap, sym, ◌∙◌, arith}
 use Rattle.std.proofs.lemmas.List.{drop-drop}
-use Rattle.byte_strings.specs.Bytes.{AreBytes}
 use Rattle.binaryfile.specs.Index.{offset, payloads_of}
 use Rattle.binaryfile.proofs.Offsets.{advances, ends, indexed_none, indexed_push, indexed_stay, offset_within}
 use Rattle.binaryfile.proofs.scan.index_entries.Goals as goal

@@ -1,7 +1,7 @@
 use Rattle.std.proofs.Common.{[], ◌∙◌, arith}
 use Rattle.std.proofs.lemmas.List.{get_or_default}
 use Rattle.binaryfile.specs.Index.{IsPlace, payloads_of}
-use Rattle.binaryfile.proofs.Offsets.{Steps, first_is_found, steps}
+use Rattle.binaryfile.proofs.Offsets.{first_is_found, steps}
 use Rattle.binaryfile.proofs.scan.payload_near.Goals as goal
 
 pub unwrap-payload-requires : goal.unwrap-payload-requires

@@ -1,4 +1,4 @@
-use Rattle.std.proofs.Common.{◌≡◌, ℕ, List, ◌-◌, length, get_or, ap, sym, subst, ◌∙◌, arith}
+use Rattle.std.proofs.Common.{ℕ, List, ◌-◌, length, get_or, ap, sym, subst, ◌∙◌, arith}
 use Rattle.binaryfile.specs.Entries.{Contents}
 use Rattle.binaryfile.specs.Index.{IsIndex, IsPlace}
 use Rattle.binaryfile.proofs.day.Day.payload_near.Goals as goal

@@ -1,4 +1,4 @@
-use Rattle.std.proofs.Common.{◌≡◌, ◌≤◌, ℕ, List, length, drop, ap, sym, subst, ◌∙◌, arith}
+use Rattle.std.proofs.Common.{◌≡◌, ℕ, List, drop, ap, sym, subst, ◌∙◌}
 use Rattle.binaryfile.specs.Entries.{Contents}
 use Rattle.binaryfile.specs.Index.{IsIndex, offset, payloads_of}
 use Rattle.binaryfile.proofs.Offsets.{offset_within, read_at}

@@ -1,4 +1,4 @@
-use Rattle.std.proofs.Common.{ℕ, List, [], ◌∷◌, map, length, ◌^◌, ◌<◌, sym, ap, subst}
+use Rattle.std.proofs.Common.{ℕ, List, ◌∷◌, map, length, ◌^◌, ◌<◌, sym, ap, subst}
 use Rattle.byte_strings.specs.Bytes.{AreBytes}
 use Rattle.binaryfile.specs.Pieces.{ArePieces}
 use Rattle.binaryfile.proofs.file_bytes.FileBytes.in_one_piece.Goals as goal

@@ -1,7 +1,7 @@
-use Rattle.std.proofs.Common.{◌≡◌, ℕ, ◌+◌, ◌^◌, ◌<◌, List, [], ◌∷◌, ◌++◌, get_or, length, map, take, drop, ap, sym, subst, ◌∙◌, arith}
+use Rattle.std.proofs.Common.{◌≡◌, ◌+◌, ◌<◌, List, [], ◌∷◌, ◌++◌, get_or, length, map, take, drop, ap, sym, subst, ◌∙◌, arith}
 use Rattle.std.specs.Prelude.{All}
 use Rattle.byte_strings.specs.Bytes.{AreBytes}
-use Rattle.binaryfile.specs.Pieces.{ArePieces, Overlap, joined}
+use Rattle.binaryfile.specs.Pieces.{ArePieces, joined}
 use Rattle.binaryfile.specs.declared.TheConstants.{PIECE}
 use Rattle.binaryfile.proofs.PiecesRead.{joined_are}
 use Rattle.binaryfile.proofs.file_bytes.FileBytes.of_pieces.Goals as goal

@@ -1,5 +1,5 @@
-use Rattle.std.proofs.Common.{◌≡◌, ℕ, ◌+◌, ◌-◌, ◌≤◌, drop, length, ap, ◌∙◌, arith}
-use Rattle.std.proofs.lemmas.List.{drop-drop, length-drop, take_rest}
+use Rattle.std.proofs.Common.{◌≡◌, ℕ, ◌+◌, ◌-◌, drop, ap, ◌∙◌, arith}
+use Rattle.std.proofs.lemmas.List.{drop-drop, take_rest}
 use Rattle.binaryfile.proofs.file_bytes.FileBytes.rest.Goals as goal
 
 pub returns : goal.returns

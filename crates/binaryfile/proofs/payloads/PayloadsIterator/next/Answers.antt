@@ -1,7 +1,5 @@
-use Rattle.std.proofs.Common.{◌≡◌, ℕ, ◌+◌, List, ◌∷◌, length, drop, sym, subst, ap, ◌∙◌, arith}
+use Rattle.std.proofs.Common.{◌+◌, length, sym, ap, ◌∙◌, arith}
 use Rattle.std.proofs.lemmas.List.{take_rest}
-use Rattle.binaryfile.specs.Index.{payloads_of}
-use Rattle.binaryfile.specs.Pieces.{IsAt}
 use Rattle.binaryfile.proofs.Fronts.{none_on, one_on}
 use Rattle.binaryfile.proofs.payloads.PayloadsIterator.next.Goals as goal
 
