@@ -18,13 +18,14 @@ use itch_watch::watch_run;
 use output::Created;
 use progress::Progress;
 use prompt::Prompting;
+use std::env;
+use std::fs::{self, OpenFile};
 use std::io::{self, IsTerminal};
 use std::process::ExitCode;
 use std::rt::Runtime;
 use std::sync::Wait;
 use std::sync::atomic::AtomicU64;
 use std::thread::Threads;
-use std::{env, fs};
 use stock_workers::FreeGate;
 
 /// The status for invalid arguments.
