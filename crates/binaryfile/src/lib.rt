@@ -17,7 +17,8 @@
 //! ```
 //!
 //! [`Day::payload`] lends the payload with a number, counted from 1; [`Day::marked`] and [`Day::tail`] say how the file
-//! ended. [`Day::from_bytes`] is a day of bytes that are in memory already.
+//! ended. [`Day::from_bytes`] is a day of bytes that are in memory already. [`read_in_pieces`] reads a long file sooner,
+//! with threads that make its memory, as [`FileBytes`], and [`Day::from_file`] is the day of these.
 //!
 //! Entries are those of Nasdaq BinaryFILE. Limits, the end marker, what stands after it or in the place of a whole
 //! entry, and what a failed device does are of this project.
