@@ -2,6 +2,6 @@ pub mod ByteRanges
 pub mod Splitting
 pub mod Offsets
 pub mod PiecesRead
-pub mod Fronts
+pub mod Prefixes
 pub mod Joining
 pub mod Taking

@@ -49,12 +49,12 @@ piece_at own shared piece (next ∷ more) (suc index) overlap within =
     }
 
 -- the first bytes of others: all of them, or at least so many
-pub record FrontBy (least : ℕ) (front all : List ℕ) : Type 0 where
-  pub is : front ≡ take (length front) all
-  pub long : (front ≡ all) ⊎ (least ≤ length front)
+pub record PrefixBy (least : ℕ) (prefix all : List ℕ) : Type 0 where
+  pub is : prefix ≡ take (length prefix) all
+  pub long : (prefix ≡ all) ⊎ (least ≤ length prefix)
 
-pub front_of : (least count : ℕ) (all : List ℕ) → least ≤ count → FrontBy least (take count all) all
-front_of least count all enough = elim (cases_lt count (length all)) [
+pub prefix_of : (least count : ℕ) (all : List ℕ) → least ≤ count → PrefixBy least (take count all) all
+prefix_of least count all enough = elim (cases_lt count (length all)) [
   | inl less ↦
       let len : length (take count all) ≡ count = length-take-le count all (omega arith) in
       record { is = ap (λ (k : ℕ). take k all) (sym len); long = inr (omega (arith, len)) }
@@ -63,15 +63,15 @@ front_of least count all enough = elim (cases_lt count (length all)) [
       record { is = whole ∙ sym (take-length all) ∙ ap (λ (x : List ℕ). take (length x) all) (sym whole); long = inl whole }
 ]
 
-pub front_all : (least : ℕ) (front all : List ℕ) → front ≡ all → FrontBy least front all
-front_all least front all same =
+pub prefix_all : (least : ℕ) (prefix all : List ℕ) → prefix ≡ all → PrefixBy least prefix all
+prefix_all least prefix all same =
     record { is = same ∙ sym (take-length all) ∙ ap (λ (x : List ℕ). take (length x) all) (sym same); long = inl same }
 
 -- what is read of a piece from a place on
 pub read_from : (own shared : ℕ) (piece bytes : List ℕ) (at index place start last : ℕ) → PieceAt own shared piece bytes index last
     → index ≤ last → place ≡ index * own → place ≤ at → (index < last → at < place + own)
     → (start + place ≡ at) ⊎ ((start ≡ length piece) × (length piece + place ≤ at))
-    → FrontBy shared (drop start piece) (drop at bytes)
+    → PrefixBy shared (drop start piece) (drop at bytes)
 read_from own shared piece bytes at index place start last here within place_is from to start_is = elim (cases_lt index last) [
   | inl less ↦
       let s : start + place ≡ at = elim start_is [ inl e ↦ e | inr e ↦ absurd (omega (arith, e.0, e.1, to less, here.long less)) ] in
@@ -83,10 +83,10 @@ read_from own shared piece bytes at index place start last here within place_is 
       let same : drop start piece ≡ take count (drop at bytes) =
       ap (drop start) begins ∙ drop-take start count (drop place bytes)
       ∙ ap (take count) (drop-drop start place bytes ∙ ap (λ (k : ℕ). drop k bytes) there) in
-      subst (λ (x : List ℕ). FrontBy shared x (drop at bytes)) (sym same) (front_of shared count (drop at bytes) (omega (arith, s, to less)))
+      subst (λ (x : List ℕ). PrefixBy shared x (drop at bytes)) (sym same) (prefix_of shared count (drop at bytes) (omega (arith, s, to less)))
   | inr more ↦
       let is : piece ≡ drop place bytes = here.whole (omega (arith, within)) ∙ ap (λ (k : ℕ). drop k bytes) (sym place_is) in
-      front_all shared (drop start piece) (drop at bytes) (elim start_is [
+      prefix_all shared (drop start piece) (drop at bytes) (elim start_is [
         | inl e ↦
             let there : place + start ≡ at = omega (arith, e) in
             ap (drop start) is ∙ drop-drop start place bytes ∙ ap (λ (k : ℕ). drop k bytes) there
@@ -99,7 +99,7 @@ read_from own shared piece bytes at index place start last here within place_is 
 -- what is read of the pieces from a place on, where `index` is the piece and `start` the place there
 pub reads : (own shared : ℕ) (first : List ℕ) (more : List (List ℕ)) (at index place start : ℕ) (piece : List ℕ) → OverlapBy own shared (first ∷ more)
     → index ≤ length more → place ≡ index * own → place ≤ at → (index < length more → at < place + own) → piece ≡ get_or (first ∷ more) index []
-    → start ≡ min (at - place) (length piece) → FrontBy shared (drop start piece) (drop at (joined_by own (first ∷ more)))
+    → start ≡ min (at - place) (length piece) → PrefixBy shared (drop start piece) (drop at (joined_by own (first ∷ more)))
 reads own shared first more at index place start piece overlap within place_is from to piece_is start_is =
     let bytes : List ℕ = joined_by own (first ∷ more) in
     let here : PieceAt own shared piece bytes index (length more) =
@@ -130,7 +130,7 @@ joined_are own (piece ∷ next ∷ more) each =
 -- the same from each of so many places on
 pub windows : (own shared : ℕ) (first : List ℕ) (more : List (List ℕ)) (at index place start count : ℕ) (piece : List ℕ) → OverlapBy own shared (first ∷ more)
     → index ≤ length more → place ≡ index * own → place ≤ at → (index < length more → at + count ≤ place + own) → piece ≡ get_or (first ∷ more) index []
-    → start ≡ min (at - place) (length piece) → (k : ℕ) → k < count → FrontBy shared (drop k (drop start piece)) (drop (at + k) (joined_by own (first ∷ more)))
+    → start ≡ min (at - place) (length piece) → (k : ℕ) → k < count → PrefixBy shared (drop k (drop start piece)) (drop (at + k) (joined_by own (first ∷ more)))
 windows own shared first more at index place start count piece overlap within place_is from to piece_is start_is k below =
     let there : ℕ = min (at + k - place) (length piece) in
     let same : drop there piece ≡ drop k (drop start piece) = elim (cases_lt (length piece) (at + k - place)) [
@@ -139,5 +139,5 @@ windows own shared first more at index place start count piece overlap within pl
           let is : there ≡ start + k = omega (arith, fits) in
           ap (λ (n : ℕ). drop n piece) is ∙ sym (drop-drop k start piece)
     ] in
-    subst (λ (x : List ℕ). FrontBy shared x (drop (at + k) (joined_by own (first ∷ more)))) same
+    subst (λ (x : List ℕ). PrefixBy shared x (drop (at + k) (joined_by own (first ∷ more)))) same
     (reads own shared first more (at + k) index place there piece overlap within place_is (omega (arith, from)) (λ less. omega (arith, to less, below)) piece_is refl)

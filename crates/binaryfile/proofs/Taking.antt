@@ -16,10 +16,10 @@ use Rattle.binaryfile.specs.declared.TheConstants.{PIECE}
 pub filled : (room part : List ℕ) (at size count : ℕ) → at ≤ length room → count ≤ length part
     → (take (at + count) (put_mid at size room part) ≡ take at room ++ take count part) × (at + count ≤ length (put_mid at size room part))
 filled room part at size count low high =
-    let front : length (take at room) ≡ at = length-take-le at room low in (
-      ap (λ (n : ℕ). take (n + count) (put_mid at size room part)) (sym front) ∙ take-append-add (take at room) (part ++ post_of at size room) count
+    let prefix : length (take at room) ≡ at = length-take-le at room low in (
+      ap (λ (n : ℕ). take (n + count) (put_mid at size room part)) (sym prefix) ∙ take-append-add (take at room) (part ++ post_of at size room) count
           ∙ ap (λ (x : List ℕ). take at room ++ x) (take-append-le count part (post_of at size room) high),
-      omega (arith, high, front, length-append (take at room) (part ++ post_of at size room), length-append part (post_of at size room)),
+      omega (arith, high, prefix, length-append (take at room) (part ++ post_of at size room), length-append part (post_of at size room)),
     )
 
 -- some reads after others

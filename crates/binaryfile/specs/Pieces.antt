@@ -50,13 +50,13 @@ pub record ArePieces (pieces : List (List ℕ)) : Type 0 where
   pub fits : length (joined pieces) < 2 ^ 64
 
 -- the first bytes of others: all of them, or as many as an entry may have
-pub record IsFront (front all : List ℕ) : Type 0 where
-  pub is : front ≡ take (length front) all
-  pub long : (front ≡ all) ⊎ (OVERLAP ≤ length front)
+pub record IsPrefix (prefix all : List ℕ) : Type 0 where
+  pub is : prefix ≡ take (length prefix) all
+  pub long : (prefix ≡ all) ⊎ (OVERLAP ≤ length prefix)
 
 -- from each of so many places on, what is read is the first of the bytes from there on
 abbrev pub Windows : List ℕ → ℕ → ℕ → List ℕ → Type 0
-Windows bytes at count window = (k : ℕ) → k < count → IsFront (drop k window) (drop (at + k) bytes)
+Windows bytes at count window = (k : ℕ) → k < count → IsPrefix (drop k window) (drop (at + k) bytes)
 
 -- a place of a file, and what is read from there on and from each of so many places
 pub record IsAt (bytes : List ℕ) (at count : ℕ) (window : List ℕ) : Type 0 where

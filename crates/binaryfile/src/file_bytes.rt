@@ -3,7 +3,7 @@ ghost use Rattle.std.specs.Prelude.{◌≡◌, ◌+◌, ◌<◌, ◌≤◌, ◌^
 ghost use Rattle.binaryfile.specs.Devices.{HasFailed, Sends};
 ghost use Rattle.byte_strings.specs.Bytes.{AreBytes};
 ghost use Rattle.binaryfile.specs.Index.{payloads_of};
-ghost use Rattle.binaryfile.specs.Pieces.{ArePieces, IsFront, Overlap, Windows, joined};
+ghost use Rattle.binaryfile.specs.Pieces.{ArePieces, IsPrefix, Overlap, Windows, joined};
 
 use crate::{PIECE, Sink, WriteFault, send};
 use std::alloc::{AllocError, Allocator};
@@ -205,7 +205,7 @@ impl<A: Allocator> FileBytes<A> {
     /// The bytes from a place on, all of them or as many as an entry may have.
     #[inline(always)]
     pub(crate) fn from(&self, at: usize) -> &[u8]
-        ensures front { IsFront result.now (drop at self.now.bytes) }
+        ensures prefix { IsPrefix result.now (drop at self.now.bytes) }
         ensures are { AreBytes self.now.bytes }
         ensures fits { length self.now.bytes < 2 ^ 64 }
     {

@@ -252,12 +252,12 @@ fn read_rest<T: Threads + Sync, R: Read, A: Allocator + Copy + Send + Sync>(
 }
 
 /// All that the feed gives to its end, where that is no more than `limit` bytes, which are no more than 2^40, as
-/// [`crate::read_to_end`] gives it, but in pieces of 4 MiB. Where the feed was told its size ([`Feed::of_size`]), other
+/// [`crate::read_to_end`] gives it, but in pieces of 4 MiB. Where the feed was given its size ([`Feed::of_size`]), other
 /// threads make the memory of the next pieces while this one reads: to write memory for the first time takes longer
 /// than to read a file that the system holds. A file that is shorter than a piece is read without threads; where none
 /// can be made, the work is done all the same. All memory is that of `alloc`.
 ///
-/// The faults are those of [`crate::read_to_end`]. Memory that was refused in another thread isn't told where the feed
+/// The faults are those of [`crate::read_to_end`]. Memory that was refused in another thread isn't reported where the feed
 /// fails meanwhile, gives too many bytes, or ends before that memory is needed.
 ///
 /// ```rust

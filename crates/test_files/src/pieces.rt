@@ -138,7 +138,7 @@ fn load_in_pieces<T: Threads + Sync, A: Allocator + Copy + Send + Sync, R: Read>
     Day::from_file(alloc, file, AMPLE.messages)
 }
 
-// A file that is read in pieces is split into the parts of its shape, whatever size its feed was told and however few
+// A file that is read in pieces is split into the parts of its shape, whatever size its feed was given and however few
 // bytes its reader gives at a call.
 fn try_shape<T: Threads + Sync, A: Allocator + Copy + Send + Sync>(
     rt: &T,

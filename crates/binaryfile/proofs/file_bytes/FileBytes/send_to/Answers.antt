@@ -3,7 +3,7 @@ use Rattle.std.proofs.KnownBytes.{Appends-trans}
 use Rattle.std.proofs.lemmas.Bool.{true≢false}
 use Rattle.std.specs.Io.KnownBytes.{Appends}
 use Rattle.binaryfile.specs.Devices.{HasFailed}
-use Rattle.binaryfile.proofs.Fronts.{adds}
+use Rattle.binaryfile.proofs.Prefixes.{adds}
 use Rattle.binaryfile.proofs.file_bytes.FileBytes.send_to.Goals as goal
 
 pub returns-in-Err-clause-sent : goal.returns-in-Err-clause-sent
@@ -12,7 +12,7 @@ returns-in-Err-clause-sent g c =
     let sent = c.loop-sent.sent in
     let part = c.from-part.result.now in
     let i = c.loop-sent.invariant in
-    let a = adds file sent part i.within c.from-part.ensures.front in
+    let a = adds file sent part i.within c.from-part.ensures.prefix in
     let h = (c.in-Err.ensures {u = tt}).sent in
     let left = g.W.Write.contents in (
       omega (arith, h.0, a.within),
@@ -26,7 +26,7 @@ loop-sent-preserved g c =
     let sent = c.loop-sent.sent in
     let part = c.from-part.result.now in
     let i = c.loop-sent.invariant in
-    let a = adds file sent part i.within c.from-part.ensures.front in
+    let a = adds file sent part i.within c.from-part.ensures.prefix in
     let h = c.in_default.ensures {u = tt} in
     let some : 0 < length part = a.some (omega (arith, c.loop-sent-test.true, c.len.ensures)) in
     let refuses : HasFailed c.args.sink.now → ⊥ = λ broken. true≢false (sym (h.refused (i.kept ∙ broken) some)) in

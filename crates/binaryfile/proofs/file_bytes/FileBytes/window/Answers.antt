@@ -1,6 +1,6 @@
 use Rattle.std.proofs.Common.{◌≡◌, ℕ, ◌*◌, ◌+◌, ◌<◌, ◌≤◌, List, [], ◌∷◌, get_or, length, drop, map, refl, ap, subst, ◌∙◌, arith}
 use Rattle.std.proofs.lemmas.List.{length-map, take_rest}
-use Rattle.binaryfile.specs.Pieces.{FileView, IsFront}
+use Rattle.binaryfile.specs.Pieces.{FileView, IsPrefix}
 use Rattle.binaryfile.specs.declared.TheConstants.{PIECE, OVERLAP}
 use Rattle.binaryfile.proofs.PiecesRead.{windows}
 use Rattle.binaryfile.proofs.file_bytes.FileBytes.window.Goals as goal
@@ -22,10 +22,10 @@ returns-clause-windows g c = λ k below.
       | then-index-len w ↦ omega (arith, w.count-is, w.if-index-len.true, from, less, last, c.min-index.ensures)
       | else-index-len w ↦ absurd (omega (arith, w.if-index-len.false, c.len-2.ensures, long, less))
     ] in
-    let front = windows PIECE OVERLAP first more at index (index * PIECE) start c.if-index-len.count piece c.self.invariant.overlap
+    let prefix = windows PIECE OVERLAP first more at index (index * PIECE) start c.if-index-len.count piece c.self.invariant.overlap
     (omega (arith, c.min-index.ensures, last)) refl from to
     (c.piece_of-piece.ensures ∙ ap (λ xs. get_or (first ∷ map (λ piece. piece.items) xs) index []) c.deref.ensures.value) c.min-start.ensures k below in
-    rw (take_rest piece start) (subst (λ (view : FileView). IsFront (drop k (drop start piece)) (drop (at + k) view.bytes)) c.self.view_is (record { is = front.is; long = front.long }))
+    rw (take_rest piece start) (subst (λ (view : FileView). IsPrefix (drop k (drop start piece)) (drop (at + k) view.bytes)) c.self.view_is (record { is = prefix.is; long = prefix.long }))
 
 pub returns-clause-some : goal.returns-clause-some
 returns-clause-some g c = elim c.if-index-len.branch [

@@ -1,6 +1,6 @@
 use Rattle.std.proofs.Common.{◌+◌, length, sym, ap, ◌∙◌, arith}
 use Rattle.std.proofs.lemmas.List.{take_rest}
-use Rattle.binaryfile.proofs.Fronts.{none_on, one_on}
+use Rattle.binaryfile.proofs.Prefixes.{none_on, one_on}
 use Rattle.binaryfile.proofs.payloads.PayloadsIterator.next.Goals as goal
 
 pub returns-in_err-payload-clause-steps : goal.returns-in_err-payload-clause-steps
