@@ -1,6 +1,6 @@
 -- Where the entries lie.
-use Rattle.std.proofs.Common.{inl, inr, ◌≡◌, ℕ, zero, suc, ◌+◌, ◌*◌, ◌%◌, ◌<◌, ◌≤◌, List, [], ◌∷◌, ◌++◌, length, take, drop, get_or, refl, sym, ◌∙◌, ap, arith}
-use Rattle.std.proofs.lemmas.List.{append_assoc, length-append, drop_at, drop_more, drop_all, take_more, length-drop, append-nil, take-append-drop, length-take-le, drop-drop, length_push, get_or_append_left, get_or_push}
+use Rattle.std.proofs.Common.{inl, inr, ◌≡◌, ℕ, zero, suc, ◌+◌, ◌-◌, ◌*◌, ◌%◌, ◌<◌, ◌≤◌, List, [], ◌∷◌, ◌++◌, length, take, drop, get_or, refl, sym, ◌∙◌, ap, subst, arith}
+use Rattle.std.proofs.lemmas.List.{append_assoc, length-append, drop_at, drop_more, drop_all, take_more, length-drop, append-nil, take_rest, take-append-drop, length-take-le, drop-drop, length_push, get_or_append_left, get_or_push}
 use Rattle.std.proofs.lemmas.Bool.{cases_lt, some_since}
 use Rattle.std.proofs.lemmas.List.Concat.{flat_map-append}
 use Rattle.std.proofs.lemmas.List.Elements.{All-drop}
@@ -10,7 +10,7 @@ use Rattle.std.specs.Int.{w16, from_be_bytes}
 use Rattle.binaryfile.specs.Entries.{IsPayload, entry, marker, Contents, Splits}
 use Rattle.byte_strings.specs.Bytes.{AreBytes}
 use Rattle.binaryfile.specs.Scanned.{scanned, contents_of}
-use Rattle.binaryfile.specs.Index.{offset, payloads_of}
+use Rattle.binaryfile.specs.Index.{offset, payloads_of, IsIndex}
 use Rattle.binaryfile.specs.declared.TheConstants.{STRIDE}
 use Rattle.binaryfile.proofs.Splitting.{contents_again, contents_splits, scanned_entry}
 
@@ -98,8 +98,8 @@ offset_within bytes n are =
 
 -- what is read at a place
 pub read_at : (bytes : List ℕ) (at n : ℕ) → AreBytes bytes → at ≡ offset (payloads_of bytes) n
-    → payloads_of (drop at bytes) ≡ drop n (payloads_of bytes)
-read_at bytes at n are is = ap (λ (k : ℕ). payloads_of (drop k bytes)) is ∙ payloads_at bytes n are
+    → payloads_of (take (length bytes - at) (drop at bytes)) ≡ drop n (payloads_of bytes)
+read_at bytes at n are is = ap payloads_of (take_rest bytes at) ∙ ap (λ (k : ℕ). payloads_of (drop k bytes)) is ∙ payloads_at bytes n are
 
 -- a loop's step over one entry
 pub record Steps (bytes : List ℕ) (at n : ℕ) (p : List ℕ) : Type 0 where
@@ -109,7 +109,7 @@ pub record Steps (bytes : List ℕ) (at n : ℕ) (p : List ℕ) : Type 0 where
   pub within : at + (2 + length p) ≤ length bytes
 
 pub steps : (bytes : List ℕ) (at n : ℕ) (p : List ℕ) (rest : List (List ℕ)) → AreBytes bytes → at ≡ offset (payloads_of bytes) n
-    → payloads_of (drop at bytes) ≡ p ∷ rest → Steps bytes at n p
+    → payloads_of (take (length bytes - at) (drop at bytes)) ≡ p ∷ rest → Steps bytes at n p
 steps bytes at n p rest are is first =
     let a : Advances (payloads_of bytes) n p = advances (payloads_of bytes) n p rest (sym (read_at bytes at n are is) ∙ first) in
     let place : at + (2 + length p) ≡ offset (payloads_of bytes) (n + 1) = omega (arith, a.next) in
@@ -117,12 +117,12 @@ steps bytes at n p rest are is first =
 
 -- no entry stands at the end of them
 pub stops : (bytes : List ℕ) (at n : ℕ) → AreBytes bytes → at ≡ offset (payloads_of bytes) n → n ≤ length (payloads_of bytes)
-    → payloads_of (drop at bytes) ≡ [] → n ≡ length (payloads_of bytes)
+    → payloads_of (take (length bytes - at) (drop at bytes)) ≡ [] → n ≡ length (payloads_of bytes)
 stops bytes at n are is within none = ends (payloads_of bytes) n within (sym (read_at bytes at n are is) ∙ none)
 
 -- where the entries don't end, a first one is found
 pub first_is_found : (bytes : List ℕ) (at n : ℕ) → AreBytes bytes → at ≡ offset (payloads_of bytes) n → n < length (payloads_of bytes)
-    → {T : Type 0} (first : Option T) (One : T → Type 0) → MatchOption first (payloads_of (drop at bytes) ≡ []) One → IsSome first
+    → {T : Type 0} (first : Option T) (One : T → Type 0) → MatchOption first (payloads_of (take (length bytes - at) (drop at bytes)) ≡ []) One → IsSome first
 first_is_found bytes at n are is within first One found =
     some_since first _ One found (λ none. omega (arith, within, stops bytes at n are is (omega (arith, within)) none))
 
@@ -168,4 +168,18 @@ after_entries bytes end are is =
     ∙ ap (λ (ps : List (List ℕ)). flat_map entry ps ++ (marker c.marked ++ c.tail)) none in (
       ap (λ (k : ℕ). drop k bytes) is ∙ at,
       ap (λ (k : ℕ). contents_of (drop k bytes)) is ∙ contents_at bytes n are ∙ ap (λ (ps : List (List ℕ)). record { payloads = ps; marked = c.marked; tail = c.tail }) none,
+    )
+
+pub same_index : (bytes items starts places : List ℕ) → bytes ≡ items → starts ≡ places → IsIndex places items → IsIndex starts bytes
+same_index bytes items starts places b s h = subst (λ (x : List ℕ). IsIndex x bytes) (sym s) (subst (λ (x : List ℕ). IsIndex places x) (sym b) h)
+
+-- the bytes after the marker, or after the entries where there is none
+pub tail_at : (bytes : List ℕ) (end n : ℕ) → AreBytes bytes → n ≡ length (payloads_of bytes) → end ≡ offset (payloads_of bytes) n
+    → (end + length (marker (contents_of bytes).marked) ≤ length bytes) × (drop (end + length (marker (contents_of bytes).marked)) bytes ≡ (contents_of bytes).tail)
+tail_at bytes end n are all is =
+    let c : Contents = contents_of bytes in
+    let rest : drop end bytes ≡ marker c.marked ++ c.tail = (after_entries bytes end are (is ∙ ap (offset c.payloads) all)).0 in
+    let within : end ≤ length bytes = rw is (offset_within bytes n are) in (
+      omega (arith, ap length rest, length-append (marker c.marked) c.tail, length-drop end bytes),
+      sym (drop-drop (length (marker c.marked)) end bytes) ∙ ap (drop (length (marker c.marked))) rest ∙ drop_at (marker c.marked) c.tail (length (marker c.marked)) refl,
     )

@@ -3,7 +3,6 @@ use Rattle.std.specs.Prelude.{◌≡◌, ℕ, ◌*◌, ◌^◌, ◌<◌, ◌≤�
 use Rattle.std.specs.List.{flat_map}
 use Rattle.byte_strings.specs.Bytes.{AreBytes}
 use Rattle.binaryfile.specs.Entries.{entry}
-use Rattle.binaryfile.specs.Pieces.{FileView}
 use Rattle.binaryfile.specs.Scanned.{contents_of}
 use Rattle.binaryfile.specs.declared.TheConstants.{STRIDE}
 use Rattle.binaryfile.specs.declared.scan.Place.{Place}
@@ -25,12 +24,11 @@ abbrev pub IsIndex : List ℕ → List ℕ → Type 0
 IsIndex starts bytes = (k : ℕ) → k * STRIDE < length (payloads_of bytes)
     → (k < length starts) × (slice_index starts k ≡ offset (payloads_of bytes) (k * STRIDE))
 
--- the fields of a day agree with its file's bytes, and all that follows its entries lies in one piece
-pub record IsDay (file : FileView) (starts : List ℕ) (count end : ℕ) (marked : Bool) : Type 0 where
-  pub are : AreBytes file.bytes
-  pub count_is : count ≡ length (payloads_of file.bytes)
+-- the fields of a day agree with its bytes
+pub record IsDay (bytes starts : List ℕ) (count end : ℕ) (marked : Bool) : Type 0 where
+  pub are : AreBytes bytes
+  pub count_is : count ≡ length (payloads_of bytes)
   pub few : count < 2 ^ 32
-  pub end_is : end ≡ offset (payloads_of file.bytes) count
-  pub marked_is : marked ≡ (contents_of file.bytes).marked
-  pub index : IsIndex starts file.bytes
-  pub solid : file.solid ≤ end
+  pub end_is : end ≡ offset (payloads_of bytes) count
+  pub marked_is : marked ≡ (contents_of bytes).marked
+  pub index : IsIndex starts bytes

@@ -1,16 +1,18 @@
 //! A whole file in memory, with the places of its entries.
-ghost use Rattle.std.specs.Prelude.{◌≡◌, ◌≢◌, ◌+◌, ◌-◌, ◌<◌, ◌≤◌, ◌^◌, ◌↔◌, drop, [], length, slice_index_or, Err, IfOk, IfErr, IsOk, IsErr, IsErrOf};
+ghost use Rattle.std.specs.Prelude.{◌≡◌, ◌≢◌, ◌+◌, ◌-◌, ◌<◌, ◌≤◌, ◌^◌, ◌↔◌, drop, length, slice_index_or, Err, IfOk, IfErr, IsOk, IsErr, IsErrOf};
 ghost use Rattle.byte_strings.specs.Bytes.{AreBytes};
 ghost use Rattle.binaryfile.specs.Devices.{HasFailed, GaveMore, GaveUpTo, Sends};
-ghost use Rattle.binaryfile.specs.Entries.{bytes_of, marker, Splits};
-ghost use Rattle.binaryfile.specs.Index.{IsPlace, payloads_of};
-ghost use Rattle.binaryfile.specs.Scanned.{contents_of};
+ghost use Rattle.binaryfile.specs.Entries.{bytes_of, Splits};
+ghost use Rattle.binaryfile.specs.Index.{IsPlace};
 ghost use Rattle.binaryfile.specs.Loading.{Loads, ExceedsMessages, HasMoreMessages};
 
 use crate::load::read_to_end;
-use crate::scan::{IndexedEntries, Place, entries_within, entry_place, nth_payload, payload_near};
-use crate::{Feed, FileBytes, LoadFault, Payloads, Sink, WriteFault, send};
-use std::alloc::{AllocError, Allocator};
+use crate::scan::{
+    IndexedEntries, Place, begins_with_marker, bytes_after, bytes_from, entries_within,
+    nth_payload, payload_near,
+};
+use crate::{Feed, LoadFault, Payloads, Sink, WriteFault, send};
+use std::alloc::Allocator;
 use std::io::{Read, Write};
 use std::marker::Model;
 
@@ -36,7 +38,7 @@ const TOUCH_STEP: usize = 128;
 /// after all that.
 #[derive(Drop)]
 pub struct Day<A: Allocator> {
-    file: FileBytes<A>,
+    bytes: Vec<u8, A>,
     // The place of each entry whose number from 0 is a multiple of `STRIDE`.
     starts: Vec<u64, A>,
     count: u32,
@@ -52,24 +54,9 @@ impl<A: Allocator> Model for Day<A> {
 
     ghost Value = { Contents };
 
-    ghost view = { λ day. contents_of day.file.bytes };
+    ghost view = { λ day. contents_of day.bytes.items };
 
-    ghost invariant = { λ day. IsDay day.file day.starts.items day.count day.end day.marked };
-}
-
-// Whether the bytes, which begin with no entry, begin with an end marker.
-fn begins_with_marker(bytes: &[u8]) -> bool
-    requires { payloads_of bytes.now ≡ [] }
-    ensures { result ≡ (contents_of bytes.now).marked }
-{
-    bytes.starts_with(&[0, 0])
-}
-
-// How many bytes the end marker has, where there is one.
-fn marker_len(marked: bool) -> usize
-    ensures { result ≡ length (marker marked) }
-{
-    if marked { 2 } else { 0 }
+    ghost invariant = { λ day. IsDay day.bytes.items day.starts.items day.count day.end day.marked };
 }
 
 impl<A: Allocator + Copy> Day<A> {
@@ -124,39 +111,16 @@ impl<A: Allocator + Copy> Day<A> {
         ensures not_read { result ≢ Err LoadFault.Read }
         ensures not_bytes { result ≢ Err LoadFault.TooManyBytes }
     {
-        Day::from_file(alloc, FileBytes::in_one_piece(alloc, bytes), messages)
-    }
-
-    /// The day of a file's bytes, as [`Day::from_bytes`] has it, which may lie in several pieces. Where the
-    /// entries end before the last of them, all bytes are copied into one, which takes as much memory once more.
-    pub fn from_file(alloc: A, file: FileBytes<A>, messages: u32) -> Result<Day<A>, LoadFault>
-        ensures split { IfOk result (λ day. Splits file.bytes day) }
-        ensures within { IfOk result (λ day. length day.payloads ≤ messages) }
-        ensures too_many_messages { IsErrOf result LoadFault.TooManyMessages →
-            HasMoreMessages file.bytes messages }
-        ensures not_read { result ≢ Err LoadFault.Read }
-        ensures not_bytes { result ≢ Err LoadFault.TooManyBytes }
-    {
-        let IndexedEntries { count, end, starts } = entries_within(alloc, &file, messages)?;
-        let file = file.solid_from(alloc, end)?;
-        let marked = begins_with_marker(file.rest(end));
+        let whole = bytes.as_slice();
+        let IndexedEntries { count, end, starts } = entries_within(alloc, whole, messages)?;
+        let marked = begins_with_marker(&whole[end..]);
         Ok(Day {
-            file,
+            bytes,
             starts,
             count: count as u32,
             end,
             marked,
         })
-    }
-}
-
-impl<A: Allocator + Copy> Day<A> {
-    /// A copy of the bytes that were loaded. An error where memory is refused.
-    pub fn to_bytes(&self, alloc: A) -> Result<Vec<u8, A>, AllocError>
-        ensures bytes { IfOk result (λ bytes. bytes.items ≡ bytes_of self.now) }
-        ensures split { IfOk result (λ bytes. Splits bytes.items self.now) }
-    {
-        self.file.to_vec(alloc)
     }
 }
 
@@ -176,7 +140,11 @@ impl<A: Allocator> Day<A> {
         requires last { number ≤ length self.now.payloads }
         ensures { result.now ≡ slice_index_or self.now.payloads (number - 1) result.now }
     {
-        nth_payload(&self.file, &self.starts, number as usize - 1)
+        nth_payload(
+            self.bytes.as_slice(),
+            self.starts.as_slice(),
+            number as usize - 1,
+        )
     }
 
     /// The same as [`Day::payload`], which is faster where a place of this day stands a little before the payload. A
@@ -188,17 +156,17 @@ impl<A: Allocator> Day<A> {
         ensures payload { result.now ≡ slice_index_or self.now.payloads (number - 1) result.now }
         ensures near { IsPlace self.now.payloads near.new }
     {
-        payload_near(&self.file, &self.starts, near, number - 1)
+        payload_near(&self.bytes, &self.starts, near, number - 1)
     }
 
     /// Reads bytes that stand a little after a place, so that the processor has fetched that memory when a caller comes
     /// there. It changes nothing, and what it returns means nothing: it is there to be used, so that the reads aren't
     /// left out.
     pub fn touch_after(&self, near: &Place) -> u64 {
-        let after = self.file.from(near.at.saturating_add(TOUCH_FROM));
+        let start = near.at.saturating_add(TOUCH_FROM);
         let mut sum: u64 = 0;
         for step in 0..TOUCHES {
-            if let Some(byte) = after.get(step * TOUCH_STEP) {
+            if let Some(byte) = self.bytes.get(start.saturating_add(step * TOUCH_STEP)) {
                 sum = sum.wrapping_add(u64::from(*byte));
             }
         }
@@ -206,26 +174,24 @@ impl<A: Allocator> Day<A> {
     }
 
     /// All payloads in their order, borrowed and not copied.
-    pub fn payloads(&self) -> Payloads<'_, A>
+    pub fn payloads(&self) -> Payloads<'_>
         ensures payloads { result ≡ self.now.payloads }
         // A count of them never wraps.
         ensures few { length self.now.payloads < 2 ^ 32 }
     {
-        Payloads::new(&self.file, 0)
+        Payloads::new(self.bytes.as_slice())
     }
 
     /// The payloads after this number of them, in their order, borrowed and not copied: for a pass over a stretch of a
     /// day.
-    pub fn payloads_after(&self, count: u32) -> Payloads<'_, A>
+    pub fn payloads_after(&self, count: u32) -> Payloads<'_>
         requires { count ≤ length self.now.payloads }
         ensures { result ≡ drop count self.now.payloads }
     {
-        let at = if count == self.count {
-            self.end
-        } else {
-            entry_place(&self.file, &self.starts, count as usize)
-        };
-        Payloads::new(&self.file, at)
+        if count == self.count {
+            return Payloads::new(&[]);
+        }
+        Payloads::new(bytes_from(&self.bytes, &self.starts, count as usize))
     }
 
     /// Whether an end marker follows the payloads.
@@ -239,18 +205,17 @@ impl<A: Allocator> Day<A> {
     pub fn tail(&self) -> &[u8]
         ensures { result.now ≡ self.now.tail }
     {
-        let after = self.file.rest(self.end);
-        &after[marker_len(self.marked)..]
+        bytes_after(self.bytes.as_slice(), self.end, self.marked)
     }
 
-    /// How many bytes were loaded.
-    pub fn size(&self) -> usize
-        ensures size { result ≡ length (bytes_of self.now) }
-        ensures split { Splits (bytes_of self.now) self.now }
+    /// The bytes that were loaded.
+    pub fn bytes(&self) -> &[u8]
+        ensures bytes { result.now ≡ bytes_of self.now }
+        ensures split { Splits result.now self.now }
         // Each is a byte, which the laws over byte strings ask for.
-        ensures are { AreBytes (bytes_of self.now) }
+        ensures are { AreBytes result.now }
     {
-        self.file.len()
+        self.bytes.as_slice()
     }
 
     /// Sends the bytes that were loaded, or a prefix of them up to where the writer fails, as [`send`] does.
@@ -265,6 +230,6 @@ impl<A: Allocator> Day<A> {
         ensures refused { HasFailed sink.old → 0 < length (bytes_of self.now) → IsErr result }
         ensures nothing { HasFailed sink.old → IfErr result (λ fault. fault.written ≡ 0) }
     {
-        self.file.send_to(sink)
+        send(sink, self.bytes())
     }
 }

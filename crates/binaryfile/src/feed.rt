@@ -25,8 +25,6 @@ use std::marker::Model;
 pub struct Feed<R> {
     reader: R,
     failed: bool,
-    // How many bytes the reader is expected to give, for speed alone.
-    expected: u64,
 }
 
 impl<R> Model for Feed<R> {
@@ -42,24 +40,10 @@ impl<R: Read> Feed<R> {
     pub fn new(reader: R) -> Feed<R>
         ensures { result ≡ record { device = reader; failed = false } }
     {
-        Feed::of_size(reader, 0)
-    }
-
-    /// A feed that has not failed, whose reader is expected to give so many bytes, as a file of that size. It may give
-    /// fewer or more: the number is for speed alone.
-    pub fn of_size(reader: R, expected: u64) -> Feed<R>
-        ensures { result ≡ record { device = reader; failed = false } }
-    {
         Feed {
             reader,
             failed: false,
-            expected,
         }
-    }
-
-    /// How many bytes the reader was expected to give; 0 where nothing was said.
-    pub(crate) fn expected(&self) -> u64 {
-        self.expected
     }
 
     /// Whether the feed has failed.

@@ -17,8 +17,7 @@
 //! ```
 //!
 //! [`Day::payload`] lends the payload with a number, counted from 1; [`Day::marked`] and [`Day::tail`] say how the file
-//! ended. [`Day::from_bytes`] is a day of bytes that are in memory already. [`read_in_pieces`] reads a long file sooner,
-//! with threads that make its memory, as [`FileBytes`], and [`Day::from_file`] is the day of these.
+//! ended. [`Day::from_bytes`] is a day of bytes that are in memory already.
 //!
 //! Entries are those of Nasdaq BinaryFILE. Limits, the end marker, what stands after it or in the place of a whole
 //! entry, and what a failed device does are of this project.
@@ -28,30 +27,20 @@ ghost use Rattle.binaryfile.specs.Entries.{EachHasOneSplitting};
 
 mod day;
 mod feed;
-mod file_bytes;
 mod load;
 mod payloads;
-mod pieces;
 mod scan;
 mod sink;
 
 pub use crate::day::{Day, Limits};
 pub use crate::feed::Feed;
-pub use crate::file_bytes::FileBytes;
 pub use crate::load::{LoadFault, read_to_end};
 pub use crate::payloads::Payloads;
-pub use crate::pieces::read_in_pieces;
 pub use crate::scan::Place;
 pub use crate::sink::{Sink, WriteFault, send};
 
 /// One entry in every 8 has its place in the index of a day, so the index has a byte a message.
 const STRIDE: usize = 8;
-
-/// How many bytes a piece of a file has that is loaded in pieces, without those that it has of the next one.
-const PIECE: usize = 1 << 22;
-
-/// How many bytes of the next pieces a piece has after its own: the most that an entry has.
-const OVERLAP: usize = 2 + 65_535;
 
 /// The law on which the view of a [`Day`] rests: every string of bytes has exactly one splitting into payloads, a
 /// marker or none, and a tail. Calling it does nothing.

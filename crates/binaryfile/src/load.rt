@@ -1,6 +1,6 @@
 //! Reading the whole of an input into memory.
 ghost use Rattle.std.specs.Prelude.{◌≡◌, ◌≢◌, ◌+◌, ◌<◌, ◌≤◌, ◌^◌, ◌↔◌, length, vec_len, Ok, Err, IfOk, OnOk, IsErrOf, true, false};
-ghost use Rattle.std.specs.Io.KnownBytes.{Consumes, IsAtEnd};
+ghost use Rattle.std.specs.Io.KnownBytes.{IsAtEnd};
 ghost use Rattle.binaryfile.specs.Devices.{HasFailed, GaveAll, GaveMore, GaveUpTo};
 ghost use Rattle.binaryfile.specs.Loading.{TookPiece};
 ghost use Rattle.binaryfile.specs.declared.load.LoadFault.TheVariants.{Memory, Read as ReadFailed};
@@ -10,8 +10,8 @@ use std::alloc::{AllocError, Allocator};
 use std::io;
 use std::io::Read;
 
-/// A reader is asked for at most this number of bytes at once while the memory for them grows.
-const BUFFER: usize = 1 << 16;
+/// A reader is asked for at most this number of bytes at once.
+const PIECE: usize = 1 << 16;
 
 /// Why a file was not loaded.
 #[derive(Debug, Clone, Copy, PartialEq, Eq)]
@@ -43,24 +43,24 @@ impl From<io::Error> for LoadFault {
 }
 
 // Room for the bytes of one read.
-fn buffer<A: Allocator>(alloc: A) -> Result<Vec<u8, A>, AllocError>
-    ensures { IfOk result (λ buffer. 0 < vec_len buffer) }
+fn piece_room<A: Allocator>(alloc: A) -> Result<Vec<u8, A>, AllocError>
+    ensures { IfOk result (λ piece. 0 < vec_len piece) }
 {
-    Vec::from_elem(alloc, 0, BUFFER)
+    Vec::from_elem(alloc, 0, PIECE)
 }
 
-// Reads once, and adds what came to `bytes`, which then has at most `most` bytes. Returns false at the end of the
-// input.
-fn read_once<R: Read, A: Allocator>(
+// Reads once, and adds what came to `bytes`. Returns false at the end of the input.
+fn read_piece<R: Read, A: Allocator>(
     feed: &mut Feed<R>,
-    buffer: &mut [u8],
+    piece: &mut [u8],
     bytes: &mut Vec<u8, A>,
-    most: u64,
+    limit: u64,
 ) -> Result<bool, LoadFault>
-    requires room { 0 < length buffer.old }
-    requires within { length bytes.old.items < most }
+    requires room { 0 < length piece.old }
+    requires within { length bytes.old.items ≤ limit }
+    requires limit { limit ≤ 2 ^ 40 }
     ensures took { TookPiece (R.remaining feed.old.device) (R.remaining feed.new.device)
-        bytes.old.items bytes.new.items most result }
+        bytes.old.items bytes.new.items (limit + 1) result }
     ensures end { result ≡ Ok false → IsAtEnd (R.remaining feed.new.device) }
     ensures more { result ≡ Ok true → length bytes.old.items < length bytes.new.items }
     ensures same { result ≡ Ok false → bytes.new.items ≡ bytes.old.items }
@@ -68,42 +68,10 @@ fn read_once<R: Read, A: Allocator>(
     ensures not_bytes { result ≢ Err LoadFault.TooManyBytes }
     ensures not_messages { result ≢ Err LoadFault.TooManyMessages }
 {
-    let room = (most - bytes.len() as u64).min(buffer.len() as u64) as usize;
-    let count = feed.read(&mut buffer[..room])?;
-    bytes.extend_from_slice(&buffer[..count])?;
+    let room = (limit + 1 - bytes.len() as u64).min(piece.len() as u64) as usize;
+    let count = feed.read(&mut piece[..room])?;
+    bytes.extend_from_slice(&piece[..count])?;
     Ok(count > 0)
-}
-
-/// The first `most` bytes that the feed gives, or all to its end where they are fewer. The memory grows as they come.
-///
-/// [`LoadFault::Read`] is returned where the feed fails (at once where it had failed before), and
-/// [`LoadFault::Memory`] where memory is refused.
-pub(crate) fn read_up_to<R: Read, A: Allocator + Copy>(
-    alloc: A,
-    feed: &mut Feed<R>,
-    most: u64,
-) -> Result<Vec<u8, A>, LoadFault>
-    ensures gave { IfOk result (λ bytes.
-        Consumes (R.remaining feed.old.device) (R.remaining feed.new.device) bytes.items) }
-    ensures within { IfOk result (λ bytes. length bytes.items ≤ most) }
-    ensures ended { IfOk result (λ bytes. length bytes.items < most → IsAtEnd (R.remaining feed.new.device)) }
-    ensures failed { IsErrOf result LoadFault.Read ↔ HasFailed feed.new }
-    ensures for_good { HasFailed feed.old → feed.new ≡ feed.old }
-    ensures not_bytes { result ≢ Err LoadFault.TooManyBytes }
-    ensures not_messages { result ≢ Err LoadFault.TooManyMessages }
-    ensures taken { GaveUpTo (R.remaining feed.old.device) (R.remaining feed.new.device) most }
-{
-    if feed.failed() {
-        return Err(LoadFault::Read);
-    }
-    let mut buffer = buffer(alloc)?;
-    let mut bytes = Vec::new(alloc);
-    while (bytes.len() as u64) < most {
-        if !read_once(feed, &mut buffer, &mut bytes, most)? {
-            return Ok(bytes);
-        }
-    }
-    Ok(bytes)
 }
 
 /// All that the feed gives to its end, where that is no more than `limit` bytes, which are no more than 2^40. Its
@@ -136,9 +104,15 @@ pub fn read_to_end<R: Read, A: Allocator + Copy>(
     // Whatever the result, no more is taken than the limit and one byte.
     ensures taken { GaveUpTo (R.remaining feed.old.device) (R.remaining feed.new.device) (limit + 1) }
 {
-    let bytes = read_up_to(alloc, feed, limit + 1)?;
-    if bytes.len() as u64 > limit {
-        return Err(LoadFault::TooManyBytes);
+    if feed.failed() {
+        return Err(LoadFault::Read);
     }
-    Ok(bytes)
+    let mut piece = piece_room(alloc)?;
+    let mut bytes = Vec::new(alloc);
+    while (bytes.len() as u64) <= limit {
+        if !read_piece(feed, &mut piece, &mut bytes, limit)? {
+            return Ok(bytes);
+        }
+    }
+    Err(LoadFault::TooManyBytes)
 }

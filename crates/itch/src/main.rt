@@ -18,14 +18,13 @@ use itch_watch::watch_run;
 use output::Created;
 use progress::Progress;
 use prompt::Prompting;
-use std::env;
-use std::fs::{self, OpenFile};
 use std::io::{self, IsTerminal};
 use std::process::ExitCode;
 use std::rt::Runtime;
 use std::sync::Wait;
 use std::sync::atomic::AtomicU64;
 use std::thread::Threads;
+use std::{env, fs};
 use stock_workers::FreeGate;
 
 /// The status for invalid arguments.
@@ -45,11 +44,10 @@ fn end(rt: &impl Eprint, returned: Result<u32, ProgFault>) -> ExitCode {
 
 // A file, to be read from its start.
 fn open<R: Runtime>(rt: &R, path: &str) -> Result<Feed<R::File>, ProgFault> {
-    let Ok(file) = fs::open(rt, path) else {
-        return Err(ProgFault::Read);
-    };
-    let size = file.metadata().map_or(0, |metadata| metadata.len());
-    Ok(Feed::of_size(file, size))
+    match fs::open(rt, path) {
+        Ok(file) => Ok(Feed::new(file)),
+        Err(_) => Err(ProgFault::Read),
+    }
 }
 
 // The number of workers that the arguments give, which is in the range of the argument.

@@ -39,7 +39,7 @@ pub fn disassemble<A: Allocator + Copy>(alloc: A, day: &Day<A>) -> Result<Vec<u8
     ensures denotes { IfOk result (λ text. Text text.items (bytes_of day.now)) }
 {
     // A text is never shorter than its file.
-    let mut text = Vec::with_capacity(alloc, day.size())?;
+    let mut text = Vec::with_capacity(alloc, day.bytes().len())?;
     put_day(&mut text, day)?;
     Ok(text)
 }

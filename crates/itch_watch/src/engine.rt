@@ -5,7 +5,7 @@ ghost use Rattle.itch_watch.specs.Engines.{PrintsSeen, watcher};
 
 use crate::lines::put_readings;
 use crate::watching::watch_stock;
-use binaryfile::{Day, Feed, FileBytes, Sink, read_in_pieces, send};
+use binaryfile::{Day, Feed, Sink, read_to_end, send};
 use day_core::WorkerCount;
 use itch_engine::ProgFault;
 use itch_engine::limits::{MOST_FILE_BYTES, MOST_MESSAGES};
@@ -21,18 +21,18 @@ use stock_workers::Gate;
 fn seen_of_file<R: Threads + Wait + Sync, A: Allocator + Copy + Send + Sync, G: Gate>(
     rt: &R,
     alloc: A,
-    input: FileBytes<A>,
+    input: Vec<u8, A>,
     name: StockName,
     workers: WorkerCount,
     gate: &G,
     seen: &AtomicU64,
 ) -> Result<Vec<u8, A>, ProgFault>
-    ensures text { IfOk result (λ text. PrintsSeen name input.bytes text.items) }
-    ensures fault { IfErr result (Fails (watcher name) input.bytes) }
+    ensures text { IfOk result (λ text. PrintsSeen name input.items text.items) }
+    ensures fault { IfErr result (Fails (watcher name) input.items) }
 {
     // A law that the proof cites: it does nothing.
     named_stocks_have_messages();
-    let day = Day::from_file(alloc, input, MOST_MESSAGES)?;
+    let day = Day::from_bytes(alloc, input, MOST_MESSAGES)?;
     let listed = list_stocks(alloc, &day)?;
     let Some(locate) = locate_of(&listed, name) else {
         return Err(ProgFault::NoStock);
@@ -72,7 +72,7 @@ pub fn watch_run<
 ) -> Result<(), ProgFault>
     ensures { Runs (watcher name) R.remaining W.contents feed.old feed.new sink.old sink.new result }
 {
-    let input = read_in_pieces(rt, alloc, feed, MOST_FILE_BYTES)?;
+    let input = read_to_end(alloc, feed, MOST_FILE_BYTES)?;
     let text = seen_of_file(rt, alloc, input, name, workers, gate, seen)?;
     send(sink, &text)?;
     Ok(())

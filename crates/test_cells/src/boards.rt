@@ -143,8 +143,7 @@ fn try_board(heap: &Refusing<Global>, refusal: Refusal) -> Result<Tried, Fail> {
     let mut count = count_writers(&heap, &day);
     let tried = heap.tried(count.is_err());
     if tried.refused {
-        let wanted = two_stocks(heap)?.to_bytes(heap)?;
-        same_bytes("the day", &day.to_bytes(heap)?, &wanted)?;
+        same_bytes("the day", day.bytes(), two_stocks(heap)?.bytes())?;
         count = count_writers(&heap, &day);
     }
     same("how many writers", &count, &Ok(3))?;

@@ -151,8 +151,7 @@ fn try_new(heap: &Refusing<Global>, refusal: Refusal) -> Result<Tried, Fail> {
     let day = tour(heap)?;
     let tried = new_under(heap, &day, refusal)?;
     if tried.refused {
-        let wanted = tour(heap)?.to_bytes(heap)?;
-        same_bytes("the day", &day.to_bytes(heap)?, &wanted)?;
+        same_bytes("the day", day.bytes(), tour(heap)?.bytes())?;
         let again = new_under(heap, &day, Refusal::Never)?;
         same("a debugger with memory", &again.refused, &false)?;
     }

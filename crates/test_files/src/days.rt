@@ -22,7 +22,7 @@ const FILES: [File; 8] = [
     THREE_ENTRIES,
 ];
 
-/// A day has the parts of its file, and sends its bytes.
+/// A day has the parts of its file, and gives its bytes back.
 pub fn try_day<A: Allocator, B: Allocator + Copy>(
     alloc: B,
     day: &Day<A>,
@@ -46,7 +46,7 @@ pub fn try_day<A: Allocator, B: Allocator + Copy>(
     }
     same("the marker", &day.marked(), &marked)?;
     same_bytes("the tail", day.tail(), tail)?;
-    same("the size", &day.size(), &bytes.len())?;
+    same_bytes("the bytes that were loaded", day.bytes(), bytes)?;
     let mut sent = Vec::new(alloc);
     same(
         "a day is sent",
@@ -56,24 +56,13 @@ pub fn try_day<A: Allocator, B: Allocator + Copy>(
     same_bytes("the bytes that were sent", &sent, bytes)
 }
 
-/// The same, and the day gives a copy of its bytes.
-pub fn try_day_and_copy<A: Allocator + Copy>(
-    alloc: A,
-    day: &Day<A>,
-    file: File,
-) -> Result<(), Fail> {
-    let (bytes, _, _, _) = file;
-    try_day(alloc, day, file)?;
-    same_bytes("a copy of the bytes", &day.to_bytes(alloc)?, bytes)
-}
-
 // A file that comes in pieces is loaded as a day with its parts.
 fn try_pieces<A: Allocator + Copy>(alloc: A, file: File, most: usize) -> Result<(), Fail> {
     let (bytes, _, _, _) = file;
     let mut feed = Feed::new(Pieces::new(bytes, most));
     let day = Day::load(alloc, &mut feed, AMPLE)?;
     same("a feed that gave its end", &feed.failed(), &false)?;
-    try_day_and_copy(alloc, &day, file)
+    try_day(alloc, &day, file)
 }
 
 #[test]

@@ -9,8 +9,6 @@ mod feeds;
 #[cfg(test)]
 mod limits;
 #[cfg(test)]
-mod pieces;
-#[cfg(test)]
 mod sinks;
 
 /// Three entries, a marker and a byte after it.

@@ -146,10 +146,10 @@ fn compare_fault<A: Allocator + Copy>(
     Ok(())
 }
 
-// Assembles the text of a file whose byte at an index was changed, and returns whether it denotes a file.
+// Assembles the text of a day whose byte at an index was changed, and returns whether it denotes a file.
 fn take_changed<A: Allocator + Copy>(
     alloc: A,
-    file: &[u8],
+    day: &Day<A>,
     text: &[u8],
     other: &[u8],
     index: usize,
@@ -158,8 +158,8 @@ fn take_changed<A: Allocator + Copy>(
         return Err(Fail::new("no line"));
     };
     match assemble(alloc, other) {
-        Ok(made) => {
-            compare_changed(alloc, made, changed, (file, was.line))?;
+        Ok(file) => {
+            compare_changed(alloc, file, changed, (day.bytes(), was.line))?;
             Ok(true)
         }
         Err(fault) => {
@@ -192,7 +192,7 @@ pub fn compare_texts<A: Allocator + Copy>(
     let Ok(file) = assemble(alloc, &text) else {
         return Err(Fail::new("the text of a day is faulty"));
     };
-    same_bytes("the file of a text", &file, &day.to_bytes(alloc)?)?;
+    same_bytes("the file of a text", &file, day.bytes())?;
     let mut assembled = 0u64;
     for _ in 0..changes {
         let mut other = text.to_vec(alloc)?;
@@ -201,7 +201,7 @@ pub fn compare_texts<A: Allocator + Copy>(
             continue;
         };
         *byte = other_byte(random, *byte);
-        if take_changed(alloc, &file, &text, &other, index)? {
+        if take_changed(alloc, day, &text, &other, index)? {
             assembled = assembled.saturating_add(1);
         }
     }

@@ -92,12 +92,11 @@ fn report_of<R: Threads + Wait + Sync, A: Allocator + Copy + Send + Sync>(
     let Some(workers) = WorkerCount::new(workers) else {
         return Err(Fail::new("a replay has 1 to 64 workers"));
     };
-    let file = day.to_bytes(alloc)?;
     let mut report = Vec::new(alloc);
     replay_run(
         rt,
         alloc,
-        &mut Feed::new(&*file),
+        &mut Feed::new(day.bytes()),
         &mut Sink::new(&mut report),
         workers,
         &FreeGate,

@@ -147,8 +147,7 @@ fn try_play<R: Threads + Sync>(
     heap.restart(refusal);
     let played = play(rt, heap, &day, 2, &schedule(1));
     let tried = heap.tried(played.is_err());
-    let wanted = crossed_book(heap)?.to_bytes(heap)?;
-    same_bytes("the day", &day.to_bytes(heap)?, &wanted)?;
+    same_bytes("the day", day.bytes(), crossed_book(heap)?.bytes())?;
     let list = match played {
         Ok(list) => list,
         Err(fault) => {

@@ -171,7 +171,7 @@ fn try_split<R: Threads + Sync>(
     heap.restart(refusal);
     let made = split(rt, heap, &day, workers);
     let tried = heap.tried(made.is_err());
-    same_bytes("the day", &day.to_bytes(heap)?, file)?;
+    same_bytes("the day", day.bytes(), file)?;
     match made {
         Ok(parts) => compare(rt, heap, &day, &parts, locates)?,
         Err(fault) => {
@@ -189,9 +189,9 @@ fn try_split<R: Threads + Sync>(
 #[test]
 fn a_day_without_memory_stays_whole(rt: HostRuntime) -> Result<(), Fail> {
     let heap = Refusing::new(rt.alloc(), Refusal::Never);
-    let file = two_stocks(rt.alloc())?.to_bytes(rt.alloc())?;
+    let day = two_stocks(rt.alloc())?;
     let growths = refuse_each(|refusal: Refusal| -> Result<Tried, Fail> {
-        try_split(&rt, &heap, &file, 2, &[1, 2, 3], refusal)
+        try_split(&rt, &heap, day.bytes(), 2, &[1, 2, 3], refusal)
     })?;
     same("all growths", &growths, &8)
 }
@@ -200,8 +200,8 @@ fn a_day_without_memory_stays_whole(rt: HostRuntime) -> Result<(), Fail> {
 #[test]
 fn a_long_day_without_memory_has_no_parts(rt: HostRuntime) -> Result<(), Fail> {
     let heap = Refusing::new(rt.alloc(), Refusal::Never);
-    let file = long_day(rt.alloc())?.to_bytes(rt.alloc())?;
-    let whole = try_split(&rt, &heap, &file, 64, &[1, 2], Refusal::Never)?;
+    let day = long_day(rt.alloc())?;
+    let whole = try_split(&rt, &heap, day.bytes(), 64, &[1, 2], Refusal::Never)?;
     same(
         "growths",
         &(whole.growths > 32, whole.refused),
@@ -209,7 +209,7 @@ fn a_long_day_without_memory_has_no_parts(rt: HostRuntime) -> Result<(), Fail> {
     )?;
     for growth in [1, 2, 20, whole.growths / 2] {
         for refusal in [Refusal::Only(growth), Refusal::From(growth)] {
-            let tried = try_split(&rt, &heap, &file, 64, &[1, 2], refusal)?;
+            let tried = try_split(&rt, &heap, day.bytes(), 64, &[1, 2], refusal)?;
             same(
                 "a refused growth",
                 &(refusal, tried.refused),

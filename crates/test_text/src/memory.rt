@@ -48,7 +48,7 @@ fn try_call(heap: &Refusing<Global>, call: Call, refusal: Refusal) -> Result<Tri
     heap.restart(refusal);
     let made = call.make(heap, &day);
     let tried = heap.tried(made.is_err());
-    same_bytes("the day that was lent", &day.to_bytes(heap)?, FILE)?;
+    same_bytes("the day that was lent", day.bytes(), FILE)?;
     let output = match made {
         Ok(output) => output,
         Err(fault) => {

@@ -78,12 +78,11 @@ fn two_workers_of_a_report_run_beside_each_other(rt: HostRuntime) -> Result<(), 
     let alloc = rt.alloc();
     let day = day_with(alloc, &[AAPL.directory(), MSFT.directory()])?;
     let gate = Meeting::new();
-    let file = day.to_bytes(alloc)?;
     let mut report = Vec::new(alloc);
     let returned = replay_run(
         &rt,
         alloc,
-        &mut Feed::new(&*file),
+        &mut Feed::new(day.bytes()),
         &mut Sink::new(&mut report),
         WorkerCount::new(2).unwrap(),
         &gate,

@@ -8,7 +8,7 @@ use crate::fault::ProgFault;
 use crate::hex_input::decode_digits;
 use crate::limits::MOST_HEX_BYTES;
 use crate::report::day::Report;
-use binaryfile::{Feed, FileBytes, Sink, read_to_end, send};
+use binaryfile::{Feed, Sink, read_to_end, send};
 use day_core::WorkerCount;
 use std::alloc::Allocator;
 use std::io::{Read, Write};
@@ -26,8 +26,7 @@ fn report_of_digits<R: Threads + Wait + Sync, A: Allocator + Copy + Send + Sync>
     ensures fault { IfErr result (Fails digits_replayer input.items) }
 {
     let bytes = decode_digits(alloc, input)?;
-    let file = FileBytes::in_one_piece(alloc, bytes);
-    report_of_file(rt, alloc, file, WorkerCount::ONE, &FreeGate)
+    report_of_file(rt, alloc, bytes, WorkerCount::ONE, &FreeGate)
 }
 
 /// Reads a day file that is given in hexadecimal digits, replays it and writes the report, as [`replay_run`] does.

@@ -6,7 +6,7 @@ ghost use Rattle.itch_engine.specs.ReplayEngines.{Replays, replayer};
 use crate::fault::ProgFault;
 use crate::limits::{MOST_FILE_BYTES, MOST_MESSAGES};
 use crate::report::day::{Report, report_of_day};
-use binaryfile::{Day, Feed, FileBytes, Sink, read_in_pieces, send};
+use binaryfile::{Day, Feed, Sink, read_to_end, send};
 use day_core::WorkerCount;
 use std::alloc::Allocator;
 use std::io::{Read, Write};
@@ -18,14 +18,14 @@ use stock_workers::Gate;
 pub(crate) fn report_of_file<R: Threads + Wait + Sync, A: Allocator + Copy + Send + Sync, G: Gate>(
     rt: &R,
     alloc: A,
-    input: FileBytes<A>,
+    input: Vec<u8, A>,
     workers: WorkerCount,
     gate: &G,
 ) -> Result<Report<A>, ProgFault>
-    ensures report { IfOk result (λ report. Replays input.bytes report.text.items report.refused) }
-    ensures fault { IfErr result (Fails replayer input.bytes) }
+    ensures report { IfOk result (λ report. Replays input.items report.text.items report.refused) }
+    ensures fault { IfErr result (Fails replayer input.items) }
 {
-    let day = Day::from_file(alloc, input, MOST_MESSAGES)?;
+    let day = Day::from_bytes(alloc, input, MOST_MESSAGES)?;
     Ok(report_of_day(rt, alloc, &day, workers, gate)?)
 }
 
@@ -59,7 +59,7 @@ pub fn replay_run<
 ) -> Result<u32, ProgFault>
     ensures { Runs replayer R.remaining W.contents feed.old feed.new sink.old sink.new result }
 {
-    let input = read_in_pieces(rt, alloc, feed, MOST_FILE_BYTES)?;
+    let input = read_to_end(alloc, feed, MOST_FILE_BYTES)?;
     let report = report_of_file(rt, alloc, input, workers, gate)?;
     send(sink, &report.text)?;
     Ok(report.refused)

@@ -3,12 +3,12 @@ use Rattle.binaryfile.specs.Index.{offset, payloads_of}
 use Rattle.binaryfile.proofs.scan.entry_count.Given as goal
 
 abbrev pub invariant-loop-payload : goal.invariant-loop-payload
-invariant-loop-payload g l = record {
-  place : l.end ≡ offset (payloads_of l.file.bytes) l.count;
-  counted : l.count ≤ length (payloads_of l.file.bytes);
-  within : l.end ≤ length l.file.bytes;
+invariant-loop-payload l = record {
+  place : l.end ≡ offset (payloads_of l.bytes) l.count;
+  counted : l.count ≤ length (payloads_of l.bytes);
+  within : l.end ≤ length l.bytes;
   fewer : l.count ≤ l.end;
 }
 
 abbrev pub decreases-loop-payload : goal.decreases-loop-payload
-decreases-loop-payload g l = length l.file.bytes - l.end
+decreases-loop-payload l = length l.bytes - l.end

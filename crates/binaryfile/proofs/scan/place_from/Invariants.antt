@@ -3,4 +3,4 @@ use Rattle.binaryfile.specs.Index.{offset, payloads_of}
 use Rattle.binaryfile.proofs.scan.place_from.Given as goal
 
 abbrev pub invariant-loop : goal.invariant-loop
-invariant-loop g l = (l.at ≡ offset (payloads_of l.file.bytes) l.counter) × (l.at ≤ length l.file.bytes)
+invariant-loop l = (l.at ≡ offset (payloads_of l.bytes) l.counter) × (l.at ≤ length l.bytes)

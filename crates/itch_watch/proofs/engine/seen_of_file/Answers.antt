@@ -6,7 +6,7 @@ use Rattle.itch_watch.proofs.engine.seen_of_file.Goals as goal
 
 pub watch_stock-requires-clause-bytes : goal.watch_stock-requires-clause-bytes
 watch_stock-requires-clause-bytes g c =
-    let bytes = c.day.inside.file.bytes in
+    let bytes = c.day.inside.bytes.items in
     let are = c.day.invariant.are in
     λ _ _. payloads_are bytes c.in_ok-day.day are (subst (Splits bytes) c.day.view_is (contents_splits bytes are))
 
