@@ -2,3 +2,4 @@ mod GoesOn
 mod NextMoment
 mod Listing
 mod Named
+mod Segmented

@@ -1,8 +1,8 @@
 -- The stocks of a day, one message on.
-use Rattle.std.proofs.Common.{◌≡◌, ◌≢◌, ℕ, ◌+◌, ◌-◌, ◌<◌, ◌≤◌, Bool, true, false, cond, List, [], ◌∷◌, length, drop, get_or, set, take, replicate, Option, Some, None, refl, ap, sym, ◌∙◌, arith, add-one, subst, inl, inr}
+use Rattle.std.proofs.Common.{◌≡◌, ◌≢◌, ℕ, ◌+◌, ◌<◌, ◌≤◌, Bool, true, false, cond, List, [], ◌∷◌, ◌++◌, zero, suc, length, drop, get_or, set, take, replicate, Option, Some, None, refl, ap, sym, ◌∙◌, arith, add-one, subst, inl, inr}
 use Rattle.std.specs.Option.{option_or}
 use Rattle.std.proofs.lemmas.Bool.{cases_eq, eq-eqb, ne_eqb}
-use Rattle.std.proofs.lemmas.List.{drop_more, get_or_read, get_or-replicate, get_or-set_same, get_or-set_other, length-drop, length-replicate, length-set, length-take}
+use Rattle.std.proofs.lemmas.List.{drop_at, get_or_append_left, get_or-replicate, get_or-set_same, get_or-set_other, length-append, length-drop, length-replicate, length-set, length-take, take-append-le}
 use Rattle.std.specs.Prelude.{count_by}
 use Rattle.std.proofs.lemmas.List.Sums.{count_by-le-length}
 use Rattle.itch_table.specs.declared.outcome.Outcome.{Outcome}
@@ -65,15 +65,35 @@ pub record IsListing (day rest : List (List ℕ)) (listed : List Listed) : Type 
   pub left : rest ≡ drop n day
   pub are : AreListed day n listed
 
-pub listing_begins : (day rest : List (List ℕ)) (listed : List Listed) → rest ≡ day → listed ≡ replicate 0x1_0000 (listed_as None 0)
-    → IsListing day rest listed
-listing_begins day rest listed all none = record {
-  n = 0;
-  within = omega arith;
-  left = all;
+-- before the first message
+pub none_listed : (listed : List Listed) → listed ≡ replicate 0x1_0000 (listed_as None 0) → AreListed [] 0 listed
+none_listed listed none = record {
+  long = ap length none ∙ length-replicate 0x1_0000 (listed_as None 0);
+  each = λ locate d low. ap (λ (l : List Listed). get_or l locate d) none ∙ get_or-replicate 0x1_0000 locate (listed_as None 0) d low ∙ sym (listed_none [] locate);
+}
+
+-- what the first messages say is the same where more come after them
+symbol_before : (day more : List (List ℕ)) (locate n : ℕ) → n ≤ length day → symbol_until (day ++ more) locate n ≡ symbol_until day locate n
+symbol_before day more locate zero within = symbol-none (day ++ more) locate ∙ sym (symbol-none day locate)
+symbol_before day more locate (suc n) within =
+    let up : suc n ≡ n + 1 = omega arith in
+    let there : get_or (day ++ more) n [] ≡ get_or day n [] = get_or_append_left day more [] n (omega (arith, within)) in
+    ap (symbol_until (day ++ more) locate) up ∙ symbol-next (day ++ more) locate n
+    ∙ rw (symbol_before day more locate n (omega (arith, within)), there) (sym (symbol-next day locate n) ∙ ap (symbol_until day locate) (sym up))
+
+steps_before : (day more : List (List ℕ)) (locate n : ℕ) → n ≤ length day → steps_of (day ++ more) locate n ≡ steps_of day locate n
+unfolding steps_of
+steps_before day more locate n within = ap (count_by (is_of_stock locate)) (take-append-le n day more within)
+
+pub listing_begins : (day more : List (List ℕ)) (listed : List Listed) → AreListed day (length day) listed → IsListing (day ++ more) more listed
+listing_begins day more listed before = record {
+  n = length day;
+  within = omega (arith, length-append day more);
+  left = sym (drop_at day more (length day) refl);
   are = record {
-    long = ap length none ∙ length-replicate 0x1_0000 (listed_as None 0);
-    each = λ locate d low. ap (λ (l : List Listed). get_or l locate d) none ∙ get_or-replicate 0x1_0000 locate (listed_as None 0) d low ∙ sym (listed_none day locate);
+    long = before.long;
+    each = λ locate d low. before.each locate d low
+        ∙ (λ i. listed_as (sym (symbol_before day more locate (length day) (omega arith)) i) (sym (steps_before day more locate (length day) (omega arith)) i));
   };
 }
 

@@ -1,15 +1,14 @@
 -- A stock that is named has a message of the day.
-use Rattle.std.proofs.Common.{◌≡◌, ℕ, zero, suc, ◌+◌, ◌-◌, ◌<◌, ◌≤◌, Bool, true, false, cond, List, [], ◌∷◌, length, get_or, Option, Some, None, refl, sym, ap, subst, ◌∙◌, arith, add-one, inl, inr}
-use Rattle.std.specs.Option.{option_or}
+use Rattle.std.proofs.Common.{◌≡◌, ℕ, zero, suc, ◌+◌, ◌-◌, ◌<◌, ◌≤◌, Bool, true, cond, List, [], ◌∷◌, length, get_or, Option, Some, None, refl, sym, ap, subst, ◌∙◌, arith, add-one, inl, inr}
 use Rattle.std.proofs.lemmas.Bool.{cases_Bool, ltb-true}
 use Rattle.std.proofs.lemmas.Grind.{common_steps}
 use Rattle.std.proofs.lemmas.Option.{slice_get_cases}
-use Rattle.std.specs.Prelude.{nat_lt, slice_get}
+use Rattle.std.specs.Prelude.{nat_lt}
 use Rattle.itch_table.specs.Parts.{part}
 use Rattle.itch_table.specs.Projection.{is_of_stock, steps_of}
 use Rattle.itch_table.specs.Shows.{HasMessage}
 use Rattle.itch_table.proofs.StockDays.{own_part, steps-next, steps-none}
-use Rattle.itch_readings.specs.Naming.{AreListed, first_with, has_messages, has_symbol, is_symbol, listed_until, locate_of, symbol_by, symbol_for, symbol_until}
+use Rattle.itch_readings.specs.Naming.{AreListed, first_with, has_symbol, is_symbol, listed_until, locate_of, symbol_until}
 use Rattle.itch_readings.specs.declared.naming.Listed.{Listed}
 use Rattle.itch_readings.specs.declared.naming.StockName.{StockName}
 use Rattle.itch_readings.specs.declared.naming.StockName.TheVariants.{Locate, Symbol}

@@ -1,6 +1,6 @@
 -- The moments of a stock, one message on.
-use Rattle.std.proofs.Common.{◌≡◌, ◌≢◌, ℕ, ◌+◌, ◌-◌, ◌<◌, ◌≤◌, Bool, true, false, cond, List, [], ◌∷◌, ◌++◌, length, drop, get_or, refl, ap, sym, ◌∙◌, arith}
-use Rattle.std.proofs.lemmas.List.{append-nil, drop_more, length-drop}
+use Rattle.std.proofs.Common.{◌≡◌, ◌≢◌, ℕ, ◌+◌, Bool, true, false, cond, List, [], ◌∷◌, ◌++◌, drop, get_or, ap, sym, ◌∙◌, arith}
+use Rattle.std.proofs.lemmas.List.{append-nil}
 use Rattle.std.proofs.lemmas.List.FromFn.{filter_of_map_range_with_len_more}
 use Rattle.itch_table.specs.declared.outcome.Outcome.{Outcome}
 use Rattle.itch_table.specs.declared.outcome.Part.TheVariants.{Locate}
@@ -14,7 +14,6 @@ use Rattle.itch_table.specs.Shows.{top_after}
 use Rattle.itch_table.specs.Table.{step}
 use Rattle.itch_table.specs.World.{World, orders_of}
 use Rattle.itch_table.proofs.Days.{after-next}
-use Rattle.itch_readings.specs.declared.moments.Moment.{Moment}
 use Rattle.itch_readings.proofs.GoesOn.{here, payload-is}
 use Rattle.itch_readings.specs.Tops.{is_own, moment, time_of, tops_until}
 

@@ -1,37 +1,65 @@
 //! The engines that read a day file and write of its stocks.
-ghost use Rattle.std.specs.Prelude.{◌≡◌, IfOk, IfErr};
+ghost use Rattle.std.specs.Prelude.{◌≡◌, ◌+◌, ◌↔◌, IfOk, IfErr, IsErrOf};
+ghost use Rattle.binaryfile.specs.Devices.{GaveUpTo, HasFailed};
+ghost use Rattle.itch_engine.specs.declared.limits.TheConstants.{MOST_FILE_BYTES};
 ghost use Rattle.itch_engine.specs.Runs.{Fails, Runs};
-ghost use Rattle.itch_readings.specs.Engines.{ListsStocks, PrintsTops, stock_lister, tops_printer};
+ghost use Rattle.itch_readings.specs.Engines.{GaveStocks, PrintsTops, StopsReading, stock_lister, tops_printer};
 
 use crate::moments::tops;
-use crate::naming::{StockName, list_stocks, locate_of};
+use crate::naming::{Listed, StockName, list_more, list_stocks, locate_of, unlisted};
 use crate::stock_lines::put_stocks;
 use crate::top_lines::{Selection, put_tops};
 use binaryfile::{Day, Feed, Sink, read_to_end, send};
+use day_segments::{carry_after, read_segment};
 use itch_engine::ProgFault;
 use itch_engine::limits::{MOST_FILE_BYTES, MOST_MESSAGES};
 use std::alloc::Allocator;
 use std::io::{Read, Write};
 
-// The lines of a file's stocks.
-fn stocks_of_file<A: Allocator + Copy>(alloc: A, input: Vec<u8, A>) -> Result<Vec<u8, A>, ProgFault>
-    ensures text { IfOk result (λ text. ListsStocks input.items text.items) }
-    ensures fault { IfErr result (Fails stock_lister input.items) }
+// What a file says of each of its stocks. No more of it is in memory than a segment.
+fn listed_of_file<A: Allocator + Copy, R: Read>(
+    alloc: A,
+    feed: &mut Feed<R>,
+) -> Result<Vec<Listed, A>, ProgFault>
+    ensures listed { IfOk result (λ listed.
+        GaveStocks (R.remaining feed.old.device) (R.remaining feed.new.device) listed.items) }
+    ensures fault { IfErr result (
+        StopsReading stock_lister (R.remaining feed.old.device) (R.remaining feed.new.device)) }
+    // Whatever the result, no more is taken from the reader than the limit and one byte.
+    ensures taken { GaveUpTo (R.remaining feed.old.device) (R.remaining feed.new.device)
+        (MOST_FILE_BYTES + 1) }
+    ensures failed { IsErrOf result ProgFault.Read ↔ HasFailed feed.new }
+    ensures for_good { HasFailed feed.old → feed.new ≡ feed.old }
 {
-    let day = Day::from_bytes(alloc, input, MOST_MESSAGES)?;
-    let listed = list_stocks(alloc, &day)?;
-    let mut text = Vec::new(alloc);
-    put_stocks(&mut text, &listed)?;
-    Ok(text)
+    if feed.failed() {
+        return Err(ProgFault::Read);
+    }
+    let mut listed = unlisted(alloc)?;
+    let mut carried = Vec::new(alloc);
+    let mut given = 0u64;
+    let mut messages = 0u64;
+    while let Some(segment) = read_segment(alloc, feed, &carried, MOST_FILE_BYTES - given)? {
+        messages += u64::from(segment.len());
+        if messages <= u64::from(MOST_MESSAGES) {
+            list_more(&mut listed, &segment);
+        }
+        given += (segment.bytes().len() - carried.len()) as u64;
+        carried = carry_after(alloc, &segment)?;
+    }
+    if messages > u64::from(MOST_MESSAGES) {
+        return Err(ProgFault::TooManyMessages);
+    }
+    Ok(listed)
 }
 
 /// Reads a day file and writes a line for each stock that has messages, by rising locate code: the code, the symbol
 /// between quotes, and how many messages it has.
 ///
-/// The whole file is read before it is judged, and the whole text is made in memory before it is sent. After
-/// [`ProgFault::Write`] the bytes that were taken are a prefix of the text; after another fault none was sent.
-/// [`ProgFault::Read`] comes exactly where the feed has failed, [`ProgFault::TooManyBytes`] above
-/// [`MOST_FILE_BYTES`] bytes, and [`ProgFault::TooManyMessages`] above [`MOST_MESSAGES`] messages.
+/// The file is read to its end before anything is written, and no more of it is in memory than some 1 MiB. The whole
+/// text is made in memory before it is sent. After [`ProgFault::Write`] the bytes that were taken are a prefix of the
+/// text; after another fault none was sent. [`ProgFault::Read`] comes exactly where the feed has failed,
+/// [`ProgFault::TooManyBytes`] above [`MOST_FILE_BYTES`] bytes, and [`ProgFault::TooManyMessages`] above
+/// [`MOST_MESSAGES`] messages.
 pub fn stocks_run<A: Allocator + Copy, R: Read, W: Write>(
     alloc: A,
     feed: &mut Feed<R>,
@@ -39,8 +67,9 @@ pub fn stocks_run<A: Allocator + Copy, R: Read, W: Write>(
 ) -> Result<(), ProgFault>
     ensures { Runs stock_lister R.remaining W.contents feed.old feed.new sink.old sink.new result }
 {
-    let input = read_to_end(alloc, feed, MOST_FILE_BYTES)?;
-    let text = stocks_of_file(alloc, input)?;
+    let listed = listed_of_file(alloc, feed)?;
+    let mut text = Vec::new(alloc);
+    put_stocks(&mut text, &listed)?;
     send(sink, &text)?;
     Ok(())
 }

@@ -1,5 +1,5 @@
 //! The stocks of a day, and how they are named.
-ghost use Rattle.std.specs.Prelude.{◌≡◌, ◌≤◌, IfOk, length, slice_get};
+ghost use Rattle.std.specs.Prelude.{ℕ, ◌≡◌, ◌≤◌, ◌<◌, ◌+◌, ◌^◌, ◌++◌, List, [], IfOk, length, slice_get};
 ghost use Rattle.itch_readings.specs.Naming.{AreListed, NamedHaveMessages, first_with, has_messages, has_symbol, locate_of, symbol_by};
 ghost use Rattle.itch_table.specs.declared.parts.TheConstants.{LOCATES};
 
@@ -36,22 +36,28 @@ fn symbol_in(payload: &[u8]) -> Option<[u8; 8]>
     }
 }
 
-/// What a day's messages say of each stock, by its locate code, of 2^16 in all. The memory is that of `alloc`.
-///
-/// A stock's symbol is that of its first directory message (Nasdaq TotalView-ITCH 5.0, "Stock Directory"), which is
-/// always applied; a later one with another symbol is refused.
-pub fn list_stocks<A: Allocator + Copy>(
-    alloc: A,
-    day: &Day<A>,
-) -> Result<Vec<Listed, A>, AllocError>
-    ensures { IfOk result (λ listed. AreListed day.now.payloads (length day.now.payloads) listed.items) }
+/// What no message says of each stock, by its locate code, of 2^16 in all. The memory is that of `alloc`.
+pub(crate) fn unlisted<A: Allocator + Copy>(alloc: A) -> Result<Vec<Listed, A>, AllocError>
+    ensures { IfOk result (λ listed. AreListed [] 0 listed.items) }
 {
     let unlisted = Listed {
         symbol: None,
         messages: 0,
     };
-    let mut listed = vec![in alloc; unlisted; LOCATES]?;
-    for payload in day.payloads() {
+    let listed = vec![in alloc; unlisted; LOCATES]?;
+    Ok(listed)
+}
+
+/// Adds what the messages of a day, or of a segment of one, say of each stock to what those before them say. A caller
+/// passes a list of the messages before, which with these are fewer than 2^32.
+pub(crate) fn list_more<A: Allocator>(listed: &mut Vec<Listed, A>, segment: &Day<A>)
+    requires { (before : List (List ℕ)) × AreListed before (length before) listed.old.items
+        × (length before + length segment.now.payloads < 2 ^ 32) }
+    ensures { (before : List (List ℕ)) → AreListed before (length before) listed.old.items
+        → AreListed (before ++ segment.now.payloads) (length (before ++ segment.now.payloads))
+        listed.new.items }
+{
+    for payload in segment.payloads() {
         if let Part::Locate(locate) = part(payload) {
             let before = listed[locate as usize];
             let symbol = match before.symbol {
@@ -64,6 +70,22 @@ pub fn list_stocks<A: Allocator + Copy>(
             };
         }
     }
+}
+
+/// What a day's messages say of each stock, by its locate code, of 2^16 in all. The memory is that of `alloc`.
+///
+/// A stock's symbol is that of its first directory message (Nasdaq TotalView-ITCH 5.0, "Stock Directory"), which is
+/// always applied; a later one with another symbol is refused.
+pub fn list_stocks<A: Allocator + Copy>(
+    alloc: A,
+    day: &Day<A>,
+) -> Result<Vec<Listed, A>, AllocError>
+    ensures { IfOk result (λ listed. AreListed day.now.payloads (length day.now.payloads) listed.items) }
+{
+    // For the proof alone: it says that the day has fewer than 2^32 messages.
+    let _few = day.payloads();
+    let mut listed = unlisted(alloc)?;
+    list_more(&mut listed, day);
     Ok(listed)
 }
 

@@ -1,7 +1,5 @@
-use Rattle.std.proofs.Common.{◌≡◌, ◌≢◌, ℕ, ◌+◌, ◌≤◌, List, [], ◌∷◌, ◌++◌, drop, length, ap, sym, ◌∙◌, arith}
+use Rattle.std.proofs.Common.{◌≡◌, ℕ, ◌+◌, ◌≤◌, List, [], ◌∷◌, ◌++◌, drop, length, ap, sym, ◌∙◌, arith}
 use Rattle.std.proofs.lemmas.List.{length-drop}
-use Rattle.itch_table.specs.declared.outcome.Part.TheVariants.{Locate}
-use Rattle.itch_table.specs.After.{after}
 use Rattle.itch_table.specs.Parts.{part}
 use Rattle.itch_table.specs.Projection.{only, payload_at}
 use Rattle.itch_table.specs.Levels.{top}

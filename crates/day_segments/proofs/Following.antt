@@ -1,0 +1,101 @@
+-- One segment of a file after another.
+use Rattle.std.proofs.Common.{◌≡◌, ℕ, ◌+◌, ◌≤◌, Bool, true, false, List, [], ◌∷◌, ◌++◌, length, refl, sym, ap, subst, ◌∙◌, arith}
+use Rattle.std.proofs.KnownBytes.{Consumes-nil, Consumes-trans}
+use Rattle.std.proofs.lemmas.List.{append_assoc, append-nil, length-append}
+use Rattle.std.proofs.lemmas.Bool.{true≢false}
+use Rattle.std.proofs.lemmas.Grind.{flat_map-append}
+use Rattle.std.proofs.lemmas.List.Elements.{All-append, All-nil}
+use Rattle.std.specs.Prelude.{Option}
+use Rattle.std.specs.Io.KnownBytes.{Consumes}
+use Rattle.std.specs.List.{flat_map}
+use Rattle.binaryfile.specs.Devices.{GaveAll}
+use Rattle.byte_strings.specs.Bytes.{AreBytes, IsByte}
+use Rattle.binaryfile.specs.Entries.{Contents, IsPayload, Splits, entry, marker}
+use Rattle.binaryfile.proofs.Splitting.{splits_contents}
+use Rattle.day_segments.proofs.Carried.{entries_long}
+use Rattle.day_segments.specs.Segments.{IsReadTo, IsSegment, carry_after, carry_by}
+
+abbrev contents : List (List ℕ) → Bool → List ℕ → Contents
+contents payloads marked tail = record { payloads = payloads; marked = marked; tail = tail }
+
+-- before the first segment
+pub reads_first : (start : Option (List ℕ)) → IsReadTo start start [] [] 0
+reads_first start = record {
+  bytes = [];
+  marked = false;
+  tail = [];
+  gave = Consumes-nil start;
+  are = All-nil IsByte;
+  split = record { whole = refl; each = All-nil IsPayload; partial = λ _. tt };
+  carry_is = refl;
+  given_is = refl;
+}
+
+-- a file that has come to no marker goes on
+goes_on : (bytes given tail : List ℕ) (payloads : List (List ℕ)) (next : Contents) → Splits bytes (contents payloads false tail) → Splits (tail ++ given) next
+    → Splits (bytes ++ given) (contents (payloads ++ next.payloads) next.marked next.tail)
+goes_on bytes given tail payloads next before after =
+    let rest = marker next.marked ++ next.tail in
+    record {
+      whole = ap (λ (front : List ℕ). front ++ given) before.whole ∙ append_assoc (flat_map entry payloads) tail given ∙ ap (λ (back : List ℕ). flat_map entry payloads ++ back) after.whole
+          ∙ sym (append_assoc (flat_map entry payloads) (flat_map entry next.payloads) rest) ∙ ap (λ (front : List ℕ). front ++ rest) (sym (flat_map-append entry payloads next.payloads));
+      each = All-append IsPayload payloads next.payloads before.each after.each;
+      partial = after.partial;
+    }
+
+-- after an end marker there are no entries
+after_marker : (given : List ℕ) (next : Contents) → Splits (0 ∷ 0 ∷ given) next → next ≡ contents [] true given
+after_marker given next split = splits_contents (0 ∷ 0 ∷ given) next split
+
+-- a file that has come to a marker stays as it is, but for its tail
+stays : (bytes given tail : List ℕ) (payloads : List (List ℕ)) (next : Contents) → Splits bytes (contents payloads true tail) → next ≡ contents [] true given
+    → Splits (bytes ++ given) (contents (payloads ++ next.payloads) true (tail ++ given))
+stays bytes given tail payloads next before is =
+    let none : payloads ++ next.payloads ≡ payloads = ap (λ (c : Contents). payloads ++ c.payloads) is ∙ append-nil payloads in
+    subst (λ (all : List (List ℕ)). Splits (bytes ++ given) (contents all true (tail ++ given))) (sym none) (record {
+      whole = ap (λ (front : List ℕ). front ++ given) before.whole ∙ append_assoc (flat_map entry payloads) (marker true ++ tail) given;
+      each = before.each;
+      partial = λ unmarked. absurd (true≢false unmarked);
+    })
+
+module _ (start now next : Option (List ℕ)) (carried : List ℕ) (most : ℕ) (c : Contents) (segment : IsSegment now next carried most c) where
+  follows : (payloads : List (List ℕ)) (given : ℕ) (bytes tail : List ℕ) (marked : Bool) → Consumes start now bytes → AreBytes bytes → Splits bytes (contents payloads marked tail) → carried ≡ carry_by marked tail → given ≡ length bytes
+      → IsReadTo start next (payloads ++ c.payloads) (carry_after c) (given + length segment.bytes)
+  follows payloads given bytes tail true gave are split is long =
+      let marked = after_marker segment.bytes c (subst (λ (front : List ℕ). Splits (front ++ segment.bytes) c) is segment.split) in
+      record {
+        bytes = bytes ++ segment.bytes;
+        marked = true;
+        tail = tail ++ segment.bytes;
+        gave = Consumes-trans start now next bytes segment.bytes gave segment.gave;
+        are = All-append IsByte bytes segment.bytes are segment.are;
+        split = stays bytes segment.bytes tail payloads c split marked;
+        carry_is = ap carry_after marked;
+        given_is = omega (arith, long, length-append bytes segment.bytes);
+      }
+  follows payloads given bytes tail false gave are split is long = record {
+    bytes = bytes ++ segment.bytes;
+    marked = c.marked;
+    tail = c.tail;
+    gave = Consumes-trans start now next bytes segment.bytes gave segment.gave;
+    are = All-append IsByte bytes segment.bytes are segment.are;
+    split = goes_on bytes segment.bytes tail payloads c split (subst (λ (front : List ℕ). Splits (front ++ segment.bytes) c) is segment.split);
+    carry_is = refl;
+    given_is = omega (arith, long, length-append bytes segment.bytes);
+  }
+
+  -- a file that was read so far is read further by a segment
+  pub reads_on : (payloads : List (List ℕ)) (given : ℕ) → IsReadTo start now payloads carried given → IsReadTo start next (payloads ++ c.payloads) (carry_after c) (given + length segment.bytes)
+  reads_on payloads given read = follows payloads given read.bytes read.tail read.marked read.gave read.are read.split read.carry_is read.given_is
+
+-- where nothing more comes, all was read
+pub all_read : (start now next : Option (List ℕ)) (payloads : List (List ℕ)) (carried : List ℕ) (given : ℕ) → (read : IsReadTo start now payloads carried given) → GaveAll now next [] → GaveAll start next read.bytes
+all_read start now next payloads carried given read end = record {
+  gave = subst (Consumes start next) (append-nil read.bytes) (Consumes-trans start now next read.bytes [] read.gave end.gave);
+  ended = end.ended;
+}
+
+-- no more payloads than bytes were read
+pub few_read : (start now : Option (List ℕ)) (payloads : List (List ℕ)) (carried : List ℕ) (given : ℕ) → IsReadTo start now payloads carried given → length payloads ≤ given
+few_read start now payloads carried given read =
+    omega (arith, entries_long payloads, read.given_is, ap length read.split.whole, length-append (flat_map entry payloads) (marker read.marked ++ read.tail))

@@ -1,0 +1,3 @@
+mod Filled
+mod Carried
+pub mod Following

@@ -1,0 +1,190 @@
+//! Files that are read segment by segment. A segment takes 2^20 bytes from its feed, unless the file ends before.
+use crate::THREE;
+use binaryfile::{Day, Feed, LoadFault};
+use day_segments::{carry_after, read_segment};
+use std::alloc::{AllocError, Allocator, Global};
+use std::io::ErrorKind;
+use std::test::Fail;
+use test_refusing::{Refusal, Refusing, Tried, refuse_each};
+use test_support::{Pieces, same, same_bytes};
+
+// The most bytes of a file.
+const MOST: u64 = 1 << 40;
+
+// A file of 20 entries with as many bytes as an entry can have, those of the entry after n others all n. Its first 2^20
+// bytes are 15 entries and 65,521 bytes of the next one.
+fn long_file<A: Allocator>(alloc: A) -> Result<Vec<u8, A>, AllocError> {
+    let mut file = Vec::new(alloc);
+    for byte in 0..20u8 {
+        file.resize(file.len().saturating_add(2), 0xff)?;
+        file.resize(file.len().saturating_add(65_535), byte)?;
+    }
+    Ok(file)
+}
+
+// A segment, where one comes.
+fn next<A: Allocator + Copy>(
+    alloc: A,
+    feed: &mut Feed<Pieces<'_>>,
+    carried: &[u8],
+) -> Result<Day<A>, Fail> {
+    if carried.len() > 65_536 {
+        return Err(Fail::new("no more than an entry is carried over"));
+    }
+    match read_segment(alloc, feed, carried, MOST) {
+        Ok(Some(segment)) => Ok(segment),
+        Ok(None) => Err(Fail::new("a file ends before its last segment")),
+        Err(fault) => Err(Fail::new(format_args!("a segment has a fault: {fault:?}"))),
+    }
+}
+
+// That a feed gives no segment more.
+fn try_end<A: Allocator + Copy>(
+    alloc: A,
+    feed: &mut Feed<Pieces<'_>>,
+    carried: &[u8],
+) -> Result<(), Fail> {
+    if carried.len() > 65_536 {
+        return Err(Fail::new("no more than an entry is carried over"));
+    }
+    let ended = matches!(read_segment(alloc, feed, carried, MOST), Ok(None));
+    same("the end", &(ended, feed.failed()), &(true, false))
+}
+
+#[test]
+fn an_entry_of_two_segments_is_in_the_second(rt: HostRuntime) -> Result<(), Fail> {
+    let alloc = rt.alloc();
+    let file = long_file(alloc)?;
+    let mut feed = Feed::new(Pieces::new(&file, 1_000_000));
+    let first = next(alloc, &mut feed, &[])?;
+    let carried = carry_after(alloc, &first)?;
+    same("a segment", &(first.len(), carried.len()), &(15, 65_521))?;
+    let second = next(alloc, &mut feed, &carried)?;
+    same(
+        "the next one",
+        &(second.len(), second.marked()),
+        &(5, false),
+    )?;
+    let Some(shared) = second.payloads().next() else {
+        return Err(Fail::new("a segment of five entries has no first one"));
+    };
+    same_bytes("the entry", shared, &[15; 65_535])?;
+    let carried = carry_after(alloc, &second)?;
+    same("what is carried over", &carried.len(), &0)?;
+    try_end(alloc, &mut feed, &carried)
+}
+
+#[test]
+fn nothing_after_a_marker_is_an_entry(rt: HostRuntime) -> Result<(), Fail> {
+    let alloc = rt.alloc();
+    let mut file = THREE.to_vec(alloc)?;
+    file.extend_from_slice(&long_file(alloc)?)?;
+    let mut feed = Feed::new(Pieces::new(&file, 100_000));
+    let first = next(alloc, &mut feed, &[])?;
+    let carried = carry_after(alloc, &first)?;
+    same("a segment", &(first.len(), first.marked()), &(3, true))?;
+    same_bytes("what is carried over", &carried, &[0, 0])?;
+    let second = next(alloc, &mut feed, &carried)?;
+    let carried = carry_after(alloc, &second)?;
+    same("the next one", &(second.len(), second.marked()), &(0, true))?;
+    same_bytes("what is carried over then", &carried, &[0, 0])?;
+    try_end(alloc, &mut feed, &carried)
+}
+
+// A file whose first segment ends after one byte of these, which stand after 15 long entries and one of 65,518 bytes:
+// what the second segment is.
+fn try_border<A: Allocator + Copy>(
+    alloc: A,
+    rest: &[u8],
+    wanted: (u32, bool, &[u8]),
+) -> Result<(), Fail> {
+    let mut file = long_file(alloc)?;
+    file.truncate(15 * 65_537);
+    file.extend_from_slice(&[0xff, 0xee])?;
+    file.resize(1_048_575, b'x')?;
+    file.extend_from_slice(rest)?;
+    let mut feed = Feed::new(Pieces::new(&file, 1 << 20));
+    let first = next(alloc, &mut feed, &[])?;
+    let carried = carry_after(alloc, &first)?;
+    same("a segment", &(first.len(), carried.len()), &(16, 1))?;
+    let second = next(alloc, &mut feed, &carried)?;
+    let found = (second.len(), second.marked(), second.tail());
+    same("the next one", &found, &wanted)
+}
+
+#[test]
+fn a_length_and_a_marker_may_be_cut_between_segments(rt: HostRuntime) -> Result<(), Fail> {
+    try_border(rt.alloc(), b"\x00\x01A\x00\x00\xff", (1, true, b"\xff"))?;
+    try_border(rt.alloc(), b"\x00\x00\xff", (0, true, b"\xff"))?;
+    try_border(rt.alloc(), b"\x00\x05ABC", (0, false, b"\x00\x05ABC"))
+}
+
+// The fault of a segment that may take so many bytes, and how many it takes.
+fn try_limit<A: Allocator + Copy>(
+    alloc: A,
+    most: u64,
+    wanted: (Option<LoadFault>, usize),
+) -> Result<(), Fail> {
+    if most > MOST {
+        return Err(Fail::new("a file has 2^40 bytes at most"));
+    }
+    let mut reader = THREE;
+    let mut feed = Feed::new(&mut reader);
+    let fault = read_segment(alloc, &mut feed, &[], most).err();
+    let taken = THREE.len().saturating_sub(reader.len());
+    same("a fault", &(most, (fault, taken)), &(most, wanted))
+}
+
+#[test]
+fn a_segment_takes_no_more_than_its_limit_and_one_byte(rt: HostRuntime) -> Result<(), Fail> {
+    try_limit(rt.alloc(), 13, (None, 13))?;
+    try_limit(rt.alloc(), 12, (Some(LoadFault::TooManyBytes), 13))?;
+    try_limit(rt.alloc(), 5, (Some(LoadFault::TooManyBytes), 6))?;
+    try_limit(rt.alloc(), 0, (Some(LoadFault::TooManyBytes), 1))
+}
+
+// A failed feed stays failed, and its reader, which would go on, is not asked again.
+#[test]
+fn a_segment_fails_where_its_feed_does(rt: HostRuntime) -> Result<(), Fail> {
+    let mut reader = Pieces::failing(THREE, 4, 2, ErrorKind::Interrupted);
+    let mut feed = Feed::new(&mut reader);
+    for _ in 0..2 {
+        let fault = read_segment(rt.alloc(), &mut feed, &[], MOST).err();
+        let wanted = (Some(LoadFault::Read), true);
+        same("a fault", &(fault, feed.failed()), &wanted)?;
+    }
+    same("how often the reader was asked", &reader.calls(), &2)
+}
+
+// A segment and what is carried over from it, under a refusal. Where that is out of memory, the feed has not failed.
+fn try_memory(heap: &Refusing<Global>, refusal: Refusal) -> Result<Tried, Fail> {
+    let mut feed = Feed::new(THREE);
+    heap.restart(refusal);
+    let segment = read_segment(heap, &mut feed, b"\x00\x01", MOST);
+    same("a feed", &(refusal, feed.failed()), &(refusal, false))?;
+    let segment = match segment {
+        Ok(Some(segment)) => segment,
+        Ok(None) => return Err(Fail::new("a file has no segment")),
+        Err(fault) => {
+            same("a fault", &(refusal, fault), &(refusal, LoadFault::Memory))?;
+            return Ok(heap.tried(true));
+        }
+    };
+    same("entries", &(refusal, segment.len()), &(refusal, 1))?;
+    let carried = carry_after(heap, &segment);
+    let tried = heap.tried(carried.is_err());
+    if let Ok(carried) = carried {
+        same_bytes("what is carried over", &carried, &THREE[1..])?;
+    }
+    Ok(tried)
+}
+
+// A growth for the bytes, one for the index and one for what is carried over.
+#[test]
+fn each_growth_of_a_segment_may_be_refused(rt: HostRuntime) -> Result<(), Fail> {
+    let heap = Refusing::new(rt.alloc(), Refusal::Never);
+    let growths = refuse_each(|refusal: Refusal| -> Result<Tried, Fail> {
+        try_memory(&heap, refusal)
+    })?;
+    same("the growths", &growths, &3)
+}
