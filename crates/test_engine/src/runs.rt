@@ -199,7 +199,8 @@ fn try_read<T: AllocGlobal + Threads + Wait + Sync>(
     )
 }
 
-// One call for each byte, and one more that gives the end.
+// One call for each byte, and one more that gives the end. The stocks are listed segment by segment: the segment after
+// the last one asks once more.
 #[test]
 fn engines_send_nothing_after_a_failed_read(rt: HostRuntime) -> Result<(), Fail> {
     for engine in ENGINES {
@@ -207,7 +208,8 @@ fn engines_send_nothing_after_a_failed_read(rt: HostRuntime) -> Result<(), Fail>
             try_read(&rt, engine, failing)?;
         }
     }
-    Ok(())
+    let stocks = Engine::Stocks;
+    try_read(&rt, stocks, (stocks.input().len() as u64).saturating_add(2))
 }
 
 // A run whose writer takes one byte a call, and fails when it has taken this many.
