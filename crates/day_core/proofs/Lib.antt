@@ -5,6 +5,8 @@ mod Dealt
 mod OwnLeft
 pub mod Kept
 mod Placing
+pub mod Prefixes
+pub mod FirstStocks
 pub mod Progress
 pub mod Running
 mod Whole

@@ -83,7 +83,7 @@ within_more day locate n before =
           omega (arith, before, there)
     ]
 
-last_within : (day : List (List ℕ)) (locate n : ℕ) → last_until day locate n ≤ n
+pub last_within : (day : List (List ℕ)) (locate n : ℕ) → last_until day locate n ≤ n
 last_within day locate zero = omega arith
 last_within day locate (suc n) = subst (λ (k : ℕ). last_until day locate k ≤ k) (omega arith) (within_more day locate n (last_within day locate n))
 
@@ -115,7 +115,7 @@ module _ (day : List (List ℕ)) (workers locate : ℕ) where
   progress_kept done d lt off =
       ap (last_or 0) (filter_more of_this own done d lt ∙ ap (λ (b : Bool). filter of_this (take done own) ++ cond b (get_or own done d ∷ []) []) off ∙ append-nil _)
 
-  narrower : (n : ℕ) → of_this n ≡ true → is_own workers (owner workers locate) (part_at day n) ≡ true
+  pub narrower : (n : ℕ) → of_this n ≡ true → is_own workers (owner workers locate) (part_at day n) ≡ true
   narrower n on = rw (own_part locate (part_at day n) on) (eq-eqb _ _ refl)
 
   -- before the next message of its worker a stock's last message is the last of the day's that is the stock's

@@ -7,4 +7,5 @@ pub mod Indices
 pub mod Replaying
 pub mod Schedules
 pub mod Splitting
+pub mod Prefixes
 pub mod Workers

@@ -10,6 +10,9 @@ pub record Split : Type 0 where
   pub day : List (List ℕ)
   pub workers : ℕ
 
+abbrev pub split_of : List (List ℕ) → ℕ → Split
+split_of day workers = record { day = day; workers = workers }
+
 -- the first messages of a day are dealt: each worker's messages, those of no stock, and the last event
 pub record AreDealt (day : List (List ℕ)) (workers : ℕ) (count : ℕ) (own : List (List ℕ))
     (fixed : List Piece) (event : Option ℕ) : Type 0 where

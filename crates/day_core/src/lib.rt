@@ -12,6 +12,10 @@
 //!
 //! `stock_workers` replays the parts in threads. [`Turns`] and [`play`] replay them without threads, in any order of
 //! the workers, and [`merge`] puts outcomes together that come in any order. [`Runner`] is one worker without threads.
+//! [`replay_part`] does a worker's messages of a day segment by segment, of which one has to be in memory at a time:
+//! [`Prefix`] says how many messages came before a segment, and in proofs which, and [`Runner::resume`] is a worker
+//! that goes on after them.
+//!
 //! [`event_after`] is the last event code after one more payload. [`note_refused`], [`all_refused`] and
 //! [`outcomes_with`] are for callers that turn workers by themselves: the refused messages of each worker, of a day,
 //! and the outcomes of all messages of it.
@@ -28,11 +32,13 @@ mod ordering;
 mod own_messages;
 mod parts;
 mod playing;
+mod prefix;
 mod refusals;
 mod replaying;
 mod runner;
 mod seeing;
 mod splitting;
+mod starting;
 mod turns;
 mod worker_cells;
 mod worker_count;
@@ -44,8 +50,9 @@ pub use ordering::{by_worker, in_order};
 pub use own_messages::{OwnMessage, OwnMessages};
 pub use parts::Parts;
 pub use playing::{Event, Seen, play};
+pub use prefix::Prefix;
 pub use refusals::{all_refused, note_refused, outcomes_with};
-pub use replaying::{ReplayedDay, replay_parts};
+pub use replaying::{ReplayedDay, ReplayedPart, replay_part, replay_parts};
 pub use runner::{Runner, TURNS_AHEAD, Turned};
 pub use seeing::locates;
 pub use splitting::{SplitFault, parts_of, split};

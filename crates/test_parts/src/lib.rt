@@ -6,6 +6,8 @@ mod days;
 #[cfg(test)]
 mod merging;
 #[cfg(test)]
+mod resuming;
+#[cfg(test)]
 mod schedules;
 #[cfg(test)]
 mod showing;

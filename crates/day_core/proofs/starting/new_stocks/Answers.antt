@@ -3,7 +3,7 @@ use Rattle.std.proofs.lemmas.List.{map-append, take_all, take_more}
 use Rattle.day_core.specs.Workers.{new_machine}
 use Rattle.day_core.proofs.Running.{new_is}
 use Rattle.stock_machine.specs.StockRows.{StockMachine}
-use Rattle.day_core.proofs.runner.new_stocks.Goals as goal
+use Rattle.day_core.proofs.starting.new_stocks.Goals as goal
 
 pub loop-locate-preserved : goal.loop-locate-preserved
 loop-locate-preserved g c =
