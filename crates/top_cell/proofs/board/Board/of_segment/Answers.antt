@@ -1,4 +1,4 @@
-use Rattle.std.proofs.Common.{◌≡◌, ◌≤◌, ◌∙◌, ◌+◌, [], ℕ, Bool, List, filter, ap, arith, length, length-take-le, take, replicate, subst, sym, take_all}
+use Rattle.std.proofs.Common.{◌≡◌, ◌≤◌, ◌∙◌, ◌+◌, ◌++◌, [], ℕ, Bool, List, filter, ap, arith, length, length-take-le, take, replicate, subst, sym, take_all}
 use Rattle.std.specs.List.{list_any, range_with_len}
 use Rattle.std.proofs.lemmas.List.FromFn.{length-range_with_len}
 use Rattle.std.proofs.lemmas.List.Sums.{count_by-le-length, length-filter}
@@ -9,7 +9,7 @@ use Rattle.top_cell.specs.Boards.{AreApart, AreNew, cell_id, cells_of}
 use Rattle.top_cell.specs.declared.rule.Standing.TheVariants.{Opener}
 use Rattle.top_cell.proofs.Cells.{new_board}
 use Rattle.top_cell.proofs.Places.{day_apart, more_new}
-use Rattle.top_cell.proofs.board.Board.of_stocks.Goals as goal
+use Rattle.top_cell.proofs.board.Board.of_segment.Goals as goal
 
 pub of_words-requires : goal.of_words-requires
 of_words-requires g c =
@@ -29,7 +29,7 @@ overflow_cast-index g c =
     let items = c.args.locates.now in
     let at = c.loop-locate.locate-index in
     let stood : length c.loop-locate.writers.items ≡ at = omega (arith, ap length c.loop-locate.invariant.0.stocks, length-map c.loop-locate.writers.items (λ w. w.place.locate), length-take-le at items (omega (arith, c.loop-locate-test.true))) in
-    record { fits = omega (arith, stood, c.len-index.ensures, c.loop-locate.writers.ok.0, c.loop-locate-test.true, few_stocks c.args.day.now.payloads, ap length c.requires) }
+    record { fits = omega (arith, stood, c.len-index.ensures, c.loop-locate.writers.ok.0, c.loop-locate-test.true, few_stocks (c.args.prefix.now ++ c.args.segment.now.payloads), ap length c.requires.locates) }
 
 pub loop-locate-preserved : goal.loop-locate-preserved
 loop-locate-preserved g c =
@@ -53,7 +53,7 @@ invariant_of-result g c =
     let all = take_all c.loop-locate.locate-index items (omega (arith, c.loop-locate-test.false)) in
     let table = c.in_ok-cells.cells.shared.table_id in
     let copy = c.in_ok-locates.ensures.items in
-    let apart = day_apart c.args.day.now.payloads _ c.loop-locate.writers.items (subst (λ (locates : List ℕ). AreNew c.args.day.now.payloads locates (cells_of table (take c.loop-locate.locate-index items)) c.loop-locate.writers.items) (all ∙ c.requires) c.loop-locate.invariant.0) in
+    let apart = day_apart (c.args.prefix.now ++ c.args.segment.now.payloads) _ c.loop-locate.writers.items (subst (λ (locates : List ℕ). AreNew (c.args.prefix.now ++ c.args.segment.now.payloads) locates (cells_of table (take c.loop-locate.locate-index items)) c.loop-locate.writers.items) (all ∙ c.requires.locates) c.loop-locate.invariant.0) in
     let board = ap (cells_of table) (all ∙ sym copy) in
     let made = c.in_ok-cells.ensures in
     let words = made.0 ∙ c.deref.ensures.len ∙ c.in_ok-zeros.ensures.len ∙ c.in-Some.ensures.1 in
