@@ -2,3 +2,4 @@ mod Dealing
 mod Finishing
 mod Joined
 mod Writing
+mod Resuming

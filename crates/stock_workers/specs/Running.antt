@@ -4,7 +4,7 @@ use Rattle.std.specs.declared.alloc.AllocError.{AllocError}
 use Rattle.stock_machine.specs.StockRows.{StockMachine}
 use Rattle.day_core.specs.declared.merging.Piece.{Piece}
 use Rattle.day_core.specs.Owners.{last_message, own_locates}
-use Rattle.day_core.specs.Replaying.{each_worker, for_own_stocks, last_machine, refused_by}
+use Rattle.day_core.specs.Replaying.{IsReplayedPart, each_worker, for_own_stocks, last_machine, refused_by}
 use Rattle.day_core.specs.Splitting.{Split}
 use Rattle.top_cell.specs.Boards.{CellId, IsOn, WriterAt}
 use Rattle.stock_workers.specs.Working.{WritersAt}
@@ -38,6 +38,14 @@ pub record IsFinished (split : Split) (worker : ℕ) (writers : List WriterAt) (
   pub refused_are : refused ≡ refused_by split worker
   pub stocks_are : stocks ≡ for_own_stocks (last_machine split.day) split worker
   pub writers_are : after ≡ map (at_last split.day) writers
+
+-- what a worker has made of all its messages: those that were refused, the machines of its stocks, and a writer of each,
+-- at its stock's last message
+pub record HasFinished (split : Split) (worker : ℕ) (refused : List Piece) (stocks : List StockMachine)
+    (writers : List WriterAt) : Type 0 where
+  pub part : IsReplayedPart split worker refused stocks
+  pub writers_are : WritersAt split.day (last_message split.day)
+      (own_locates split.workers worker split.day) writers
 
 -- what all workers make, in the order of their numbers, where none was refused memory: the writers of their
 -- stocks were these, by locate code

@@ -1,14 +1,15 @@
 //! All turns of all workers of a day, by threads.
-ghost use Rattle.std.specs.Prelude.{◌≡◌, ℕ, All, IfOk};
+ghost use Rattle.std.specs.Prelude.{◌≡◌, ◌<◌, ◌+◌, ◌^◌, ℕ, [], All, IfOk, length};
 ghost use Rattle.std.specs.Thread.{IsSend, IsSync};
 ghost use denote.Param.Send.{Frees};
-ghost use Rattle.day_core.specs.Splitting.{Split};
+ghost use Rattle.day_core.specs.Splitting.{Split, split_of};
+ghost use Rattle.day_core.specs.Workers.{with_prefix};
 ghost use Rattle.top_cell.specs.Boards.{WriterAt};
-ghost use Rattle.stock_workers.specs.Running.{AreFinished, AreWaiting, IsFinished, IsWaiting};
+ghost use Rattle.stock_workers.specs.Running.{AreFinished, AreWaiting, HasFinished, IsFinished, IsWaiting};
 
 use crate::gate::Gate;
 use crate::worker::Worker;
-use day_core::{Parts, Piece, note_refused};
+use day_core::{Parts, Piece, Prefix, note_refused};
 use std::alloc::{AllocError, Allocator};
 use std::sync::Wait;
 use std::thread::{Threads, map_vec};
@@ -32,25 +33,45 @@ pub(crate) struct Finished<A: Allocator> {
     pub writers: Vec<TopWriter, A>,
 }
 
-// All turns of one worker.
+impl<A: Allocator + Copy> Finished<A> {
+    // What any worker makes of no messages.
+    fn none(alloc: A) -> Finished<A>
+        ensures { (workers worker : ℕ) → HasFinished (split_of [] workers) worker
+            result.refused.items result.stocks.items result.writers.items }
+    {
+        Finished {
+            refused: Vec::new(alloc),
+            stocks: Vec::new(alloc),
+            writers: Vec::new(alloc),
+        }
+    }
+}
+
+// All turns of one worker in a segment, after what it has made of the prefix before it.
 fn finish<R: Threads + Wait + Sync, A: Allocator + Copy, G: Gate>(
     rt: &R,
     alloc: A,
     board: &Board<'_, A>,
     gate: &G,
+    prefix: &Prefix<A>,
     waiting: Waiting<'_, A>,
+    earlier: Finished<A>,
 ) -> Result<Finished<A>, AllocError>
-    requires { IsWaiting waiting.parts.now board.now waiting.worker waiting.writers.items }
-    ensures { IfOk result (λ made. IsFinished waiting.entry.parts.now waiting.entry.worker
-        waiting.entry.writers.items made.refused.items made.stocks.items made.writers.items) }
+    requires few { length prefix.now + length waiting.parts.now.day < 2 ^ 32 }
+    requires waits { IsWaiting (with_prefix prefix.now waiting.parts.now) board.now waiting.worker
+        waiting.writers.items }
+    requires earlier { HasFinished (split_of prefix.now waiting.parts.now.workers) waiting.worker
+        earlier.refused.items earlier.stocks.items earlier.writers.items }
+    ensures { IfOk result (λ made. IsFinished (with_prefix prefix.now waiting.entry.parts.now)
+        waiting.entry.worker waiting.entry.writers.items made.refused.items made.stocks.items
+        made.writers.items) }
 {
-    let Waiting {
-        parts,
-        worker: number,
-        writers,
-    } = waiting;
-    let mut refused = Vec::new(alloc);
-    let mut worker = Worker::new(alloc, parts, number, writers)?;
+    let Finished {
+        mut refused,
+        stocks,
+        writers: shown,
+    } = earlier;
+    let mut worker = Worker::resume(alloc, prefix, waiting, stocks, &shown, board)?;
     let mut wait = 0;
     while let Some(piece) = worker.turn(rt, board, gate)? {
         note_refused(&mut refused, piece)?;
@@ -62,6 +83,24 @@ fn finish<R: Threads + Wait + Sync, A: Allocator + Copy, G: Gate>(
         stocks,
         writers,
     })
+}
+
+// All turns of one worker of a whole day.
+fn finish_day<R: Threads + Wait + Sync, A: Allocator + Copy, G: Gate>(
+    rt: &R,
+    alloc: A,
+    board: &Board<'_, A>,
+    gate: &G,
+    waiting: Waiting<'_, A>,
+) -> Result<Finished<A>, AllocError>
+    requires { IsWaiting waiting.parts.now board.now waiting.worker waiting.writers.items }
+    ensures { IfOk result (λ made. IsFinished waiting.entry.parts.now waiting.entry.worker
+        waiting.entry.writers.items made.refused.items made.stocks.items made.writers.items) }
+{
+    // For the proof alone: it says that the day has fewer than 2^32 messages.
+    let _few = waiting.parts.workers();
+    let earlier = Finished::none(alloc);
+    finish(rt, alloc, board, gate, &Prefix::none(), waiting, earlier)
 }
 
 /// All turns of all workers. The list of the workers is forked over its halves, down to one worker a thread; where no
@@ -86,6 +125,6 @@ pub(crate) fn finish_all<R: Threads + Wait + Sync, A: Allocator + Copy + Send + 
                 × IsWaiting waiting.parts.now board.now waiting.worker waiting.writers.items }
             ensures { IfOk result (λ made. IsFinished waiting.entry.parts.now waiting.entry.worker
                 waiting.entry.writers.items made.refused.items made.stocks.items made.writers.items) }
-        { finish(rt, alloc, board, gate, waiting) },
+        { finish_day(rt, alloc, board, gate, waiting) },
     )
 }
