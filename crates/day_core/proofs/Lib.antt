@@ -4,9 +4,10 @@ mod Chunks
 mod Dealt
 mod OwnLeft
 pub mod Kept
-mod Placing
+pub mod Placing
 pub mod Prefixes
 pub mod FirstStocks
+mod Outlines
 pub mod Progress
 pub mod Running
 mod Whole

@@ -35,13 +35,13 @@ message day n = (n, payload_at day n)
 
 -- ---- lists
 
-range_shifted : (a b n : ℕ) → range_with_len (a + b) n ≡ map (λ m. a + m) (range_with_len b n)
+pub range_shifted : (a b n : ℕ) → range_with_len (a + b) n ≡ map (λ m. a + m) (range_with_len b n)
 range_shifted a b zero = refl
 range_shifted a b (suc n) =
     let next : a + b + 1 ≡ a + (b + 1) = omega arith in
     ap (λ (ns : List ℕ). (a + b) ∷ ns) (ap (λ (k : ℕ). range_with_len k n) next ∙ range_shifted a (b + 1) n)
 
-range_append : (a n m : ℕ) → range_with_len a (n + m) ≡ range_with_len a n ++ range_with_len (a + n) m
+pub range_append : (a n m : ℕ) → range_with_len a (n + m) ≡ range_with_len a n ++ range_with_len (a + n) m
 range_append a zero m =
     let same : a ≡ a + 0 = omega arith in
     let all : 0 + m ≡ m = omega arith in
@@ -64,15 +64,15 @@ module _ (prefix segment : List (List ℕ)) where
 
   -- ---- messages
 
-  before_there : (n : ℕ) → 1 ≤ n → n ≤ length prefix → payload_at whole n ≡ payload_at prefix n
+  pub before_there : (n : ℕ) → 1 ≤ n → n ≤ length prefix → payload_at whole n ≡ payload_at prefix n
   before_there n some within = get_or_append_left prefix segment [] (n - 1) (omega (arith, some, within))
 
-  after_there : (n : ℕ) → 1 ≤ n → payload_at whole (length prefix + n) ≡ payload_at segment n
+  pub after_there : (n : ℕ) → 1 ≤ n → payload_at whole (length prefix + n) ≡ payload_at segment n
   after_there n some =
       let at : length prefix + n - 1 ≡ length prefix + (n - 1) = omega (arith, some) in
       ap (λ (k : ℕ). get_or whole k []) at ∙ get_or-append-add prefix segment (n - 1) []
 
-  after_before : (n : ℕ) → n ≤ length prefix → after whole n ≡ after prefix n
+  pub after_before : (n : ℕ) → n ≤ length prefix → after whole n ≡ after prefix n
   after_before zero within = after-none whole ∙ sym (after-none prefix)
   after_before (suc n) within =
       let up : suc n ≡ n + 1 = omega arith in
@@ -80,7 +80,7 @@ module _ (prefix segment : List (List ℕ)) where
       ap (after whole) up ∙ after-next whole n
       ∙ (λ i. (step (after_before n (omega (arith, within)) i) (there i)).1) ∙ sym (after-next prefix n) ∙ ap (after prefix) (sym up)
 
-  outcome_before : (n : ℕ) → n ≤ length prefix → 1 ≤ n → outcome whole n ≡ outcome prefix n
+  pub outcome_before : (n : ℕ) → n ≤ length prefix → 1 ≤ n → outcome whole n ≡ outcome prefix n
   unfolding outcome
   outcome_before n within some =
       let there : get_or whole (n - 1) [] ≡ get_or prefix (n - 1) [] = get_or_append_left prefix segment [] (n - 1) (omega (arith, within, some)) in

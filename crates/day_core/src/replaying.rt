@@ -1,13 +1,10 @@
 //! The parts of a day, one after another.
-ghost use Rattle.std.specs.Prelude.{◌≡◌, ◌<◌, ◌+◌, ◌^◌, ℕ, [], IfOk, length};
-ghost use Rattle.day_core.specs.Replaying.{IsReplayed, IsReplayedPart};
-ghost use Rattle.day_core.specs.Splitting.{split_of};
-ghost use Rattle.day_core.specs.Workers.{with_prefix};
+ghost use Rattle.std.specs.Prelude.{◌≡◌, IfOk};
+ghost use Rattle.day_core.specs.Replaying.{IsReplayed, for_own_stocks, last_machine, refused_by};
 
 use crate::merging::Piece;
 use crate::ordering::in_order;
 use crate::parts::Parts;
-use crate::prefix::Prefix;
 use crate::refusals::{all_refused, note_refused, outcomes_with};
 use crate::runner::Runner;
 use itch_table::Outcome;
@@ -25,57 +22,22 @@ pub struct ReplayedDay<A: Allocator> {
     pub event: Option<u8>,
 }
 
-/// What a worker makes of its messages of a day, or of the first messages of one.
-#[derive(Drop)]
-pub struct ReplayedPart<A: Allocator> {
-    /// Those that were refused, with their outcomes, by rising number.
-    pub refused: Vec<Piece, A>,
-    /// The machines of its stocks, by rising locate code.
-    pub stocks: Vec<Stock<A>, A>,
-}
-
-impl<A: Allocator + Copy> ReplayedPart<A> {
-    /// What any worker makes of no messages.
-    pub fn none(alloc: A) -> ReplayedPart<A>
-        ensures { (workers worker : ℕ) → IsReplayedPart (split_of [] workers) worker
-            result.refused.items result.stocks.items }
-    {
-        ReplayedPart {
-            refused: Vec::new(alloc),
-            stocks: Vec::new(alloc),
-        }
-    }
-}
-
-/// Does all messages that a worker has in a segment of a day, whose parts are given. The caller passes what the same of
-/// as many workers has made of the prefix before it; messages are numbered as in the day.
-///
-/// After an error what it has made is gone.
-pub fn replay_part<A: Allocator + Copy>(
+// Does all messages of a worker: those that were refused, and the machines of the worker's stocks after all of them.
+fn replay_part<A: Allocator + Copy>(
     alloc: A,
-    prefix: &Prefix<A>,
     parts: &Parts<'_, A>,
     worker: u32,
-    earlier: ReplayedPart<A>,
-) -> Result<ReplayedPart<A>, AllocError>
-    requires few { length prefix.now + length parts.now.day < 2 ^ 32 }
-    requires earlier { IsReplayedPart (split_of prefix.now parts.now.workers) worker
-        earlier.refused.items earlier.stocks.items }
-    ensures { IfOk result (λ made. IsReplayedPart (with_prefix prefix.now parts.now) worker
-        made.refused.items made.stocks.items) }
+) -> Result<(Vec<Piece, A>, Vec<Stock<A>, A>), AllocError>
+    ensures refused { IfOk result (λ made. made.0.items ≡ refused_by parts.now worker) }
+    ensures stocks { IfOk result (λ made.
+        made.1.items ≡ for_own_stocks (last_machine parts.now.day) parts.now worker) }
 {
-    let ReplayedPart {
-        mut refused,
-        stocks,
-    } = earlier;
-    let mut runner = Runner::resume(alloc, prefix, parts, worker, stocks)?;
+    let mut runner = Runner::new(alloc, parts, worker)?;
+    let mut refused = Vec::new(alloc);
     while let Some(turned) = runner.turn()? {
         note_refused(&mut refused, turned.piece)?;
     }
-    Ok(ReplayedPart {
-        refused,
-        stocks: runner.into_stocks(),
-    })
+    Ok((refused, runner.into_stocks()))
 }
 
 /// Replays a day by its parts, one worker after another, and puts together what they made.
@@ -93,15 +55,9 @@ pub fn replay_parts<A: Allocator + Copy>(
     let mut refused = Vec::with_capacity(alloc, workers as usize)?;
     let mut stocks = Vec::with_capacity(alloc, workers as usize)?;
     for worker in 0..workers {
-        let part = replay_part(
-            alloc,
-            &Prefix::none(),
-            parts,
-            worker,
-            ReplayedPart::none(alloc),
-        )?;
-        refused.push(part.refused)?;
-        stocks.push(part.stocks)?;
+        let (own_refused, own_stocks) = replay_part(alloc, parts, worker)?;
+        refused.push(own_refused)?;
+        stocks.push(own_stocks)?;
     }
     let refused = all_refused(alloc, parts, refused)?;
     Ok(ReplayedDay {

@@ -308,6 +308,13 @@ impl<'p, A: Allocator> Runner<'p, A> {
         Some(self.before + found.number)
     }
 
+    /// The locate codes of the worker's stocks, rising.
+    pub fn locates(&self) -> &[u16]
+        ensures { result.now ≡ worker_locates self.now }
+    {
+        self.indices.as_slice()
+    }
+
     /// How many stocks the worker has.
     pub fn stock_count(&self) -> usize
         ensures { result ≡ length (worker_locates self.now) }

@@ -1,5 +1,5 @@
 //! The stocks with which a worker starts.
-ghost use Rattle.std.specs.Prelude.{ℕ, ◌≡◌, ◌<◌, ◌==◌, ◌^◌, ◌++◌, ◌||◌, false, IfOk, length, map, slice_index_or};
+ghost use Rattle.std.specs.Prelude.{ℕ, List, ◌≡◌, ◌<◌, ◌==◌, ◌^◌, ◌++◌, ◌||◌, false, IfOk, length, map, slice_index_or};
 ghost use Rattle.std.specs.List.{list_any};
 ghost use Rattle.itch_table.specs.declared.parts.TheConstants.{LOCATES};
 ghost use Rattle.day_core.specs.Owners.{own_locates};
@@ -68,6 +68,23 @@ fn mark_codes<A: Allocator>(seen: &mut Vec<bool, A>, codes: &[u16])
     }
 }
 
+/// The locate codes of both lists, rising: those of a worker's stocks in a prefix and in the segment after it are those
+/// of its stocks in both.
+pub(crate) fn codes_of_both<A: Allocator + Copy>(
+    alloc: A,
+    first: &[u16],
+    then: &[u16],
+) -> Result<Vec<u16, A>, AllocError>
+    ensures { IfOk result (λ codes. (workers worker : ℕ) (prefix segment : List (List ℕ))
+        → first.now ≡ own_locates workers worker prefix → then.now ≡ own_locates workers worker segment
+        → codes.items ≡ own_locates workers worker (prefix ++ segment)) }
+{
+    let mut seen = none_seen(alloc, LOCATES)?;
+    mark_codes(&mut seen, first);
+    mark_codes(&mut seen, then);
+    locates_seen(alloc, &seen)
+}
+
 // The locate codes of a worker's stocks, rising: of those that have machines after the prefix, and of those that have
 // messages in the segment. The prefix is for the contract alone.
 fn codes_after<A: Allocator + Copy>(
@@ -82,10 +99,9 @@ fn codes_after<A: Allocator + Copy>(
     ensures { IfOk result (λ codes. codes.items
         ≡ own_locates parts.now.workers worker (prefix.now ++ parts.now.day)) }
 {
-    let mut seen = none_seen(alloc, LOCATES)?;
-    mark_codes(&mut seen, &codes_of(alloc, stocks)?);
-    mark_codes(&mut seen, &own_codes(alloc, parts, worker)?);
-    locates_seen(alloc, &seen)
+    let before = codes_of(alloc, stocks)?;
+    let now = own_codes(alloc, parts, worker)?;
+    codes_of_both(alloc, &before, &now)
 }
 
 /// The stocks of a worker that goes on after a prefix, with their machines there: those that it has, and new ones of

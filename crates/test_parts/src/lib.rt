@@ -6,8 +6,6 @@ mod days;
 #[cfg(test)]
 mod merging;
 #[cfg(test)]
-mod resuming;
-#[cfg(test)]
 mod schedules;
 #[cfg(test)]
 mod showing;

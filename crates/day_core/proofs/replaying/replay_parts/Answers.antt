@@ -1,9 +1,8 @@
-use Rattle.std.proofs.Common.{◌≡◌, ℕ, ◌≤◌, List, ap, length, map, subst, sym, ◌∙◌, arith}
+use Rattle.std.proofs.Common.{◌≡◌, ℕ, ◌≤◌, List, ap, map, ◌∙◌, arith}
 use Rattle.std.specs.List.{range_with_len}
 use Rattle.stock_machine.specs.StockRows.{StockMachine}
-use Rattle.day_core.specs.Replaying.{IsReplayedPart, each_worker, for_own_stocks, last_machine, refused_by}
-use Rattle.day_core.specs.Splitting.{Split, split_of}
-use Rattle.day_core.specs.Workers.{with_prefix}
+use Rattle.day_core.specs.Replaying.{each_worker, for_own_stocks, last_machine, refused_by}
+use Rattle.day_core.specs.Splitting.{Split}
 use Rattle.day_core.proofs.StocksByWorker.{one_more}
 use Rattle.day_core.proofs.replaying.replay_parts.Goals as goal
 
@@ -17,20 +16,10 @@ pub loop-worker-preserved : goal.loop-worker-preserved
 loop-worker-preserved g c =
     let split = c.args.parts.now in
     let before = c.loop-worker in
-    let own = subst (λ (prefix : List (List ℕ)). IsReplayedPart (with_prefix prefix split) before.worker c.in_ok-part.part.refused.items c.in_ok-part.part.stocks.items) c.none.ensures c.in_ok-part.ensures in
     record {
-      refused = one_more (λ own. own.items) (refused_by split) before.refused.items _ c.in_ok-part.part.refused before.worker before.invariant.refused c.in_ok-push.ensures.items own.refused_are;
-      stocks = one_more (λ own. own.items) (for_own_stocks (last_machine split.day) split) before.stocks.items _ c.in_ok-part.part.stocks before.worker before.invariant.stocks c.in_ok-push-2.ensures.items own.stocks_are;
+      refused = one_more (λ own. own.items) (refused_by split) before.refused.items _ c.in_ok-own_refused.own_refused before.worker before.invariant.refused c.in_ok-push.ensures.items (c.in_ok-own_refused.ensures.refused);
+      stocks = one_more (λ own. own.items) (for_own_stocks (last_machine split.day) split) before.stocks.items _ c.in_ok-own_refused.own_stocks before.worker before.invariant.stocks c.in_ok-push-2.ensures.items (c.in_ok-own_refused.ensures.stocks);
     }
-
-pub replay_part-requires-clause-few : goal.replay_part-requires-clause-few
-replay_part-requires-clause-few g c = omega (arith, ap length c.none.ensures, c.workers-workers.ensures.few)
-
-pub replay_part-requires-clause-earlier : goal.replay_part-requires-clause-earlier
-replay_part-requires-clause-earlier g c =
-    let split = c.args.parts.now in
-    subst (λ (prefix : List (List ℕ)). IsReplayedPart (split_of prefix split.workers) c.loop-worker.worker c.none-in-loop-worker.result.refused.items c.none-in-loop-worker.result.stocks.items) (sym c.none.ensures)
-    (c.none-in-loop-worker.ensures split.workers c.loop-worker.worker)
 
 -- the machines of all workers' stocks
 all_stocks : (split : Split) (lists : List (List StockMachine)) (worker workers : ℕ) → lists ≡ map (for_own_stocks (last_machine split.day) split) (range_with_len 0 worker) → workers ≤ worker → worker ≤ workers
