@@ -1,5 +1,6 @@
 //! The cells of a day's stocks.
 ghost use Rattle.std.specs.Prelude.{ℕ, ◌≡◌, ◌+◌, ◌<◌, ◌^◌, ◌++◌, IfOk, Some, length, slice_get};
+ghost use Rattle.std.specs.List.Sorted.{IsStrictlyIncreasing};
 ghost use Rattle.itch_table.specs.Shows.{locates_of_day};
 ghost use Rattle.top_cell.specs.Boards.{AreApart, AreNew, CellId, cell_id, new_writer};
 ghost use Rattle.top_cell.specs.Cells.{HasCells};
@@ -105,9 +106,8 @@ impl<'a, A: Allocator + Copy> Board<'a, A> {
         Board::of_segment(alloc, &Prefix::none(), day, locates)
     }
 
-    /// The same for a segment of a day, where others have done the messages of the prefix before it: a cell for each
-    /// stock that has messages in the prefix or in the segment, whose locate codes the caller passes, rising. The
-    /// cells and the writers are of the day that prefix and segment make.
+    /// The same for some stocks of the day that a prefix and the segment after it make, whose locate codes the caller
+    /// passes, rising: a cell for each of them, and its writer.
     pub fn of_segment(
         alloc: &'a A,
         prefix: &Prefix<A>,
@@ -115,9 +115,9 @@ impl<'a, A: Allocator + Copy> Board<'a, A> {
         locates: &[u16],
     ) -> Result<(Board<'a, A>, Vec<TopWriter, A>), AllocError>
         requires few { length prefix.now + length segment.now.payloads < 2 ^ 32 }
-        requires locates { locates.now ≡ locates_of_day (prefix.now ++ segment.now.payloads) }
-        ensures { IfOk result (λ made. AreNew (prefix.now ++ segment.now.payloads)
-            (locates_of_day (prefix.now ++ segment.now.payloads)) made.0 made.1.items) }
+        requires rising { IsStrictlyIncreasing locates.now }
+        ensures { IfOk result (λ made. AreNew (prefix.now ++ segment.now.payloads) locates.now
+            made.0 made.1.items) }
     {
         let count = locates.len();
         // There are at most 2^16 stocks, so the product always fits; the proof doesn't use that.
