@@ -1,5 +1,5 @@
 -- One segment of a file after another.
-use Rattle.std.proofs.Common.{◌≡◌, ℕ, ◌+◌, ◌≤◌, Bool, true, false, List, [], ◌∷◌, ◌++◌, length, refl, sym, ap, subst, ◌∙◌, arith}
+use Rattle.std.proofs.Common.{◌≡◌, ℕ, ◌+◌, ◌-◌, ◌≤◌, Bool, true, false, List, [], ◌∷◌, ◌++◌, length, refl, sym, ap, subst, ◌∙◌, arith}
 use Rattle.std.proofs.KnownBytes.{Consumes-nil, Consumes-trans}
 use Rattle.std.proofs.lemmas.List.{append_assoc, append-nil, length-append}
 use Rattle.std.proofs.lemmas.Bool.{true≢false}
@@ -7,23 +7,21 @@ use Rattle.std.proofs.lemmas.Grind.{flat_map-append}
 use Rattle.std.proofs.lemmas.List.Elements.{All-append, All-nil}
 use Rattle.std.specs.Prelude.{Option}
 use Rattle.std.specs.Io.KnownBytes.{Consumes}
-use Rattle.std.specs.List.{flat_map}
-use Rattle.binaryfile.specs.Devices.{GaveAll}
+use Rattle.std.specs.List.{All, flat_map}
+use Rattle.binaryfile.specs.Devices.{GaveAll, GaveMore, GaveUpTo}
 use Rattle.byte_strings.specs.Bytes.{AreBytes, IsByte}
 use Rattle.binaryfile.specs.Entries.{Contents, IsPayload, Splits, entry, marker}
 use Rattle.binaryfile.proofs.Splitting.{splits_contents}
 use Rattle.day_segments.proofs.Carried.{entries_long}
-use Rattle.day_segments.specs.Segments.{IsReadTo, IsSegment, carry_after, carry_by}
+use Rattle.day_segments.specs.Segments.{IsReadTo, IsSegment, carry_after, carry_by, followed_by, nothing_read, tail_after}
 
 abbrev contents : List (List ℕ) → Bool → List ℕ → Contents
 contents payloads marked tail = record { payloads = payloads; marked = marked; tail = tail }
 
 -- before the first segment
-pub reads_first : (start : Option (List ℕ)) → IsReadTo start start [] [] 0
+pub reads_first : (start : Option (List ℕ)) → IsReadTo start start nothing_read [] 0
 reads_first start = record {
   bytes = [];
-  marked = false;
-  tail = [];
   gave = Consumes-nil start;
   are = All-nil IsByte;
   split = record { whole = refl; each = All-nil IsPayload; partial = λ _. tt };
@@ -33,7 +31,7 @@ reads_first start = record {
 
 -- a file that has come to no marker goes on
 goes_on : (bytes given tail : List ℕ) (payloads : List (List ℕ)) (next : Contents) → Splits bytes (contents payloads false tail) → Splits (tail ++ given) next
-    → Splits (bytes ++ given) (contents (payloads ++ next.payloads) next.marked next.tail)
+    → Splits (bytes ++ given) (followed_by (contents payloads false tail) next)
 goes_on bytes given tail payloads next before after =
     let rest = marker next.marked ++ next.tail in
     record {
@@ -49,34 +47,37 @@ after_marker given next split = splits_contents (0 ∷ 0 ∷ given) next split
 
 -- a file that has come to a marker stays as it is, but for its tail
 stays : (bytes given tail : List ℕ) (payloads : List (List ℕ)) (next : Contents) → Splits bytes (contents payloads true tail) → next ≡ contents [] true given
-    → Splits (bytes ++ given) (contents (payloads ++ next.payloads) true (tail ++ given))
+    → Splits (bytes ++ given) (followed_by (contents payloads true tail) next)
 stays bytes given tail payloads next before is =
-    let none : payloads ++ next.payloads ≡ payloads = ap (λ (c : Contents). payloads ++ c.payloads) is ∙ append-nil payloads in
-    subst (λ (all : List (List ℕ)). Splits (bytes ++ given) (contents all true (tail ++ given))) (sym none) (record {
-      whole = ap (λ (front : List ℕ). front ++ given) before.whole ∙ append_assoc (flat_map entry payloads) (marker true ++ tail) given;
-      each = before.each;
+    let same : payloads ≡ payloads ++ [] = sym (append-nil payloads) in
+    subst (λ (next : Contents). Splits (bytes ++ given) (followed_by (contents payloads true tail) next)) (sym is) (record {
+      whole = ap (λ (front : List ℕ). front ++ given) before.whole ∙ append_assoc (flat_map entry payloads) (marker true ++ tail) given
+          ∙ ap (λ (all : List (List ℕ)). flat_map entry all ++ (marker true ++ (tail ++ given))) same;
+      each = subst (All IsPayload) same before.each;
       partial = λ unmarked. absurd (true≢false unmarked);
     })
 
-module _ (start now next : Option (List ℕ)) (carried : List ℕ) (most : ℕ) (c : Contents) (segment : IsSegment now next carried most c) where
+-- and its marker is carried over as before
+carry_stays : (given tail : List ℕ) (payloads : List (List ℕ)) (next : Contents) → next ≡ contents [] true given
+    → carry_after next ≡ carry_after (followed_by (contents payloads true tail) next)
+carry_stays given tail payloads next is =
+    subst (λ (next : Contents). carry_after next ≡ carry_after (followed_by (contents payloads true tail) next)) (sym is) refl
+
+module _ (start now next : Option (List ℕ)) (carried : List ℕ) (size most : ℕ) (c : Contents) (segment : IsSegment now next carried size most c) where
   follows : (payloads : List (List ℕ)) (given : ℕ) (bytes tail : List ℕ) (marked : Bool) → Consumes start now bytes → AreBytes bytes → Splits bytes (contents payloads marked tail) → carried ≡ carry_by marked tail → given ≡ length bytes
-      → IsReadTo start next (payloads ++ c.payloads) (carry_after c) (given + length segment.bytes)
+      → IsReadTo start next (followed_by (contents payloads marked tail) c) (carry_after c) (given + length segment.bytes)
   follows payloads given bytes tail true gave are split is long =
       let marked = after_marker segment.bytes c (subst (λ (front : List ℕ). Splits (front ++ segment.bytes) c) is segment.split) in
       record {
         bytes = bytes ++ segment.bytes;
-        marked = true;
-        tail = tail ++ segment.bytes;
         gave = Consumes-trans start now next bytes segment.bytes gave segment.gave;
         are = All-append IsByte bytes segment.bytes are segment.are;
         split = stays bytes segment.bytes tail payloads c split marked;
-        carry_is = ap carry_after marked;
+        carry_is = carry_stays segment.bytes tail payloads c marked;
         given_is = omega (arith, long, length-append bytes segment.bytes);
       }
   follows payloads given bytes tail false gave are split is long = record {
     bytes = bytes ++ segment.bytes;
-    marked = c.marked;
-    tail = c.tail;
     gave = Consumes-trans start now next bytes segment.bytes gave segment.gave;
     are = All-append IsByte bytes segment.bytes are segment.are;
     split = goes_on bytes segment.bytes tail payloads c split (subst (λ (front : List ℕ). Splits (front ++ segment.bytes) c) is segment.split);
@@ -85,17 +86,52 @@ module _ (start now next : Option (List ℕ)) (carried : List ℕ) (most : ℕ) 
   }
 
   -- a file that was read so far is read further by a segment
-  pub reads_on : (payloads : List (List ℕ)) (given : ℕ) → IsReadTo start now payloads carried given → IsReadTo start next (payloads ++ c.payloads) (carry_after c) (given + length segment.bytes)
-  reads_on payloads given read = follows payloads given read.bytes read.tail read.marked read.gave read.are read.split read.carry_is read.given_is
+  pub reads_on : (before : Contents) (given : ℕ) → IsReadTo start now before carried given → IsReadTo start next (followed_by before c) (carry_after c) (given + length segment.bytes)
+  reads_on before given read = follows before.payloads given read.bytes before.tail before.marked read.gave read.are read.split read.carry_is read.given_is
 
--- where nothing more comes, all was read
-pub all_read : (start now next : Option (List ℕ)) (payloads : List (List ℕ)) (carried : List ℕ) (given : ℕ) → (read : IsReadTo start now payloads carried given) → GaveAll now next [] → GaveAll start next read.bytes
-all_read start now next payloads carried given read end = record {
-  gave = subst (Consumes start next) (append-nil read.bytes) (Consumes-trans start now next read.bytes [] read.gave end.gave);
-  ended = end.ended;
-}
+-- after a marker a segment more makes the tail longer by its own
+pub tail_longer : (before segment : Contents) → before.marked ≡ true → length (followed_by before segment).tail ≡ length before.tail + length segment.tail
+tail_longer before segment marked =
+    ap (λ (marked : Bool). length (tail_after marked before.tail segment.tail)) marked ∙ length-append before.tail segment.tail
 
--- no more payloads than bytes were read
-pub few_read : (start now : Option (List ℕ)) (payloads : List (List ℕ)) (carried : List ℕ) (given : ℕ) → IsReadTo start now payloads carried given → length payloads ≤ given
-few_read start now payloads carried given read =
-    omega (arith, entries_long payloads, read.given_is, ap length read.split.whole, length-append (flat_map entry payloads) (marker read.marked ++ read.tail))
+-- before a marker the tail is that of the last segment
+pub tail_anew : (before segment : Contents) → before.marked ≡ false → length (followed_by before segment).tail ≡ length segment.tail
+tail_anew before segment unmarked = ap (λ (marked : Bool). length (tail_after marked before.tail segment.tail)) unmarked
+
+module _ (start now : Option (List ℕ)) (before : Contents) (carried : List ℕ) (given : ℕ) (read : IsReadTo start now before carried given) where
+  -- where nothing more comes, all was read
+  pub all_read : (next : Option (List ℕ)) → GaveAll now next [] → GaveAll start next read.bytes
+  all_read next end = record {
+    gave = subst (Consumes start next) (append-nil read.bytes) (Consumes-trans start now next read.bytes [] read.gave end.gave);
+    ended = end.ended;
+  }
+
+  parts_long : given ≡ length (flat_map entry before.payloads) + length (marker before.marked) + length before.tail
+  parts_long = omega (arith, read.given_is, ap length read.split.whole, length-append (flat_map entry before.payloads) (marker before.marked ++ before.tail), length-append (marker before.marked) before.tail)
+
+  -- no more payloads than bytes were read
+  pub few_read : length before.payloads ≤ given
+  few_read = omega (arith, entries_long before.payloads, parts_long)
+
+  -- nor is the tail longer than what was read
+  pub tail_within : length before.tail ≤ given
+  tail_within = omega (arith, parts_long)
+
+  -- what the reader gave, where it may be no more than `most` bytes
+  module _ (most : ℕ) (within : given ≤ most) where
+    pub gives_so_far : GaveUpTo start now (most + 1)
+    gives_so_far = record { bytes = read.bytes; gave = read.gave; within = omega (arith, read.given_is, within) }
+
+    pub gives_up_to : (next : Option (List ℕ)) → GaveUpTo now next (most - given + 1) → GaveUpTo start next (most + 1)
+    gives_up_to next more = record {
+      bytes = read.bytes ++ more.bytes;
+      gave = Consumes-trans start now next read.bytes more.bytes read.gave more.gave;
+      within = omega (arith, length-append read.bytes more.bytes, read.given_is, within, more.within);
+    }
+
+    pub gives_more : (next : Option (List ℕ)) → GaveMore now next (most - given) → GaveMore start next most
+    gives_more next more = record {
+      bytes = read.bytes ++ more.bytes;
+      gave = Consumes-trans start now next read.bytes more.bytes read.gave more.gave;
+      more = omega (arith, length-append read.bytes more.bytes, read.given_is, within, more.more);
+    }

@@ -7,7 +7,7 @@
 //! ```rust
 //! let mut carried = Vec::new(alloc);
 //! let mut given = 0;
-//! while let Some(segment) = read_segment(alloc, &mut feed, &carried, MOST - given)? {
+//! while let Some(segment) = read_segment(alloc, &mut feed, &carried, 1 << 20, MOST - given)? {
 //!     for payload in segment.payloads() {
 //!         take(payload);
 //!     }
@@ -27,9 +27,9 @@ mod reading;
 
 pub use reading::{carry_after, read_segment};
 
-/// Before the first segment nothing was read; after each segment the payloads that were read so far are those of the
-/// bytes that the reader gave so far; and so at the end of the input they are those of the whole file. Calling it does
-/// nothing.
+/// Before the first segment nothing was read. After each segment the payloads so far, with the mark and the tail that
+/// follow them, are the splitting of the bytes that the reader gave so far; and so at the end of the input they are that
+/// of the whole file. Calling it does nothing.
 pub fn segments_follow()
     ensures begin { NoneIsRead }
     ensures follow { SegmentsFollow }

@@ -8,9 +8,6 @@ use binaryfile::{Day, Feed, LoadFault};
 use std::alloc::{AllocError, Allocator};
 use std::io::Read;
 
-// How many bytes a segment takes from its feed: fewer only where the file ends before.
-const SEGMENT: u64 = 1 << 20;
-
 // Fills a buffer with what the feed gives next, and returns how many bytes came: fewer than it has room for only at the
 // end of the input.
 fn fill<R: Read>(feed: &mut Feed<R>, buffer: &mut [u8]) -> Result<usize, LoadFault>
@@ -67,10 +64,10 @@ fn next_bytes<R: Read, A: Allocator>(
 }
 
 /// The next segment of a day file, as a day: the entries of what is carried over from the segment before and of what the
-/// feed gives next, which is 1 MiB unless the file ends before. `carried` is empty for the first segment, and then what
-/// [`carry_after`] says of the one before; `most` is how many bytes the feed may still give, no more than 2^40. There is
-/// no segment where the feed gives nothing more: what was carried over then is the tail of the file, as the segment
-/// before had it. So the feed is asked once more after it has ended. The memory is that of `alloc`.
+/// feed gives next: `size` bytes, 1 to 2^30, and fewer only where the file ends before. `carried` is empty for the first
+/// segment, and then what [`carry_after`] says of the one before; `most` is how many bytes the feed may still give, no
+/// more than 2^40. There is no segment where the feed gives nothing more: what was carried over then is the tail of the
+/// file, as the segment before had it. So the feed is asked once more after it has ended. The memory is that of `alloc`.
 ///
 /// In the course of reading the first of these is returned: [`LoadFault::Read`] where the feed fails (at once, and with
 /// no memory, where it had failed before), [`LoadFault::Memory`] where memory is refused, [`LoadFault::TooManyBytes`]
@@ -80,13 +77,15 @@ pub fn read_segment<R: Read, A: Allocator + Copy>(
     alloc: A,
     feed: &mut Feed<R>,
     carried: &[u8],
+    size: u32,
     most: u64,
 ) -> Result<Option<Day<A>>, LoadFault>
+    requires size { (0 < size) × (size ≤ 2 ^ 30) }
     requires most { most ≤ 2 ^ 40 }
     requires carried { length carried.now ≤ 2 ^ 16 }
     ensures segment { IfOk result (λ found. MatchOption found
         (GaveAll (R.remaining feed.old.device) (R.remaining feed.new.device) [])
-        (IsSegment (R.remaining feed.old.device) (R.remaining feed.new.device) carried.now most)) }
+        (IsSegment (R.remaining feed.old.device) (R.remaining feed.new.device) carried.now size most)) }
     // The fault is Read exactly where the feed has failed at return.
     ensures failed { IsErrOf result LoadFault.Read ↔ HasFailed feed.new }
     // A failed feed stays as it is, and its reader is not asked.
@@ -100,7 +99,7 @@ pub fn read_segment<R: Read, A: Allocator + Copy>(
     if feed.failed() {
         return Err(LoadFault::Read);
     }
-    let room = most.saturating_add(1).min(SEGMENT) as usize;
+    let room = most.saturating_add(1).min(u64::from(size)) as usize;
     let bytes = next_bytes(alloc, feed, carried, room)?;
     let came = (bytes.len() - carried.len()) as u64;
     if came == 0 {

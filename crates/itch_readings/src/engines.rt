@@ -16,6 +16,9 @@ use itch_engine::limits::{MOST_FILE_BYTES, MOST_MESSAGES};
 use std::alloc::Allocator;
 use std::io::{Read, Write};
 
+// How many bytes are read at a time.
+const SEGMENT_BYTES: u32 = 1 << 20;
+
 // What a file says of each of its stocks. No more of it is in memory than a segment.
 fn listed_of_file<A: Allocator + Copy, R: Read>(
     alloc: A,
@@ -38,7 +41,13 @@ fn listed_of_file<A: Allocator + Copy, R: Read>(
     let mut carried = Vec::new(alloc);
     let mut given = 0u64;
     let mut messages = 0u64;
-    while let Some(segment) = read_segment(alloc, feed, &carried, MOST_FILE_BYTES - given)? {
+    while let Some(segment) = read_segment(
+        alloc,
+        feed,
+        &carried,
+        SEGMENT_BYTES,
+        MOST_FILE_BYTES - given,
+    )? {
         messages += u64::from(segment.len());
         if messages <= u64::from(MOST_MESSAGES) {
             list_more(&mut listed, &segment);

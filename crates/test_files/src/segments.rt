@@ -1,4 +1,4 @@
-//! Files that are read segment by segment. A segment takes 2^20 bytes from its feed, unless the file ends before.
+//! Files that are read segment by segment.
 use crate::THREE;
 use binaryfile::{Day, Feed, LoadFault};
 use day_segments::{carry_after, read_segment};
@@ -6,10 +6,13 @@ use std::alloc::{AllocError, Allocator, Global};
 use std::io::ErrorKind;
 use std::test::Fail;
 use test_refusing::{Refusal, Refusing, Tried, refuse_each};
-use test_support::{Pieces, same, same_bytes};
+use test_support::{Pieces, same, same_bytes, same_list};
 
 // The most bytes of a file.
 const MOST: u64 = 1 << 40;
+
+// How many bytes a segment takes, where a test says no other number.
+const SIZE: u32 = 1 << 20;
 
 // A file of 20 entries with as many bytes as an entry can have, those of the entry after n others all n. Its first 2^20
 // bytes are 15 entries and 65,521 bytes of the next one.
@@ -22,16 +25,20 @@ fn long_file<A: Allocator>(alloc: A) -> Result<Vec<u8, A>, AllocError> {
     Ok(file)
 }
 
-// A segment, where one comes.
+// A segment that takes so many bytes, where one comes.
 fn next<A: Allocator + Copy>(
     alloc: A,
     feed: &mut Feed<Pieces<'_>>,
     carried: &[u8],
+    size: u32,
 ) -> Result<Day<A>, Fail> {
     if carried.len() > 65_536 {
         return Err(Fail::new("no more than an entry is carried over"));
     }
-    match read_segment(alloc, feed, carried, MOST) {
+    if size == 0 || size > 1 << 30 {
+        return Err(Fail::new("a segment takes 1 to 2^30 bytes"));
+    }
+    match read_segment(alloc, feed, carried, size, MOST) {
         Ok(Some(segment)) => Ok(segment),
         Ok(None) => Err(Fail::new("a file ends before its last segment")),
         Err(fault) => Err(Fail::new(format_args!("a segment has a fault: {fault:?}"))),
@@ -47,7 +54,7 @@ fn try_end<A: Allocator + Copy>(
     if carried.len() > 65_536 {
         return Err(Fail::new("no more than an entry is carried over"));
     }
-    let ended = matches!(read_segment(alloc, feed, carried, MOST), Ok(None));
+    let ended = matches!(read_segment(alloc, feed, carried, SIZE, MOST), Ok(None));
     same("the end", &(ended, feed.failed()), &(true, false))
 }
 
@@ -56,10 +63,10 @@ fn an_entry_of_two_segments_is_in_the_second(rt: HostRuntime) -> Result<(), Fail
     let alloc = rt.alloc();
     let file = long_file(alloc)?;
     let mut feed = Feed::new(Pieces::new(&file, 1_000_000));
-    let first = next(alloc, &mut feed, &[])?;
+    let first = next(alloc, &mut feed, &[], SIZE)?;
     let carried = carry_after(alloc, &first)?;
     same("a segment", &(first.len(), carried.len()), &(15, 65_521))?;
-    let second = next(alloc, &mut feed, &carried)?;
+    let second = next(alloc, &mut feed, &carried, SIZE)?;
     same(
         "the next one",
         &(second.len(), second.marked()),
@@ -80,11 +87,11 @@ fn nothing_after_a_marker_is_an_entry(rt: HostRuntime) -> Result<(), Fail> {
     let mut file = THREE.to_vec(alloc)?;
     file.extend_from_slice(&long_file(alloc)?)?;
     let mut feed = Feed::new(Pieces::new(&file, 100_000));
-    let first = next(alloc, &mut feed, &[])?;
+    let first = next(alloc, &mut feed, &[], SIZE)?;
     let carried = carry_after(alloc, &first)?;
     same("a segment", &(first.len(), first.marked()), &(3, true))?;
     same_bytes("what is carried over", &carried, &[0, 0])?;
-    let second = next(alloc, &mut feed, &carried)?;
+    let second = next(alloc, &mut feed, &carried, SIZE)?;
     let carried = carry_after(alloc, &second)?;
     same("the next one", &(second.len(), second.marked()), &(0, true))?;
     same_bytes("what is carried over then", &carried, &[0, 0])?;
@@ -104,10 +111,10 @@ fn try_border<A: Allocator + Copy>(
     file.resize(1_048_575, b'x')?;
     file.extend_from_slice(rest)?;
     let mut feed = Feed::new(Pieces::new(&file, 1 << 20));
-    let first = next(alloc, &mut feed, &[])?;
+    let first = next(alloc, &mut feed, &[], SIZE)?;
     let carried = carry_after(alloc, &first)?;
     same("a segment", &(first.len(), carried.len()), &(16, 1))?;
-    let second = next(alloc, &mut feed, &carried)?;
+    let second = next(alloc, &mut feed, &carried, SIZE)?;
     let found = (second.len(), second.marked(), second.tail());
     same("the next one", &found, &wanted)
 }
@@ -119,28 +126,96 @@ fn a_length_and_a_marker_may_be_cut_between_segments(rt: HostRuntime) -> Result<
     try_border(rt.alloc(), b"\x00\x05ABC", (0, false, b"\x00\x05ABC"))
 }
 
-// The fault of a segment that may take so many bytes, and how many it takes.
+// A file of which each segment takes so many bytes: the entries of each segment, whether it has come to the end marker,
+// and its tail.
+fn try_segments<A: Allocator + Copy>(
+    alloc: A,
+    file: &[u8],
+    size: u32,
+    wanted: &[(&[&[u8]], bool, &[u8])],
+) -> Result<(), Fail> {
+    let mut feed = Feed::new(Pieces::new(file, 2));
+    let mut carried = Vec::new(alloc);
+    for (entries, marked, tail) in wanted {
+        let segment = next(alloc, &mut feed, &carried, size)?;
+        let found = segment.payloads().collect::<Vec<&[u8], A>>(alloc)?;
+        same_list("the entries", &found, entries)?;
+        let rest = (segment.marked(), segment.tail());
+        same("the rest", &(size, rest), &(size, (*marked, *tail)))?;
+        carried = carry_after(alloc, &segment)?;
+    }
+    try_end(alloc, &mut feed, &carried)
+}
+
+// Two entries, a marker and two bytes.
+const TWO: &[u8] = b"\x00\x01A\x00\x06BCDEFG\x00\x00\xff\xee";
+
+// The second entry is in the fourth segment, which ends after one byte of the marker.
+#[test]
+fn an_entry_and_a_marker_may_be_cut_into_segments_of_three_bytes(
+    rt: HostRuntime,
+) -> Result<(), Fail> {
+    try_segments(
+        rt.alloc(),
+        TWO,
+        3,
+        &[
+            (&[b"A"], false, b""),
+            (&[], false, b"\x00\x06B"),
+            (&[], false, b"\x00\x06BCDE"),
+            (&[b"BCDEFG"], false, b"\x00"),
+            (&[], true, b"\xff\xee"),
+        ],
+    )
+}
+
+// The first segment ends after a length, the second in the midst of its entry.
+#[test]
+fn an_entry_may_be_cut_into_segments_of_five_bytes(rt: HostRuntime) -> Result<(), Fail> {
+    try_segments(
+        rt.alloc(),
+        TWO,
+        5,
+        &[
+            (&[b"A"], false, b"\x00\x06"),
+            (&[], false, b"\x00\x06BCDEF"),
+            (&[b"BCDEFG"], true, b"\xff\xee"),
+        ],
+    )
+}
+
+// The fault of a segment of so many bytes, where no more than `most` may come, and how many it takes.
 fn try_limit<A: Allocator + Copy>(
     alloc: A,
+    size: u32,
     most: u64,
     wanted: (Option<LoadFault>, usize),
 ) -> Result<(), Fail> {
+    if size == 0 || size > 1 << 30 {
+        return Err(Fail::new("a segment takes 1 to 2^30 bytes"));
+    }
     if most > MOST {
         return Err(Fail::new("a file has 2^40 bytes at most"));
     }
     let mut reader = THREE;
     let mut feed = Feed::new(&mut reader);
-    let fault = read_segment(alloc, &mut feed, &[], most).err();
+    let fault = read_segment(alloc, &mut feed, &[], size, most).err();
     let taken = THREE.len().saturating_sub(reader.len());
-    same("a fault", &(most, (fault, taken)), &(most, wanted))
+    same(
+        "a fault",
+        &((size, most), (fault, taken)),
+        &((size, most), wanted),
+    )
 }
 
 #[test]
 fn a_segment_takes_no_more_than_its_limit_and_one_byte(rt: HostRuntime) -> Result<(), Fail> {
-    try_limit(rt.alloc(), 13, (None, 13))?;
-    try_limit(rt.alloc(), 12, (Some(LoadFault::TooManyBytes), 13))?;
-    try_limit(rt.alloc(), 5, (Some(LoadFault::TooManyBytes), 6))?;
-    try_limit(rt.alloc(), 0, (Some(LoadFault::TooManyBytes), 1))
+    try_limit(rt.alloc(), SIZE, 13, (None, 13))?;
+    try_limit(rt.alloc(), SIZE, 12, (Some(LoadFault::TooManyBytes), 13))?;
+    try_limit(rt.alloc(), SIZE, 5, (Some(LoadFault::TooManyBytes), 6))?;
+    try_limit(rt.alloc(), SIZE, 0, (Some(LoadFault::TooManyBytes), 1))?;
+    try_limit(rt.alloc(), 5, 5, (None, 5))?;
+    try_limit(rt.alloc(), 5, 4, (Some(LoadFault::TooManyBytes), 5))
 }
 
 // A failed feed stays failed, and its reader, which would go on, is not asked again.
@@ -149,7 +224,7 @@ fn a_segment_fails_where_its_feed_does(rt: HostRuntime) -> Result<(), Fail> {
     let mut reader = Pieces::failing(THREE, 4, 2, ErrorKind::Interrupted);
     let mut feed = Feed::new(&mut reader);
     for _ in 0..2 {
-        let fault = read_segment(rt.alloc(), &mut feed, &[], MOST).err();
+        let fault = read_segment(rt.alloc(), &mut feed, &[], SIZE, MOST).err();
         let wanted = (Some(LoadFault::Read), true);
         same("a fault", &(fault, feed.failed()), &wanted)?;
     }
@@ -160,7 +235,7 @@ fn a_segment_fails_where_its_feed_does(rt: HostRuntime) -> Result<(), Fail> {
 fn try_memory(heap: &Refusing<Global>, refusal: Refusal) -> Result<Tried, Fail> {
     let mut feed = Feed::new(THREE);
     heap.restart(refusal);
-    let segment = read_segment(heap, &mut feed, b"\x00\x01", MOST);
+    let segment = read_segment(heap, &mut feed, b"\x00\x01", SIZE, MOST);
     same("a feed", &(refusal, feed.failed()), &(refusal, false))?;
     let segment = match segment {
         Ok(Some(segment)) => segment,

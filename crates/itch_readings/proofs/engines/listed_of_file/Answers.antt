@@ -52,16 +52,16 @@ loop-carried-preserved g c =
     let next = left c.read_segment.new.feed.device in
     let contents : Contents = c.in-Some.segment in
     let kept : List ℕ = c.loop-carried.carried.items in
-    let found : IsSegment now next c.deref.result.now (2 ^ 40 - c.loop-carried.given) contents =
-    subst (λ (found : Option Contents). MatchOption found (GaveAll now next []) (IsSegment now next c.deref.result.now (2 ^ 40 - c.loop-carried.given))) c.in-Some.is (c.in_ok-segment.ensures {u = tt}).segment in
-    let is : IsSegment now next kept (2 ^ 40 - c.loop-carried.given) contents =
-    subst (λ (bytes : List ℕ). IsSegment now next bytes (2 ^ 40 - c.loop-carried.given) contents) c.deref.ensures.value found in
+    let found : IsSegment now next c.deref.result.now (2 ^ 20) (2 ^ 40 - c.loop-carried.given) contents =
+    subst (λ (found : Option Contents). MatchOption found (GaveAll now next []) (IsSegment now next c.deref.result.now (2 ^ 20) (2 ^ 40 - c.loop-carried.given))) c.in-Some.is (c.in_ok-segment.ensures {u = tt}).segment in
+    let is : IsSegment now next kept (2 ^ 20) (2 ^ 40 - c.loop-carried.given) contents =
+    subst (λ (bytes : List ℕ). IsSegment now next bytes (2 ^ 20) (2 ^ 40 - c.loop-carried.given) contents) c.deref.ensures.value found in
     let long : length c.bytes.result.now ≡ length kept + length is.bytes =
     ap length (c.bytes.ensures.split.whole ∙ sym is.split.whole) ∙ length-append kept is.bytes in
     let left_long : c.len-in-Some.result ≡ length kept = omega (arith, c.len-in-Some.ensures, c.deref.ensures.len, ap length c.deref.ensures.value) in
     let counted : c.loop-carried.messages + c.from-messages.result ≡ c.loop-carried.messages + length contents.payloads = omega (arith, c.from-messages.ensures, c.len.ensures) in
     record {
-      so_far = listed_next start now kept c.loop-carried.given c.loop-carried.messages c.loop-carried.listed.items before.so_far next contents is
+      so_far = listed_next start now kept c.loop-carried.given c.loop-carried.messages c.loop-carried.listed.items before.so_far next (2 ^ 20) contents is
           c.in_ok-carried.carried.items _ _ c.if-messages-from.listed.items (c.in_ok-carried.ensures {u = tt}).carried (omega (arith, long, left_long)) counted
           (elim c.if-messages-from.branch [
             | then-messages-from w ↦ λ few payloads are.
