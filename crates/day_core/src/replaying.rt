@@ -59,10 +59,11 @@ pub fn replay_parts<A: Allocator + Copy>(
         refused.push(own_refused)?;
         stocks.push(own_stocks)?;
     }
-    let refused = all_refused(alloc, parts, refused)?;
+    let outline = parts.outline();
+    let refused = all_refused(alloc, outline, refused)?;
     Ok(ReplayedDay {
-        outcomes: outcomes_with(alloc, parts, &refused)?,
-        stocks: in_order(alloc, parts, stocks)?,
+        outcomes: outcomes_with(alloc, outline, &refused)?,
+        stocks: in_order(alloc, outline, stocks)?,
         event: parts.event(),
     })
 }

@@ -1,5 +1,6 @@
 mod Dealing
 mod Finishing
 mod Joined
+mod Going
 mod Writing
 mod Resuming
