@@ -1,5 +1,5 @@
 -- A stretch of a day that is being dealt to its workers: one message more, and the stretch after it.
-use Rattle.std.proofs.Common.{◌≡◌, ℕ, zero, suc, ◌+◌, ◌-◌, ◌%◌, ◌^◌, ◌<◌, ◌≤◌, List, [], ◌∷◌, ◌++◌, length, drop, get_or, set, map, filter, replicate, cond, Bool, true, false, ◌||◌, Option, Some, None, refl, ap, sym, ◌∙◌, arith, inl, inr, append-nil}
+use Rattle.std.proofs.Common.{◌≡◌, ℕ, zero, suc, ◌+◌, ◌-◌, ◌%◌, ◌<◌, ◌≤◌, List, [], ◌∷◌, ◌++◌, length, drop, get_or, set, map, filter, replicate, cond, Bool, true, false, ◌||◌, Option, Some, None, refl, ap, sym, ◌∙◌, arith, inl, inr, append-nil}
 use Rattle.std.specs.List.{range_with_len}
 use Rattle.std.proofs.lemmas.Bool.{cases_eq, eq-eqb, ne_eqb}
 use Rattle.std.proofs.lemmas.Nat.{mod_below}
@@ -15,7 +15,6 @@ use Rattle.itch_table.specs.declared.outcome.Part.{Part}
 use Rattle.itch_table.specs.declared.outcome.Part.TheVariants.{Locate, Nowhere}
 use Rattle.itch_table.specs.World.{World}
 use Rattle.itch_table.specs.After.{after}
-use Rattle.itch_table.specs.Shows.{locates_of_day}
 use Rattle.itch_table.specs.Table.{step}
 use Rattle.itch_table.specs.Parts.{part, part_of_shape}
 use Rattle.itch_table.specs.Projection.{event_with}
@@ -23,12 +22,12 @@ use Rattle.itch_table.proofs.Days.{after-next, after-none}
 use Rattle.itch_table.proofs.NoStock.{system_sets_event}
 use Rattle.itch_table.proofs.StockDays.{outcomes_stay_fixed}
 use Rattle.day_core.specs.declared.merging.Piece.{Piece}
-use Rattle.day_core.specs.Splitting.{AreDealt, IsOutline, Split, split_of}
+use Rattle.day_core.specs.Splitting.{AreDealt}
 use Rattle.day_core.specs.Stretches.{AreSeen, IsStretch, own_among, own_in_all}
 use Rattle.day_core.proofs.StocksSeen.{next_of, seen_both, seen_nowhere, seen_own}
 use Rattle.std.specs.Option.{option_or}
 use Rattle.day_core.proofs.Kept.{kept_more}
-use Rattle.day_core.specs.Owners.{fixed_pieces, fixed_until, is_nowhere, is_own, own_of, own_until, part_at, piece_of}
+use Rattle.day_core.specs.Owners.{fixed_until, is_nowhere, is_own, own_of, own_until, part_at, piece_of}
 
 -- a stock's message leaves the event
 event_stays : (shape : Shape) (locate : ℕ) (event : Option ℕ) → part_of_shape shape ≡ Locate locate → event_with shape event ≡ event
@@ -190,20 +189,11 @@ joined day workers from middle to seen more_seen both own more_own all fixed mor
 -- ---- a whole day
 
 pub dealt_all : (day : List (List ℕ)) (workers : ℕ) (seen : List Bool) (own : List (List ℕ)) (fixed : List Piece) (event : Option ℕ)
-    → IsStretch day workers 0 (length day) seen own fixed event → AreDealt (split_of day workers) own
-unfolding own_of
-dealt_all day workers seen own fixed event all worker d lt =
-    let room : worker < length own = omega (arith, all.own_long, lt) in
-    get_or_default own worker d [] room ∙ all.own_are worker lt
-
-pub outline_all : (day : List (List ℕ)) (workers : ℕ) (seen : List Bool) (own : List (List ℕ)) (fixed : List Piece) (event : Option ℕ) (locates : List ℕ)
-    → 0 < workers → length day < 2 ^ 32 → locates ≡ locates_of_day day
-    → IsStretch day workers 0 (length day) seen own fixed event → IsOutline (split_of day workers) locates fixed event
-unfolding fixed_pieces
-outline_all day workers seen own fixed event locates some few are all = record {
-  some = some;
-  few = few;
-  locates_are = are;
+    → IsStretch day workers 0 (length day) seen own fixed event → AreDealt day workers (length day) own fixed event
+dealt_all day workers seen own fixed event all = record {
+  own_are = λ worker d lt.
+      let room : worker < length own = omega (arith, all.own_long, lt) in
+      get_or_default own worker d [] room ∙ all.own_are worker lt;
   fixed_are = all.fixed_are;
   event_is = sym (ap (λ (w : World). option_or event w.event) (after-none day) ∙ or_none event) ∙ all.event_is;
 }
@@ -235,6 +225,7 @@ one_stretch workers worker stretches more own is lt =
     ∙ ap (λ (l : List ℕ). l ++ get_or own worker []) (sym (in_all workers worker stretches [] lt))
 
 -- those of a whole day are a worker's
-pub own_of_all : (split : Split) (worker : ℕ) (stretches : List (List (List ℕ)))
-    → AreDealt split (own_in_all split.workers stretches) → worker < split.workers → own_among worker stretches ≡ own_of split.workers worker split.day
-own_of_all split worker stretches dealt lt = sym (in_all split.workers worker stretches [] lt) ∙ dealt worker [] lt
+pub own_of_all : (day : List (List ℕ)) (workers worker : ℕ) (stretches : List (List (List ℕ))) (fixed : List Piece) (event : Option ℕ)
+    → AreDealt day workers (length day) (own_in_all workers stretches) fixed event → worker < workers → own_among worker stretches ≡ own_of workers worker day
+unfolding own_of
+own_of_all day workers worker stretches fixed event dealt lt = sym (in_all workers worker stretches [] lt) ∙ dealt.own_are worker [] lt

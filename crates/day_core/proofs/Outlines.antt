@@ -63,11 +63,11 @@ module _ (prefix segment : List (List ℕ)) where
       let numbers = filter test (range_with_len 1 (length segment)) in
       let here : 1 + length prefix ≡ length prefix + 1 = omega arith in
       ap (map (piece_of whole)) (
-        ap (λ (k : ℕ). filter fixed_there (range_with_len k (length segment))) here
-        ∙ ap (filter fixed_there) (range_shifted (length prefix) 1 (length segment))
-        ∙ filter-map fixed_there (λ n. length prefix + n) (range_with_len 1 (length segment))
-        ∙ ap (map (λ n. length prefix + n)) (kept_alike (λ n. fixed_there (length prefix + n)) test 1 (length segment)
-        (λ k low high. ap (λ (p : List ℕ). is_nowhere (part p)) (after_there prefix segment k low)))
+      ap (λ (k : ℕ). filter fixed_there (range_with_len k (length segment))) here
+      ∙ ap (filter fixed_there) (range_shifted (length prefix) 1 (length segment))
+      ∙ filter-map fixed_there (λ n. length prefix + n) (range_with_len 1 (length segment))
+      ∙ ap (map (λ n. length prefix + n)) (kept_alike (λ n. fixed_there (length prefix + n)) test 1 (length segment)
+      (λ k low high. ap (λ (p : List ℕ). is_nowhere (part p)) (after_there prefix segment k low)))
       )
       ∙ map-map (piece_of whole) (λ n. length prefix + n) numbers
       ∙ map_same (λ n. piece_of whole (length prefix + n)) (λ n. shifted (length prefix) (piece_of segment n)) numbers (λ k lt.

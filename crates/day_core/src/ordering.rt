@@ -3,7 +3,7 @@ ghost use Rattle.std.specs.Prelude.{◌≡◌, ◌++◌, ◌∷◌, ◌<◌, ℕ
 ghost use Rattle.itch_table.specs.Shows.{locates_of_day};
 ghost use Rattle.day_core.specs.Replaying.{each_worker, for_own_stocks};
 
-use crate::outline::Outline;
+use crate::parts::Parts;
 use std::alloc::{AllocError, Allocator};
 use std::collections::VecDeque;
 
@@ -43,16 +43,16 @@ pub(crate) fn empty_lists<T: Drop, A: Allocator + Copy>(
 /// After an error the values are gone.
 pub fn by_worker<T: Drop, A: Allocator + Copy>(
     alloc: A,
-    outline: &Outline<A>,
+    parts: &Parts<'_, A>,
     values: Vec<T, A>,
 ) -> Result<Vec<Vec<T, A>, A>, AllocError>
-    requires { length values.items ≡ length (locates_of_day outline.now.day) }
-    ensures long { IfOk result (λ lists. length lists.items ≡ outline.now.workers) }
-    ensures order { IfOk result (λ lists. (f : ℕ → T) → values.items ≡ map f (locates_of_day outline.now.day)
-        → map (λ own. own.items) lists.items ≡ each_worker (for_own_stocks f outline.now) outline.now) }
+    requires { length values.items ≡ length (locates_of_day parts.now.day) }
+    ensures long { IfOk result (λ lists. length lists.items ≡ parts.now.workers) }
+    ensures order { IfOk result (λ lists. (f : ℕ → T) → values.items ≡ map f (locates_of_day parts.now.day)
+        → map (λ own. own.items) lists.items ≡ each_worker (for_own_stocks f parts.now) parts.now) }
 {
-    let workers = outline.workers();
-    let locates = outline.locates();
+    let workers = parts.workers();
+    let locates = parts.locates();
     let mut lists = empty_lists(alloc, workers)?;
     for (index, value) in values.into_iter().enumerate() {
         give(&mut lists, u32::from(locates[index]) % workers, value)?;
@@ -81,19 +81,19 @@ fn queues_of<T: Drop, A: Allocator + Copy>(
 /// After an error the values are gone.
 pub fn in_order<T: Drop, A: Allocator + Copy>(
     alloc: A,
-    outline: &Outline<A>,
+    parts: &Parts<'_, A>,
     by_worker: Vec<Vec<T, A>, A>,
 ) -> Result<Vec<T, A>, AllocError>
     requires { (f : ℕ → T)
-        × (map (λ own. own.items) by_worker.items ≡ each_worker (for_own_stocks f outline.now) outline.now) }
+        × (map (λ own. own.items) by_worker.items ≡ each_worker (for_own_stocks f parts.now) parts.now) }
     ensures order { IfOk result (λ all. (f : ℕ → T)
-        → map (λ own. own.items) by_worker.items ≡ each_worker (for_own_stocks f outline.now) outline.now
-        → all.items ≡ map f (locates_of_day outline.now.day)) }
+        → map (λ own. own.items) by_worker.items ≡ each_worker (for_own_stocks f parts.now) parts.now
+        → all.items ≡ map f (locates_of_day parts.now.day)) }
     // A day is split for at least one worker.
-    ensures some { 0 < outline.now.workers }
+    ensures some { 0 < parts.now.workers }
 {
-    let workers = outline.workers();
-    let locates = outline.locates();
+    let workers = parts.workers();
+    let locates = parts.locates();
     let mut queues = queues_of(alloc, by_worker)?;
     let mut all = Vec::with_capacity(alloc, locates.len())?;
     for locate in locates {

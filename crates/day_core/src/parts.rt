@@ -5,8 +5,8 @@ ghost use Rattle.itch_table.specs.Shows.{locates_of_day};
 ghost use Rattle.day_core.specs.Owners.{fixed_pieces, own_messages};
 
 use crate::merging::Piece;
-use crate::outline::Outline;
 use crate::own_messages::OwnMessages;
+use crate::worker_count::WorkerCount;
 use binaryfile::Day;
 use std::alloc::{AllocError, Allocator};
 use std::marker::Model;
@@ -16,24 +16,27 @@ use std::marker::Model;
 /// A stock belongs to the worker whose number is the remainder of its locate code by the number of workers.
 #[derive(Drop)]
 pub struct Parts<'d, A: Allocator> {
-    pub(crate) outline: Outline<A>,
+    pub(crate) workers: WorkerCount,
+    pub(crate) locates: Vec<u16, A>,
     // For each stretch of the day each worker's messages, by their numbers, rising.
     pub(crate) own: Vec<Vec<Vec<u32, A>, A>, A>,
+    pub(crate) fixed: Vec<Piece, A>,
+    pub(crate) event: Option<u8>,
     pub(crate) day: &'d Day<A>,
 }
 
 impl<'d, A: Allocator> Model for Parts<'d, A> {
-    ghost use Rattle.std.specs.Prelude.{◌≡◌, map};
-    ghost use Rattle.day_core.specs.Splitting.{AreDealt, Split, split_of};
+    ghost use Rattle.std.specs.Prelude.{map};
+    ghost use Rattle.day_core.specs.Splitting.{AreParts, Split};
     ghost use Rattle.day_core.specs.Stretches.{own_in_all};
 
     ghost Value = { Split };
 
-    ghost view = { λ p. split_of p.day.now.payloads p.outline.workers };
+    ghost view = { λ p. record { day = p.day.now.payloads; workers = p.workers } };
 
-    ghost invariant = { λ p. (p.outline.day ≡ p.day.now.payloads)
-        × AreDealt (split_of p.day.now.payloads p.outline.workers) (own_in_all p.outline.workers
-        (map (λ own. map (λ list. list.items) own.items) p.own.items)) };
+    ghost invariant = { λ p. AreParts p.day.now.payloads p.workers p.locates.items
+        (own_in_all p.workers (map (λ own. map (λ list. list.items) own.items) p.own.items))
+        p.fixed.items p.event };
 }
 
 impl<'d, A: Allocator> Parts<'d, A> {
@@ -44,13 +47,6 @@ impl<'d, A: Allocator> Parts<'d, A> {
         self.day
     }
 
-    /// What is known of the day beside its workers' messages.
-    pub fn outline(&self) -> &Outline<A>
-        ensures { result.now ≡ self.now }
-    {
-        &self.outline
-    }
-
     /// For how many workers the day was split, from 1 to 64.
     pub fn workers(&self) -> u32
         ensures workers { result ≡ self.now.workers }
@@ -59,14 +55,14 @@ impl<'d, A: Allocator> Parts<'d, A> {
         // The numbers of the day's messages fit 32 bits.
         ensures few { length self.now.day < 2 ^ 32 }
     {
-        self.outline.workers()
+        self.workers.get()
     }
 
     /// The locate codes of the stocks that have messages in the day, rising.
     pub fn locates(&self) -> &[u16]
         ensures { result.now ≡ locates_of_day self.now.day }
     {
-        self.outline.locates()
+        self.locates.as_slice()
     }
 
     /// The messages of a worker's stocks, by rising number; none for a number that is no worker's. Workers are numbered
@@ -77,7 +73,7 @@ impl<'d, A: Allocator> Parts<'d, A> {
         ensures few { length self.now.day < 2 ^ 32 }
     {
         // Nothing is known of the lists of such a number.
-        if worker >= self.outline.workers() {
+        if worker >= self.workers.get() {
             return OwnMessages::new(self.day, &[], worker);
         }
         OwnMessages::new(self.day, &self.own, worker)
@@ -87,13 +83,13 @@ impl<'d, A: Allocator> Parts<'d, A> {
     pub fn fixed(&self) -> &[Piece]
         ensures { result.now ≡ fixed_pieces self.now.day }
     {
-        self.outline.fixed()
+        self.fixed.as_slice()
     }
 
     /// The event code of the day's last system event message, where it has one.
     pub fn event(&self) -> Option<u8>
         ensures { result ≡ (after self.now.day (length self.now.day)).event }
     {
-        self.outline.event()
+        self.event
     }
 }

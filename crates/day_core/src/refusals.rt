@@ -6,7 +6,7 @@ ghost use Rattle.day_core.specs.Replaying.{HasOutcome, IsPieceOf, each_worker, i
 ghost use Rattle.day_core.specs.declared.merging.Piece.{Piece};
 
 use crate::merging::Piece;
-use crate::outline::Outline;
+use crate::parts::Parts;
 use itch_table::Outcome;
 use std::alloc::{AllocError, Allocator};
 use std::mem;
@@ -31,19 +31,19 @@ pub fn note_refused<A: Allocator>(
 // All that were refused, worker by worker, and those of no stock last. The first worker's list becomes that of all.
 fn joined<A: Allocator + Copy>(
     alloc: A,
-    outline: &Outline<A>,
+    parts: &Parts<'_, A>,
     by_worker: Vec<Vec<Piece, A>, A>,
 ) -> Result<Vec<Piece, A>, AllocError>
-    requires { map (λ own. own.items) by_worker.items ≡ each_worker (refused_by outline.now) outline.now }
-    ensures { IfOk result (λ all. IsPermutation (refused_of outline.now.day) all.items) }
+    requires { map (λ own. own.items) by_worker.items ≡ each_worker (refused_by parts.now) parts.now }
+    ensures { IfOk result (λ all. IsPermutation (refused_of parts.now.day) all.items) }
 {
     let mut by_worker = by_worker;
-    let workers = outline.workers();
+    let workers = parts.workers();
     let mut all = mem::replace(&mut by_worker[0], Vec::new(alloc));
     for worker in 1..workers {
         all.extend_from_slice(&by_worker[worker as usize])?;
     }
-    for piece in outline.fixed() {
+    for piece in parts.fixed() {
         note_refused(&mut all, *piece)?;
     }
     Ok(all)
@@ -55,13 +55,13 @@ fn joined<A: Allocator + Copy>(
 /// After an error these lists are gone.
 pub fn all_refused<A: Allocator + Copy>(
     alloc: A,
-    outline: &Outline<A>,
+    parts: &Parts<'_, A>,
     by_worker: Vec<Vec<Piece, A>, A>,
 ) -> Result<Vec<Piece, A>, AllocError>
-    requires { map (λ own. own.items) by_worker.items ≡ each_worker (refused_by outline.now) outline.now }
-    ensures { IfOk result (λ all. all.items ≡ refused_of outline.now.day) }
+    requires { map (λ own. own.items) by_worker.items ≡ each_worker (refused_by parts.now) parts.now }
+    ensures { IfOk result (λ all. all.items ≡ refused_of parts.now.day) }
 {
-    let mut all = joined(alloc, outline, by_worker)?;
+    let mut all = joined(alloc, parts, by_worker)?;
     all.sort_unstable_by_key(
         |piece: &Piece| -> u32
             ensures { result ≡ piece.now.message }
@@ -90,14 +90,14 @@ fn place<A: Allocator>(all: &mut Vec<Outcome, A>, pieces: &[Piece])
 /// other message of a stock is applied.
 pub fn outcomes_with<A: Allocator + Copy>(
     alloc: A,
-    outline: &Outline<A>,
+    parts: &Parts<'_, A>,
     refused: &[Piece],
 ) -> Result<Vec<Outcome, A>, AllocError>
-    requires { refused.now ≡ refused_of outline.now.day }
-    ensures { IfOk result (λ all. all.items ≡ outcomes outline.now.day) }
+    requires { refused.now ≡ refused_of parts.now.day }
+    ensures { IfOk result (λ all. all.items ≡ outcomes parts.now.day) }
 {
-    let mut all = vec![in alloc; Outcome::Applied; outline.messages().count() as usize]?;
-    place(&mut all, outline.fixed());
+    let mut all = vec![in alloc; Outcome::Applied; parts.day().len() as usize]?;
+    place(&mut all, parts.fixed());
     place(&mut all, refused);
     Ok(all)
 }

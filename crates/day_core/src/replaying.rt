@@ -59,11 +59,10 @@ pub fn replay_parts<A: Allocator + Copy>(
         refused.push(own_refused)?;
         stocks.push(own_stocks)?;
     }
-    let outline = parts.outline();
-    let refused = all_refused(alloc, outline, refused)?;
+    let refused = all_refused(alloc, parts, refused)?;
     Ok(ReplayedDay {
-        outcomes: outcomes_with(alloc, outline, &refused)?,
-        stocks: in_order(alloc, outline, stocks)?,
+        outcomes: outcomes_with(alloc, parts, &refused)?,
+        stocks: in_order(alloc, parts, stocks)?,
         event: parts.event(),
     })
 }

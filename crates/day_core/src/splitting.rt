@@ -3,9 +3,7 @@ ghost use Rattle.std.specs.Prelude.{◌≡◌, ◌<◌, ◌⊎◌, ◌↔◌, If
 ghost use Rattle.day_core.specs.declared.splitting.SplitFault.TheVariants.{Memory};
 
 use crate::dealing::deal;
-use crate::outline::Outline;
 use crate::parts::Parts;
-use crate::prefix::Prefix;
 use crate::seeing::locates_seen;
 use crate::worker_count::WorkerCount;
 use binaryfile::Day;
@@ -40,16 +38,12 @@ pub fn parts_of<'d, R: Threads + Sync, A: Allocator + Copy + Send + Sync>(
 {
     let dealt = deal(rt, alloc, day, workers)?;
     let locates = locates_seen(alloc, &dealt.seen)?;
-    let outline = Outline {
-        prefix: Prefix::none().followed_by(day),
+    Ok(Parts {
         workers,
         locates,
+        own: dealt.own,
         fixed: dealt.fixed,
         event: dealt.event,
-    };
-    Ok(Parts {
-        outline,
-        own: dealt.own,
         day,
     })
 }

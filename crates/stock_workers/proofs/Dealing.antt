@@ -11,7 +11,7 @@ use Rattle.itch_table.proofs.DayLocates.{rising}
 use Rattle.day_core.specs.Owners.{own_locates}
 use Rattle.top_cell.specs.Boards.{AreNew, CellId, IsOn, WriterAt, cell_id, new_writer}
 use Rattle.stock_workers.specs.Running.{IsWaiting, at_last}
-use Rattle.stock_workers.specs.Working.{WriterState, WritersAt, writer_state}
+use Rattle.stock_workers.specs.Working.{WriterState, writer_state}
 
 no_cell : CellId
 no_cell = cell_id 0 (record { words = 0; slots = 0; views_name = 0; atom = 0; block = 0; offset = 0; slot_names = [] })
@@ -58,23 +58,7 @@ pub map_twice : {W X Y : Type 0} (g : X → Y) (f : W → X) (ws : List W) → m
 map_twice g f [] = refl
 map_twice g f (w ∷ ws) = ap₂ ◌∷◌ refl (map_twice g f ws)
 
--- ---- writers that are new
-
-abbrev fresh_at : List (List ℕ) → ℕ → WriterState
-fresh_at day locate = record { day = day; locate = locate; message = 0 }
-
-each_fresh : (day : List (List ℕ)) (xs : List WriterAt) → All (λ w. writer_state w ≡ fresh_at day w.place.locate) xs → map writer_state xs ≡ map (fresh_at day) (codes xs)
-each_fresh day [] all = refl
-each_fresh day (x ∷ xs) all = ap₂ ◌∷◌ (all 0 x (omega arith)) (each_fresh day xs (λ k d lt. all (suc k) d (omega arith)))
-
-pub new_stand : (day : List (List ℕ)) (locates : List ℕ) (board : List CellId) (ws : List WriterAt) → AreNew day locates board ws → WritersAt day (λ _. 0) locates ws
-new_stand day locates board ws new =
-    each_fresh day ws (λ k d lt. ap writer_state (new.each k (get_or ws k d) (slice_get-get_or ws k d lt)).0) ∙ ap (map (fresh_at day)) new.stocks
-
-pub new_on : (day : List (List ℕ)) (locates : List ℕ) (board : List CellId) (ws : List WriterAt) → AreNew day locates board ws → All (λ w. IsOn board w.place) ws
-new_on day locates board ws new k d lt = (new.each k (get_or ws k d) (slice_get-get_or ws k d lt)).1
-
--- those of a day's stocks
+-- writers that are new
 module _ (day : List (List ℕ)) (board : List CellId) (ws : List WriterAt) (new : AreNew day (locates_of_day day) board ws) where
   abbrev fresh : ℕ → WriterState
   fresh locate = record { day = day; locate = locate; message = 0 }
@@ -82,10 +66,14 @@ module _ (day : List (List ℕ)) (board : List CellId) (ws : List WriterAt) (new
   pub found : ws ≡ map (find ws) (locates_of_day day)
   found = sym (find_all ws (subst (AllPairs (λ x y. x < y)) (sym new.stocks) (AllPairs-from_increasing (locates_of_day day) (rising day)))) ∙ ap (map (find ws)) new.stocks
 
+  each_fresh : (xs : List WriterAt) → All (λ w. writer_state w ≡ fresh w.place.locate) xs → map writer_state xs ≡ map fresh (codes xs)
+  each_fresh [] all = refl
+  each_fresh (x ∷ xs) all = ap₂ ◌∷◌ (all 0 x (omega arith)) (each_fresh xs (λ k d lt. all (suc k) d (omega arith)))
+
   all_fresh : map (λ l. writer_state (find ws l)) (locates_of_day day) ≡ map fresh (locates_of_day day)
   all_fresh =
       sym (map_twice writer_state (find ws) (locates_of_day day)) ∙ ap (map writer_state) (sym found)
-      ∙ new_stand day (locates_of_day day) board ws new
+      ∙ each_fresh ws (λ k d lt. ap writer_state (new.each k (get_or ws k d) (slice_get-get_or ws k d lt)).0) ∙ ap (map fresh) new.stocks
 
   on_there : All (λ l. IsOn board (find ws l).place) (locates_of_day day)
   on_there k d lt =

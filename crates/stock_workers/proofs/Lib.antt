@@ -1,6 +1,5 @@
 mod Dealing
 mod Finishing
 mod Joined
-mod Going
 mod Writing
 mod Resuming

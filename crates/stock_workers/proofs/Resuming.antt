@@ -16,8 +16,7 @@ use Rattle.day_core.proofs.Prefixes.{number_there}
 use Rattle.day_core.proofs.Progress.{last_within}
 use Rattle.day_core.proofs.Running.{code_owner, map_same}
 use Rattle.day_core.proofs.Showing.{top_is}
-use Rattle.top_cell.specs.Boards.{AreNew, CellId, WriterAt}
-use Rattle.stock_workers.proofs.Dealing.{new_stand}
+use Rattle.top_cell.specs.Boards.{WriterAt}
 use Rattle.stock_workers.specs.Working.{WriterState, WritersAt, WritersStand, stands, writer_state}
 
 module _ (prefix : List (List ℕ)) (segment : Split) (worker : ℕ) where
@@ -53,11 +52,6 @@ module _ (prefix : List (List ℕ)) (segment : Split) (worker : ℕ) where
 
   pub shown_first : (writers : List WriterAt) → WritersAt whole (λ _. 0) all writers → AreShown writers writers 0
   shown_first writers none = record { states = none; places = refl }
-
-  -- on a new board nothing is shown
-  pub new_shown : (day : List (List ℕ)) (locates : List ℕ) (board : List CellId) (writers : List WriterAt) → day ≡ whole → locates ≡ all → AreNew day locates board writers → AreShown writers writers 0
-  new_shown day locates board writers of_day are new =
-      shown_first writers (subst (λ (d : List (List ℕ)). WritersAt d (λ _. 0) all writers) of_day (subst (λ (ls : List ℕ). WritersAt day (λ _. 0) ls writers) are (new_stand day locates board writers new)))
 
   -- where a stock's cell is
   pub found_there : (now : WorkerState) (index locate there : ℕ) → now ≡ s → (index < length (worker_locates now)) × (get_or (worker_locates now) index 0 ≡ there) → there ≡ locate

@@ -1,14 +1,13 @@
 -- All workers of a day, and what each makes of its messages. All is of this project.
-use Rattle.std.specs.Prelude.{◌≡◌, ◌<◌, ◌≤◌, ℕ, List, All, IfOk, Result, length, map, slice_index_or, take}
+use Rattle.std.specs.Prelude.{◌≡◌, ◌<◌, ℕ, List, All, IfOk, Result, length, map, slice_index_or}
 use Rattle.std.specs.declared.alloc.AllocError.{AllocError}
 use Rattle.stock_machine.specs.StockRows.{StockMachine}
 use Rattle.day_core.specs.declared.merging.Piece.{Piece}
 use Rattle.day_core.specs.Owners.{last_message, own_locates}
-use Rattle.day_core.specs.Replaying.{IsReplayedPart, each_worker, for_own_stocks, last_machine, refused_among, refused_by}
-use Rattle.day_core.specs.Splitting.{Split, split_of}
-use Rattle.day_core.specs.Workers.{WorkerState, worker_messages}
+use Rattle.day_core.specs.Replaying.{IsReplayedPart, each_worker, for_own_stocks, last_machine, refused_by}
+use Rattle.day_core.specs.Splitting.{Split}
 use Rattle.top_cell.specs.Boards.{CellId, IsOn, WriterAt}
-use Rattle.stock_workers.specs.Working.{Working, WritersAt}
+use Rattle.stock_workers.specs.Working.{WritersAt}
 use Rattle.stock_workers.specs.declared.forking.Finished.{Finished}
 use Rattle.stock_workers.specs.declared.forking.Waiting.{Waiting}
 
@@ -47,36 +46,6 @@ pub record HasFinished (split : Split) (worker : ℕ) (refused : List Piece) (st
   pub part : IsReplayedPart split worker refused stocks
   pub writers_are : WritersAt split.day (last_message split.day)
       (own_locates split.workers worker split.day) writers
-
--- a worker has done so many of its messages, and those of them that were refused were noted
-pub record HasNoted (s : WorkerState) (refused : List Piece) : Type 0 where
-  pub within : s.done ≤ length (worker_messages s)
-  pub noted : refused ≡ refused_among s.day (take s.done (worker_messages s))
-
--- what a worker makes that goes on from where it is to its last message, on the same cells
-pub record HasEnded (from : Working) (worker : ℕ) (refused : List Piece) (stocks : List StockMachine)
-    (writers : List WriterAt) : Type 0 where
-  pub number : worker ≡ from.state.worker
-  pub made : HasFinished (split_of from.state.day from.state.workers) from.state.worker refused stocks writers
-  pub places_are : map (λ w. w.place) writers ≡ from.places
-
--- what the worker of a number has made
-abbrev pub IsThrough : {A : Type 0} → Split → ℕ → Finished A → Type 0
-IsThrough split worker made =
-    (made.worker ≡ worker)
-    × HasFinished split worker made.refused.items made.stocks.items made.writers.items
-
--- what each worker has made, in the order of their numbers
-pub record AreThrough {A : Type 0} (split : Split) (made : List (Finished A)) : Type 0 where
-  pub long : length made ≡ split.workers
-  pub each : (worker : ℕ) (d : Finished A) → worker < split.workers
-      → IsThrough split worker (slice_index_or made worker d)
-
--- and so where none was refused memory
-pub record AreMade {A : Type 0} (split : Split) (made : List (Result (Finished A) AllocError)) : Type 0 where
-  pub long : length made ≡ split.workers
-  pub each : (worker : ℕ) (d : Result (Finished A) AllocError) → worker < split.workers
-      → IfOk (slice_index_or made worker d) (IsThrough split worker)
 
 -- what all workers make, in the order of their numbers, where none was refused memory: the writers of their
 -- stocks were these, by locate code

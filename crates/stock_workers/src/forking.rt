@@ -4,8 +4,8 @@ ghost use Rattle.std.specs.Thread.{IsSend, IsSync};
 ghost use denote.Param.Send.{Frees};
 ghost use Rattle.day_core.specs.Splitting.{Split, split_of};
 ghost use Rattle.day_core.specs.Workers.{with_prefix};
-ghost use Rattle.top_cell.specs.Boards.{IsOn, WriterAt};
-ghost use Rattle.stock_workers.specs.Running.{AreFinished, AreMade, AreThrough, AreWaiting, HasEnded, HasFinished, HasNoted, IsFinished, IsThrough, IsWaiting};
+ghost use Rattle.top_cell.specs.Boards.{WriterAt};
+ghost use Rattle.stock_workers.specs.Running.{AreFinished, AreWaiting, HasFinished, IsFinished, IsWaiting};
 
 use crate::gate::Gate;
 use crate::worker::Worker;
@@ -24,25 +24,22 @@ pub(crate) struct Waiting<'p, A: Allocator> {
     pub writers: Vec<TopWriter, A>,
 }
 
-/// What one worker made of all its messages of a day, or of the first messages of one: its number, those that were
-/// refused, and the machines and the writers of its stocks after all of them.
+/// What one worker made of its messages: those that were refused, and the machines and the writers of its stocks after
+/// all of them.
 #[derive(Drop)]
 pub(crate) struct Finished<A: Allocator> {
-    pub worker: u32,
     pub refused: Vec<Piece, A>,
     pub stocks: Vec<Stock<A>, A>,
     pub writers: Vec<TopWriter, A>,
 }
 
 impl<A: Allocator + Copy> Finished<A> {
-    /// What a worker makes of no messages.
-    pub fn none(alloc: A, worker: u32) -> Finished<A>
-        ensures number { result.worker ≡ worker }
-        ensures made { (workers : ℕ) → HasFinished (split_of [] workers) worker
+    // What any worker makes of no messages.
+    fn none(alloc: A) -> Finished<A>
+        ensures { (workers worker : ℕ) → HasFinished (split_of [] workers) worker
             result.refused.items result.stocks.items result.writers.items }
     {
         Finished {
-            worker,
             refused: Vec::new(alloc),
             stocks: Vec::new(alloc),
             writers: Vec::new(alloc),
@@ -50,30 +47,38 @@ impl<A: Allocator + Copy> Finished<A> {
     }
 }
 
-// All turns that a worker has left. The caller passes those of its messages that were refused, of those that it has done.
+// All turns of one worker in a segment, after what it has made of the prefix before it.
 fn finish<R: Threads + Wait + Sync, A: Allocator + Copy, G: Gate>(
     rt: &R,
+    alloc: A,
     board: &Board<'_, A>,
     gate: &G,
-    worker: Worker<'_, A>,
-    refused: Vec<Piece, A>,
+    prefix: &Prefix<A>,
+    waiting: Waiting<'_, A>,
+    earlier: Finished<A>,
 ) -> Result<Finished<A>, AllocError>
-    requires on_board { All (IsOn board.now) worker.places }
-    requires noted { HasNoted worker.state refused.items }
-    ensures { IfOk result (λ made. HasEnded worker.entry made.worker made.refused.items made.stocks.items
+    requires few { length prefix.now + length waiting.parts.now.day < 2 ^ 32 }
+    requires waits { IsWaiting (with_prefix prefix.now waiting.parts.now) board.now waiting.worker
+        waiting.writers.items }
+    requires earlier { HasFinished (split_of prefix.now waiting.parts.now.workers) waiting.worker
+        earlier.refused.items earlier.stocks.items earlier.writers.items }
+    ensures { IfOk result (λ made. IsFinished (with_prefix prefix.now waiting.entry.parts.now)
+        waiting.entry.worker waiting.entry.writers.items made.refused.items made.stocks.items
         made.writers.items) }
 {
-    let mut worker = worker;
-    let mut refused = refused;
+    let Finished {
+        mut refused,
+        stocks,
+        writers: shown,
+    } = earlier;
+    let mut worker = Worker::resume(alloc, prefix, waiting, stocks, &shown, board)?;
     let mut wait = 0;
     while let Some(piece) = worker.turn(rt, board, gate)? {
         note_refused(&mut refused, piece)?;
         wait = worker.look_ahead(board, wait);
     }
-    let number = worker.number();
     let (stocks, writers) = worker.into_stocks();
     Ok(Finished {
-        worker: number,
         refused,
         stocks,
         writers,
@@ -92,37 +97,10 @@ fn finish_day<R: Threads + Wait + Sync, A: Allocator + Copy, G: Gate>(
     ensures { IfOk result (λ made. IsFinished waiting.entry.parts.now waiting.entry.worker
         waiting.entry.writers.items made.refused.items made.stocks.items made.writers.items) }
 {
-    let Waiting {
-        parts,
-        worker,
-        writers,
-    } = waiting;
-    let worker = Worker::new(alloc, parts, worker, writers)?;
-    finish(rt, board, gate, worker, Vec::new(alloc))
-}
-
-// All turns of one worker in a segment of a day, after what it has made of the prefix before it.
-fn finish_segment<R: Threads + Wait + Sync, A: Allocator + Copy, G: Gate>(
-    rt: &R,
-    alloc: A,
-    gate: &G,
-    prefix: &Prefix<A>,
-    parts: &Parts<'_, A>,
-    earlier: Finished<A>,
-) -> Result<Finished<A>, AllocError>
-    requires few { length prefix.now + length parts.now.day < 2 ^ 32 }
-    requires earlier { HasFinished (split_of prefix.now parts.now.workers) earlier.worker
-        earlier.refused.items earlier.stocks.items earlier.writers.items }
-    ensures { IfOk result (IsThrough (with_prefix prefix.now parts.now) earlier.worker) }
-{
-    let Finished {
-        worker,
-        refused,
-        stocks,
-        writers,
-    } = earlier;
-    let (worker, board) = Worker::resume(&alloc, prefix, parts, worker, stocks, &writers)?;
-    finish(rt, &board, gate, worker, refused)
+    // For the proof alone: it says that the day has fewer than 2^32 messages.
+    let _few = waiting.parts.workers();
+    let earlier = Finished::none(alloc);
+    finish(rt, alloc, board, gate, &Prefix::none(), waiting, earlier)
 }
 
 /// All turns of all workers. The list of the workers is forked over its halves, down to one worker a thread; where no
@@ -148,32 +126,5 @@ pub(crate) fn finish_all<R: Threads + Wait + Sync, A: Allocator + Copy + Send + 
             ensures { IfOk result (λ made. IsFinished waiting.entry.parts.now waiting.entry.worker
                 waiting.entry.writers.items made.refused.items made.stocks.items made.writers.items) }
         { finish_day(rt, alloc, board, gate, waiting) },
-    )
-}
-
-/// All turns of all workers in a segment of a day, after what they have made of the prefix before it, forked likewise.
-pub(crate) fn finish_segments<R: Threads + Wait + Sync, A: Allocator + Copy + Send + Sync, G: Gate>(
-    rt: &R,
-    alloc: A,
-    gate: &G,
-    prefix: &Prefix<A>,
-    parts: &Parts<'_, A>,
-    all: Vec<Finished<A>, A>,
-) -> Result<Vec<Result<Finished<A>, AllocError>, A>, AllocError>
-    requires few { length prefix.now + length parts.now.day < 2 ^ 32 }
-    requires earlier { AreThrough (split_of prefix.now parts.now.workers) all.items }
-    ensures { IfOk result (λ made. AreMade (with_prefix prefix.now parts.now) made.items) }
-{
-    map_vec(
-        rt,
-        all,
-        &|earlier: Finished<A>| -> Result<Finished<A>, AllocError>
-            requires { IsSync R.row × IsSync G.row × IsSend A.row × IsSync A.row
-                × Frees A.Allocator A.dealloc_token
-                × (length prefix.now + length parts.now.day < 2 ^ 32)
-                × HasFinished (split_of prefix.now parts.now.workers) earlier.worker
-                earlier.refused.items earlier.stocks.items earlier.writers.items }
-            ensures { IfOk result (IsThrough (with_prefix prefix.entry.now parts.entry.now) earlier.worker) }
-        { finish_segment(rt, alloc, gate, prefix, parts, earlier) },
     )
 }

@@ -19,11 +19,9 @@
 
 mod forking;
 mod gate;
-mod replay;
 mod running;
 mod worker;
 
 pub use gate::{FreeGate, Gate};
-pub use replay::{Ended, Replay};
 pub use running::{Replayed, RunFault, Summary, run, run_parts, summarize_parts};
 pub use worker::Worker;

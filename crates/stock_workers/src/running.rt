@@ -81,8 +81,7 @@ fn waiting_workers<'p, A: Allocator + Copy>(
         → AreWaiting parts.now writer all.items) }
 {
     let count = parts.workers();
-    let outline = parts.outline();
-    let lists = by_worker(alloc, outline, writers)?;
+    let lists = by_worker(alloc, parts, writers)?;
     let mut all = Vec::with_capacity(alloc, count as usize)?;
     for (worker, writers) in (0..count).zip(lists) {
         all.push(Waiting {
@@ -149,12 +148,11 @@ pub fn summarize_parts<R: Threads + Wait + Sync, A: Allocator + Copy + Send + Sy
     let waiting = waiting_workers(alloc, parts, writers)?;
     let made = finish_all(rt, alloc, board, gate, waiting)?;
     let gathered = gather(alloc, parts, made)?;
-    let outline = parts.outline();
     Ok(Summary {
-        refused: all_refused(alloc, outline, gathered.refused)?,
-        stocks: in_order(alloc, outline, gathered.stocks)?,
+        refused: all_refused(alloc, parts, gathered.refused)?,
+        stocks: in_order(alloc, parts, gathered.stocks)?,
         event: parts.event(),
-        writers: in_order(alloc, outline, gathered.writers)?,
+        writers: in_order(alloc, parts, gathered.writers)?,
     })
 }
 
@@ -176,7 +174,7 @@ pub fn run_parts<R: Threads + Wait + Sync, A: Allocator + Copy + Send + Sync, G:
 {
     let summary = summarize_parts(rt, alloc, parts, board, writers, gate)?;
     Ok(Replayed {
-        outcomes: outcomes_with(alloc, parts.outline(), &summary.refused)?,
+        outcomes: outcomes_with(alloc, parts, &summary.refused)?,
         stocks: summary.stocks,
         event: summary.event,
         writers: summary.writers,

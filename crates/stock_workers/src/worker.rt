@@ -9,6 +9,7 @@ ghost use Rattle.top_cell.specs.Boards.{IsOn};
 ghost use Rattle.stock_workers.specs.Running.{IsWaiting};
 ghost use Rattle.stock_workers.specs.Working.{PublishesTurn, ShowsTurn, WritersAt, WritersStand, stands, writer_state};
 
+use crate::forking::Waiting;
 use crate::gate::Gate;
 use day_core::{Parts, Piece, Prefix, Runner, TURNS_AHEAD};
 use itch_table::Top;
@@ -74,38 +75,46 @@ impl<'p, A: Allocator + Copy> Worker<'p, A> {
         Ok(Worker { runner, writers })
     }
 
-    /// A worker that goes on after a prefix of the day in the segment after it, whose parts are given, with a board of
-    /// its own stocks' cells. The caller passes the machines of its stocks after the prefix, and the writers that have
-    /// shown them on the boards before, each at its stock's last message. What these have shown is shown on this board
-    /// first.
+    /// A worker that goes on after a prefix of the day: it waits with the parts of the segment after it, and with the
+    /// writers of its stocks' cells on the segment's board, none of which has published anything. The caller passes
+    /// the machines of its stocks after the prefix, and the writers that have shown them on the board before, each at
+    /// its stock's last message. What these have shown is shown on the segment's board first.
     ///
-    /// After an error the machines are gone.
-    pub(crate) fn resume<'a>(
-        alloc: &'a A,
+    /// After an error the machines and the writers are gone.
+    pub(crate) fn resume(
+        alloc: A,
         prefix: &Prefix<A>,
-        parts: &'p Parts<'p, A>,
-        worker: u32,
+        waiting: Waiting<'p, A>,
         stocks: Vec<Stock<A>, A>,
         shown: &[TopWriter],
-    ) -> Result<(Worker<'p, A>, Board<'a, A>), AllocError>
-        requires few { length prefix.now + length parts.now.day < 2 ^ 32 }
+        board: &Board<'_, A>,
+    ) -> Result<Worker<'p, A>, AllocError>
+        requires few { length prefix.now + length waiting.parts.now.day < 2 ^ 32 }
         requires stocks { stocks.items ≡ map (last_machine prefix.now)
-            (own_locates parts.now.workers worker prefix.now) }
+            (own_locates waiting.parts.now.workers waiting.worker prefix.now) }
         requires shown { WritersAt prefix.now (last_message prefix.now)
-            (own_locates parts.now.workers worker prefix.now) shown.now }
-        ensures state { IfOk result (λ made. made.0.state ≡ state_after prefix.now parts.now worker 0) }
-        ensures on_board { IfOk result (λ made. All (IsOn made.1) made.0.places) }
+            (own_locates waiting.parts.now.workers waiting.worker prefix.now) shown.now }
+        requires waits { IsWaiting (with_prefix prefix.now waiting.parts.now) board.now waiting.worker
+            waiting.writers.items }
+        ensures { IfOk result (λ made. made ≡ record {
+          state = state_after prefix.now waiting.entry.parts.now waiting.entry.worker 0;
+          places = map (λ w. w.place) waiting.entry.writers.items;
+        }) }
     {
-        let runner = Runner::resume(*alloc, prefix, parts, worker, stocks)?;
-        let (board, mut writers) = Board::of_segment(alloc, prefix, parts.day(), runner.locates())?;
+        let Waiting {
+            parts,
+            worker,
+            mut writers,
+        } = waiting;
+        let runner = Runner::resume(alloc, prefix, parts, worker, stocks)?;
         for earlier in shown {
             let Some(index) = runner.index_of(earlier.locate()) else {
                 continue;
             };
             let best = runner.stock_at(index).top();
-            writers[index].publish(&board, earlier.message(), best);
+            writers[index].publish(board, earlier.message(), best);
         }
-        Ok((Worker { runner, writers }, board))
+        Ok(Worker { runner, writers })
     }
 
     /// Waits at the gate with the worker's next message, does it on the machine of its stock, publishes the best bid
@@ -185,13 +194,6 @@ impl<'p, A: Allocator + Copy> Worker<'p, A> {
 }
 
 impl<'p, A: Allocator> Worker<'p, A> {
-    // Its number, from 0.
-    pub(crate) fn number(&self) -> u32
-        ensures { result ≡ self.now.state.worker }
-    {
-        self.runner.worker()
-    }
-
     /// The machine of one of the worker's stocks, after the last of its messages that the worker has done; none where
     /// it isn't one of them.
     pub fn stock(&self, locate: u16) -> Option<&Stock<A>>

@@ -5,20 +5,16 @@ ghost use Rattle.itch_engine.specs.ReplayEngines.{Replays, replayer};
 
 use crate::fault::ProgFault;
 use crate::limits::{MOST_FILE_BYTES, MOST_MESSAGES};
-use crate::report::day::{Report, report_of_replay};
-use binaryfile::{Day, Feed, Sink, send};
+use crate::report::day::{Report, report_of_day};
+use binaryfile::{Day, Feed, Sink, read_to_end, send};
 use day_core::WorkerCount;
-use day_segments::{carry_after, read_segment};
 use std::alloc::Allocator;
 use std::io::{Read, Write};
 use std::sync::Wait;
 use std::thread::Threads;
-use stock_workers::{Gate, Replay};
+use stock_workers::Gate;
 
-// How many bytes are read at a time.
-const SEGMENT: u32 = 1 << 24;
-
-/// The report of a file that is in memory, and how many of its messages are refused.
+/// The report of a file, and how many of its messages are refused.
 pub(crate) fn report_of_file<R: Threads + Wait + Sync, A: Allocator + Copy + Send + Sync, G: Gate>(
     rt: &R,
     alloc: A,
@@ -30,50 +26,7 @@ pub(crate) fn report_of_file<R: Threads + Wait + Sync, A: Allocator + Copy + Sen
     ensures fault { IfErr result (Fails replayer input.items) }
 {
     let day = Day::from_bytes(alloc, input, MOST_MESSAGES)?;
-    let replay = Replay::new(alloc, workers)?.go_on(rt, alloc, &day, gate)?;
-    Ok(report_of_replay(alloc, replay, day.marked(), day.tail().len())?)
-}
-
-// The report of a file that is read segment by segment, and how many of its messages are refused. No more of the file is in
-// memory than a segment.
-fn report_in_segments<
-    T: Threads + Wait + Sync,
-    A: Allocator + Copy + Send + Sync,
-    R: Read,
-    G: Gate,
->(
-    rt: &T,
-    alloc: A,
-    feed: &mut Feed<R>,
-    workers: WorkerCount,
-    gate: &G,
-) -> Result<Report<A>, ProgFault>
-{
-    if feed.failed() {
-        return Err(ProgFault::Read);
-    }
-    let mut replay = Replay::new(alloc, workers)?;
-    let mut carried = Vec::new(alloc);
-    let mut given = 0u64;
-    let mut messages = 0u64;
-    let mut marked = false;
-    let mut tail_length = 0;
-    while let Some(segment) =
-        read_segment(alloc, feed, &carried, SEGMENT, MOST_FILE_BYTES - given)?
-    {
-        messages += u64::from(segment.len());
-        if messages <= u64::from(MOST_MESSAGES) {
-            replay = replay.go_on(rt, alloc, &segment, gate)?;
-        }
-        given += (segment.bytes().len() - carried.len()) as u64;
-        tail_length = segment.tail().len() + if marked { tail_length } else { 0 };
-        marked = segment.marked();
-        carried = carry_after(alloc, &segment)?;
-    }
-    if messages > u64::from(MOST_MESSAGES) {
-        return Err(ProgFault::TooManyMessages);
-    }
-    Ok(report_of_replay(alloc, replay, marked, tail_length)?)
+    Ok(report_of_day(rt, alloc, &day, workers, gate)?)
 }
 
 /// Reads a day file, replays it and writes the report. Returns how many messages were refused.
@@ -106,7 +59,8 @@ pub fn replay_run<
 ) -> Result<u32, ProgFault>
     ensures { Runs replayer R.remaining W.contents feed.old feed.new sink.old sink.new result }
 {
-    let report = report_in_segments(rt, alloc, feed, workers, gate)?;
+    let input = read_to_end(alloc, feed, MOST_FILE_BYTES)?;
+    let report = report_of_file(rt, alloc, input, workers, gate)?;
     send(sink, &report.text)?;
     Ok(report.refused)
 }

@@ -8,18 +8,37 @@ ghost use Rattle.day_core.specs.Replaying.{IsSummary};
 ghost use Rattle.itch_engine.specs.Report.{machine_lines, report_of_file, refused_count};
 ghost use Rattle.itch_engine.specs.Tallies.{IsTally};
 
-use crate::report::messages::{put_file_line, put_refused_lines, tally_of};
+use crate::report::messages::{Tally, put_file_line, put_refused_lines, tally_of};
 use crate::report::stock::put_stock;
+use binaryfile::Day;
+use day_core::{Parts, WorkerCount, parts_of};
 use itch_table::Side;
 use std::alloc::{AllocError, Allocator};
+use std::sync::Wait;
+use std::thread::Threads;
 use stock_machine::Stock;
-use stock_workers::Replay;
+use stock_workers::{Gate, Summary, summarize_parts};
+use top_cell::Board;
 
 /// The report of a day, and how many of its messages were refused.
 #[derive(Drop)]
 pub(crate) struct Report<A: Allocator> {
     pub text: Vec<u8, A>,
     pub refused: u32,
+}
+
+// What a day that is split makes in short, replayed by its workers in threads, on a board of its own.
+fn replay<R: Threads + Wait + Sync, A: Allocator + Copy + Send + Sync, G: Gate>(
+    rt: &R,
+    alloc: A,
+    parts: &Parts<'_, A>,
+    gate: &G,
+) -> Result<Summary<A>, AllocError>
+    ensures { IfOk result (λ summary. IsSummary parts.now.day
+        summary.refused.items summary.stocks.items summary.event) }
+{
+    let (board, writers) = Board::of_stocks(&alloc, parts.day(), parts.locates())?;
+    summarize_parts(rt, alloc, parts, &board, writers, gate)
 }
 
 // Adds the lines of a stock.
@@ -56,24 +75,51 @@ fn put_stocks<A: Allocator + Copy>(
     Ok(())
 }
 
-/// The report of a day that was replayed, of which the caller passes the mark, and the length of the tail in bytes.
-#[tactic(auto, unfolding(crate::specs::Report::report_of_day, crate::specs::Report::refused_count))]
-pub(crate) fn report_of_replay<A: Allocator + Copy>(
+// The report of a day that was replayed.
+#[tactic(auto, unfolding(crate::specs::Report::report_of_day))]
+fn report_text<A: Allocator + Copy>(
     alloc: A,
-    replay: Replay<A>,
-    marked: bool,
-    tail_length: usize,
-) -> Result<Report<A>, AllocError>
-    requires bytes { All AreBytes replay.day }
-    ensures text { IfOk result (λ found. found.text.items ≡ report_of_day replay.day marked tail_length) }
-    ensures refused { IfOk result (λ found. found.refused ≡ refused_count replay.day) }
+    day: &Day<A>,
+    summary: &Summary<A>,
+    tally: Tally,
+) -> Result<Vec<u8, A>, AllocError>
+    requires tally { IsTally (outcomes day.now.payloads) tally }
+    requires bytes { All AreBytes day.now.payloads }
+    requires summary { IsSummary day.now.payloads
+        summary.now.refused.items summary.now.stocks.items summary.now.event }
+    ensures { IfOk result (λ text. text.items ≡ report_of_file day.now) }
 {
-    let ended = replay.end(alloc)?;
-    let tally = tally_of(&ended.outline, &ended.refused);
     let mut text = Vec::new(alloc);
-    put_refused_lines(&mut text, &ended.refused)?;
-    put_file_line(&mut text, tally, marked, tail_length, ended.outline.event())?;
-    put_stocks(alloc, &mut text, &ended.stocks)?;
+    put_refused_lines(&mut text, &summary.refused)?;
+    put_file_line(
+        &mut text,
+        tally,
+        day.marked(),
+        day.tail().len(),
+        summary.event,
+    )?;
+    put_stocks(alloc, &mut text, &summary.stocks)?;
+    Ok(text)
+}
+
+/// Replays a day by this many workers in threads, each of which calls the gate before each message, and reports.
+#[tactic(auto, unfolding(crate::specs::Report::refused_count))]
+pub(crate) fn report_of_day<R: Threads + Wait + Sync, A: Allocator + Copy + Send + Sync, G: Gate>(
+    rt: &R,
+    alloc: A,
+    day: &Day<A>,
+    workers: WorkerCount,
+    gate: &G,
+) -> Result<Report<A>, AllocError>
+    requires few { length day.now.payloads < 2 ^ 32 }
+    requires bytes { All AreBytes day.now.payloads }
+    ensures text { IfOk result (λ found. found.text.items ≡ report_of_file day.now) }
+    ensures refused { IfOk result (λ found. found.refused ≡ refused_count day.now.payloads) }
+{
+    let parts = parts_of(rt, alloc, day, workers)?;
+    let summary = replay(rt, alloc, &parts, gate)?;
+    let tally = tally_of(&parts, &summary.refused);
+    let text = report_text(alloc, day, &summary, tally)?;
     Ok(Report {
         text,
         refused: tally.refused as u32,

@@ -10,7 +10,7 @@ ghost use Rattle.itch_engine.specs.Tallies.{IsTally};
 
 use crate::report::numbers::put_count;
 use crate::report::quoted_bytes::put_quoted_byte;
-use day_core::{Outline, Piece};
+use day_core::{Parts, Piece};
 use itch_table::Outcome;
 use std::alloc::{AllocError, Allocator};
 
@@ -38,12 +38,12 @@ fn passed_among(pieces: &[Piece]) -> usize
 
 /// Counts what became of the messages of a day. The caller passes those that were refused. A message of a stock isn't
 /// passed over.
-pub(crate) fn tally_of<A: Allocator>(outline: &Outline<A>, refused: &[Piece]) -> Tally
-    requires { refused.now ≡ refused_of outline.now.day }
-    ensures { IsTally (outcomes outline.now.day) result }
+pub(crate) fn tally_of<A: Allocator>(parts: &Parts<'_, A>, refused: &[Piece]) -> Tally
+    requires { refused.now ≡ refused_of parts.now.day }
+    ensures { IsTally (outcomes parts.now.day) result }
 {
-    let messages = outline.messages().count() as usize;
-    let passed = passed_among(outline.fixed());
+    let messages = parts.day().len() as usize;
+    let passed = passed_among(parts.fixed());
     let refused = refused.len();
     Tally {
         messages,

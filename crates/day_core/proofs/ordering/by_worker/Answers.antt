@@ -93,5 +93,5 @@ returns-clause-order g c = λ f are.
     let ends = YieldsList-end road c.loop-index.yielded c.loop-index.index-iterator c.loop-index.yielded_by c.next.result c.next.new.self c.in-None.is c.next.ensures.steps in
     let all = take_all (length c.loop-index.yielded) locates (omega (arith, ends.1, length-enumerate_from 0 values, c.requires, ap length c.locates-locates.ensures)) ∙ c.locates-locates.ensures in
     let workers = c.workers-workers.ensures.workers in
-    all_given f c.args.outline.now (map (λ own. own.items) c.loop-index.lists.items)
+    all_given f c.args.parts.now (map (λ own. own.items) c.loop-index.lists.items)
     (rw (workers, all) at (c.loop-index.invariant.lists f (are ∙ ap (map f) (sym c.locates-locates.ensures))))

@@ -5,6 +5,6 @@ use Rattle.day_core.proofs.refusals.all_refused.Goals as goal
 
 pub returns : goal.returns
 returns g c =
-    in_order_are c.args.outline.now.day c.sort_unstable_by_key.new.self.items
+    in_order_are c.args.parts.now.day c.sort_unstable_by_key.new.self.items
     (IsPermutation-trans _ _ _ (c.in_ok-all.ensures {u = tt}) c.sort_unstable_by_key.ensures.permutation)
     (IsNonDecreasingBy-from_sort_by_key (λ p. p.message) c.sort_unstable_by_key.new.self.items c.sort_unstable_by_key.ensures.sorted (λ a r f called. search rules))

@@ -21,21 +21,21 @@ module _ {V : Type 0} (items : V → List Piece) (split : Split) (lists : List V
       ∙ get_or-map-range_with_len (refused_by split) 0 split.workers worker worker (items v) below (omega arith)
 
 pub index_mut-requires : goal.index_mut-requires
-index_mut-requires g c = omega (arith, c.args.by_worker.ok.0, as_many (λ v. v.items) c.args.outline.now c.args.by_worker.items c.requires, c.workers-workers.ensures)
+index_mut-requires g c = omega (arith, c.args.by_worker.ok.0, as_many (λ v. v.items) c.args.parts.now c.args.by_worker.items c.requires, c.workers-workers.ensures)
 
 pub loop-worker-init : goal.loop-worker-init
 loop-worker-init g c =
-    let split = c.args.outline.now in
+    let split = c.args.parts.now in
     let first = own_list (λ v. v.items) split c.args.by_worker.items c.requires 0 c.index_mut.result.now (omega (arith, c.workers-workers.ensures)) c.index_mut.ensures.value in
     let none = subst (IsPermutation (refused_below split 0)) (below_none split) (IsPermutation-refl _) in
     subst (IsPermutation (refused_below split 1)) (sym (ap (λ v. v.items) c.replace-all.ensures.value ∙ first)) (below_more split 0 [] none)
 
 pub index-requires : goal.index-requires
-index-requires g c = omega (arith, c.args.by_worker.ok.0, as_many (λ v. v.items) c.args.outline.now c.args.by_worker.items c.requires, c.workers-workers.ensures, c.loop-worker-test.true)
+index-requires g c = omega (arith, c.args.by_worker.ok.0, as_many (λ v. v.items) c.args.parts.now c.args.by_worker.items c.requires, c.workers-workers.ensures, c.loop-worker-test.true)
 
 pub loop-worker-preserved : goal.loop-worker-preserved
 loop-worker-preserved g c =
-    let split = c.args.outline.now in
+    let split = c.args.parts.now in
     let worker = c.loop-worker.worker in
     let lists = c.args.by_worker.items in
     let here = c.index.result.now in
@@ -46,7 +46,7 @@ loop-worker-preserved g c =
 
 pub loop-piece-init : goal.loop-piece-init
 loop-piece-init g c =
-    let split = c.args.outline.now in
+    let split = c.args.parts.now in
     let done : c.loop-worker.worker ≡ split.workers = omega (arith, c.loop-worker-test.false, c.loop-worker.auto.worker-end, c.workers-workers.ensures.workers) in (
       c.loop-worker.all.items,
       subst (λ (n : ℕ). IsPermutation (refused_below split n) c.loop-worker.all.items) done c.loop-worker.invariant,
@@ -55,7 +55,7 @@ loop-piece-init g c =
 
 pub returns : goal.returns
 returns g c =
-    let split = c.args.outline.now in
+    let split = c.args.parts.now in
     let before = c.loop-piece.invariant in
     let fixed = c.fixed-piece-items.result.now in
     let refused = λ (ps : List Piece). before.0 ++ filter (λ p. is_refused p.outcome) ps in

@@ -6,9 +6,9 @@ use Rattle.day_core.proofs.Refused.{refused_below}
 use Rattle.day_core.proofs.refusals.joined.Given as goal
 
 abbrev pub invariant-loop-worker : goal.invariant-loop-worker
-invariant-loop-worker g l = IsPermutation (refused_below l.outline l.worker) l.all.items
+invariant-loop-worker g l = IsPermutation (refused_below l.parts l.worker) l.all.items
 
 abbrev pub invariant-loop-piece : goal.invariant-loop-piece
 invariant-loop-piece g l =
-    (pieces : List Piece) × IsPermutation (refused_below l.outline l.outline.workers) pieces
+    (pieces : List Piece) × IsPermutation (refused_below l.parts l.parts.workers) pieces
     × (l.all.items ≡ pieces ++ filter (λ p. is_refused p.outcome) (take l.piece-index l.piece-items))

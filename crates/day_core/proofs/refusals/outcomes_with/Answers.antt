@@ -13,21 +13,21 @@ use Rattle.day_core.proofs.refusals.outcomes_with.Goals as goal
 
 pub place-requires : goal.place-requires
 place-requires g c =
-    let day = c.args.outline.now.day in
-    all_within day _ c.fixed.result.now (c.fixed.ensures ∙ fixed_are_kept day) _ (omega (arith, (c.in_ok-all.ensures {u = tt}).len, c.count.ensures, ap length c.messages.ensures))
+    let day = c.args.parts.now.day in
+    all_within day _ c.fixed.result.now (c.fixed.ensures ∙ fixed_are_kept day) _ (omega (arith, (c.in_ok-all.ensures {u = tt}).len, c.len.ensures, ap length c.day.ensures))
 
 pub place-requires-2 : goal.place-requires-2
 place-requires-2 g c =
-    all_within c.args.outline.now.day (refuses c.args.outline.now.day) c.args.refused.now c.requires _ (omega (arith, c.place.ensures.long, (c.in_ok-all.ensures {u = tt}).len, c.count.ensures, ap length c.messages.ensures))
+    all_within c.args.parts.now.day (refuses c.args.parts.now.day) c.args.refused.now c.requires _ (omega (arith, c.place.ensures.long, (c.in_ok-all.ensures {u = tt}).len, c.len.ensures, ap length c.day.ensures))
 
 pub returns : goal.returns
 returns g c =
-    let day = c.args.outline.now.day in
+    let day = c.args.parts.now.day in
     let fixed = c.fixed.ensures ∙ fixed_are_kept day in
     let fixed_all = each_kept day _ c.fixed.result.now fixed in
     let refused_all = each_kept day (refuses day) c.args.refused.now c.requires in
-    let count = c.count.result in
-    let long : count ≡ length day = omega (arith, c.count.ensures, ap length c.messages.ensures) in
+    let count = c.len.result in
+    let long : count ≡ length day = omega (arith, c.len.ensures, ap length c.day.ensures) in
     let first : c.in_ok-all.all.items ≡ replicate count Applied = (c.in_ok-all.ensures {u = tt}).items_if_clones_equal (λ y is. is) in
     all_are day c.place-2.new.all.items (c.place-2.ensures.long ∙ c.place.ensures.long ∙ ap length first ∙ length-replicate count Applied ∙ long)
     (λ m some within. by_part day m some (part_at day m) refl

@@ -1,7 +1,5 @@
-use Rattle.std.proofs.Common.{◌≡◌, ℕ, ◌≤◌, List, ap, map, sym, ◌∙◌, arith}
+use Rattle.std.proofs.Common.{◌≡◌, ℕ, ◌≤◌, List, ap, map, ◌∙◌, arith}
 use Rattle.std.specs.List.{range_with_len}
-use Rattle.itch_table.specs.After.{outcomes}
-use Rattle.itch_table.specs.Shows.{locates_of_day}
 use Rattle.stock_machine.specs.StockRows.{StockMachine}
 use Rattle.day_core.specs.Replaying.{each_worker, for_own_stocks, last_machine, refused_by}
 use Rattle.day_core.specs.Splitting.{Split}
@@ -30,26 +28,18 @@ all_stocks split lists worker workers are all no_more is =
     let done : worker ≡ split.workers = omega (arith, all, no_more, is) in
     are ∙ ap (λ (n : ℕ). map (for_own_stocks (last_machine split.day) split) (range_with_len 0 n)) done
 
--- they are those that its outline asks for
-for_outline : (split outline : Split) (lists : List (List StockMachine)) → outline ≡ split → lists ≡ each_worker (for_own_stocks (last_machine split.day) split) split
-    → lists ≡ each_worker (for_own_stocks (last_machine split.day) outline) outline
-for_outline split outline lists same are = are ∙ ap (λ (s : Split). each_worker (for_own_stocks (last_machine split.day) s) s) (sym same)
-
 pub in_order-requires : goal.in_order-requires
 in_order-requires g c = (
   last_machine c.args.parts.now.day,
-  for_outline c.args.parts.now c.outline-outline.result.now _ c.outline-outline.ensures
-      (all_stocks c.args.parts.now _ c.loop-worker.worker _ c.loop-worker.invariant.stocks c.loop-worker-test.false c.loop-worker.auto.worker-end c.workers-workers.ensures.workers),
+  all_stocks c.args.parts.now _ c.loop-worker.worker _ c.loop-worker.invariant.stocks c.loop-worker-test.false c.loop-worker.auto.worker-end c.workers-workers.ensures.workers,
 )
 
 pub returns : goal.returns
 returns g c =
     let split = c.args.parts.now in
-    let same = c.outline-outline.ensures in
     record {
-      outcomes_are = c.in_ok-outcomes_with.ensures {u = tt} ∙ ap (λ (s : Split). outcomes s.day) same;
+      outcomes_are = c.in_ok-outcomes_with.ensures {u = tt};
       stocks_are = (c.in_ok-in_order.ensures {u = tt}).order (last_machine split.day)
-          (for_outline split c.outline-outline.result.now _ same (all_stocks split _ c.loop-worker.worker _ c.loop-worker.invariant.stocks c.loop-worker-test.false c.loop-worker.auto.worker-end c.workers-workers.ensures.workers))
-          ∙ ap (λ (s : Split). map (last_machine split.day) (locates_of_day s.day)) same;
+          (all_stocks split _ c.loop-worker.worker _ c.loop-worker.invariant.stocks c.loop-worker-test.false c.loop-worker.auto.worker-end c.workers-workers.ensures.workers);
       event_is = c.event.ensures;
     }

@@ -1,4 +1,4 @@
-use Rattle.std.proofs.Common.{arith, rules}
+use Rattle.std.proofs.Common.{arith}
 use Rattle.stock_workers.proofs.Joined.{all_finished, both_ok}
 use Rattle.stock_workers.proofs.forking.finish_all.Goals as goal
 
@@ -8,6 +8,3 @@ returns g c =
     all_finished split writer c.args.all.items v.items are (omega (arith, len, v.ok.0, c.args.all.ok.0)) (λ k d lt.
     let job = (each k d lt).1 in
     (job.job, job.job_read, job.call.met)))
-
-pub map_vec-requires-send-J : goal.map_vec-requires-send-J
-map_vec-requires-send-J g c κs within = search rules

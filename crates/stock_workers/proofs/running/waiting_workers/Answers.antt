@@ -8,9 +8,6 @@ use Rattle.std.proofs.lemmas.Iterator.Consumers.{YieldsList-end}
 use Rattle.std.proofs.lemmas.List.{map-append, map-id}
 use Rattle.std.proofs.lemmas.List.FromFn.{length-range_with_len}
 use Rattle.std.proofs.lemmas.Slice.Zip.{firsts-zip, seconds-zip}
-use Rattle.itch_table.specs.Shows.{locates_of_day}
-use Rattle.day_core.specs.Replaying.{each_worker, for_own_stocks}
-use Rattle.day_core.specs.Splitting.{Split}
 use Rattle.stock_workers.proofs.Dealing.{map_twice}
 use Rattle.stock_workers.proofs.running.waiting_workers.Goals as goal
 
@@ -44,7 +41,7 @@ returns g c = λ writer are.
     let road = YieldsList-from_zip {s = s} (YieldsList-from_range {s = zip_first s} 0 count count numbers (omega arith)) (YieldsList-from_vec {s = zip_second s} lists items long) in
     let ends = YieldsList-end road done.yielded done.worker-iterator done.yielded_by c.next.result c.next.new.self c.in-None.is c.next.ensures.steps in
     let all : done.yielded ≡ zip (range_with_len 0 count) lists = sym (map-id done.yielded) ∙ ends.0 in
-    let same : length lists ≡ length (range_with_len 0 count) = omega (arith, c.in_ok-lists.ensures.long, ap (λ (o : Split). o.workers) c.outline-outline.ensures, c.workers-count.ensures.workers, length-range_with_len 0 count) in
+    let same : length lists ≡ length (range_with_len 0 count) = omega (arith, c.in_ok-lists.ensures.long, c.workers-count.ensures.workers, length-range_with_len 0 count) in
     let counted = ap (map (λ p. p.0)) all ∙ firsts-zip (range_with_len 0 count) lists same in
     let workers = c.workers-count.ensures.workers in
     record {
@@ -52,6 +49,5 @@ returns g c = λ writer are.
       numbers_are = done.invariant.numbers ∙ counted ∙ sym (map-id (range_with_len 0 count)) ∙ ap (λ (n : ℕ). map (λ (k : ℕ). k) (range_with_len 0 n)) workers;
       writers_are =
           sym (map_twice (λ v. v.items) (λ w. w.writers) done.all.items) ∙ ap (map (λ v. v.items)) (done.invariant.writers ∙ ap (map (λ p. p.1)) all ∙ seconds-zip (range_with_len 0 count) lists same)
-          ∙ c.in_ok-lists.ensures.order writer (are ∙ ap (λ (o : Split). map writer (locates_of_day o.day)) (sym c.outline-outline.ensures))
-          ∙ ap (λ (o : Split). each_worker (for_own_stocks writer o) o) c.outline-outline.ensures;
+          ∙ c.in_ok-lists.ensures.order writer are;
     }

@@ -5,9 +5,8 @@ use Rattle.day_core.proofs.Prefixes.{no_stocks, none_refused}
 use Rattle.stock_workers.specs.Working.{WriterState, writer_state}
 use Rattle.stock_workers.proofs.forking.Finished.none.Goals as goal
 
-pub returns-clause-made : goal.returns-clause-made
-returns-clause-made g c = λ workers.
-    let worker = c.args.worker in
+pub returns : goal.returns
+returns g c = λ workers worker.
     let none = no_stocks workers worker in
     record {
       part = record {
