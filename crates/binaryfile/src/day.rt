@@ -11,7 +11,7 @@ use crate::scan::{
     IndexedEntries, Place, begins_with_marker, bytes_after, bytes_from, entries_within,
     nth_payload, payload_near,
 };
-use crate::{Feed, LoadFault, Payloads, Sink, WriteFault, send};
+use crate::{Feed, LoadFault, Payloads, STRIDE, Sink, WriteFault, send};
 use std::alloc::Allocator;
 use std::io::{Read, Write};
 use std::marker::Model;
@@ -24,6 +24,11 @@ pub struct Limits {
     /// The most payloads.
     pub messages: u32,
 }
+
+// How many lines of memory, of so many bytes, are read ahead where a payload is looked for.
+const LINES: usize = 4;
+
+const LINE: usize = 64;
 
 // How far after a place bytes are read ahead, in bytes.
 const TOUCH_FROM: usize = 2048;
@@ -167,6 +172,27 @@ impl<A: Allocator> Day<A> {
         let mut sum: u64 = 0;
         for step in 0..TOUCHES {
             if let Some(byte) = self.bytes.get(start.saturating_add(step * TOUCH_STEP)) {
+                sum = sum.wrapping_add(u64::from(*byte));
+            }
+        }
+        sum
+    }
+
+    /// Reads bytes where the payload of this number is looked for, from the nearest place before it that the day has
+    /// kept, in the same way. A number that no payload has reads nothing.
+    pub fn touch_near(&self, number: u32) -> u64 {
+        let Some(start) = self
+            .starts
+            .get((number as usize).saturating_sub(1) / STRIDE)
+        else {
+            return 0;
+        };
+        let mut sum: u64 = 0;
+        for line in 0..LINES {
+            if let Some(byte) = self
+                .bytes
+                .get((*start as usize).saturating_add(line * LINE))
+            {
                 sum = sum.wrapping_add(u64::from(*byte));
             }
         }

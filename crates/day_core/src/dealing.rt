@@ -20,8 +20,8 @@ use std::thread::Threads;
 // In how many chunks the messages of a long day are dealt, each by one thread.
 const CHUNKS: u32 = 16;
 
-// How many messages a day has at least to be dealt in chunks.
-const MANY: u32 = 1 << 17;
+/// How many messages a day has at least to be dealt in chunks.
+pub(crate) const MANY: u32 = 1 << 17;
 
 /// The messages of a stretch of a day, dealt to the workers of their stocks.
 #[derive(Drop)]
@@ -60,6 +60,12 @@ pub fn event_after(payload: &[u8], before: Option<u8>) -> Option<u8>
     }
 }
 
+// For how many messages each worker's list has room at first: twice its share of so many, so that few lists grow. What a
+// list doesn't need isn't touched.
+fn room_for(messages: u32, workers: u32) -> usize {
+    2 * messages.checked_div(workers).unwrap_or(0) as usize
+}
+
 // Deals the messages of a day after the first `from` of them, up to message `to`.
 fn deal_between<A: Allocator + Copy>(
     alloc: A,
@@ -75,7 +81,7 @@ fn deal_between<A: Allocator + Copy>(
 {
     let count = workers.get();
     let mut seen = none_seen(alloc, LOCATES)?;
-    let mut own = empty_lists(alloc, count)?;
+    let mut own = empty_lists(alloc, count, room_for(to - from, count))?;
     let mut fixed = Vec::new(alloc);
     let mut event = None;
     let mut payloads = day.payloads_after(from);

@@ -57,6 +57,6 @@ pub use refusals::{all_refused, note_refused, outcomes_with};
 pub use replaying::{ReplayedDay, replay_parts};
 pub use runner::{Runner, TURNS_AHEAD, Turned};
 pub use seeing::locates;
-pub use splitting::{SplitFault, parts_of, split};
+pub use splitting::{SplitFault, parts_of, split, workers_for};
 pub use turns::Turns;
 pub use worker_count::WorkerCount;

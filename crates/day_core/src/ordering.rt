@@ -22,16 +22,17 @@ pub(crate) fn give<T: Drop, A: Allocator + Copy>(
     Ok(())
 }
 
-/// An empty list for each worker.
+/// An empty list for each worker, each with room for so many values.
 pub(crate) fn empty_lists<T: Drop, A: Allocator + Copy>(
     alloc: A,
     workers: u32,
+    room: usize,
 ) -> Result<Vec<Vec<T, A>, A>, AllocError>
     ensures { IfOk result (λ lists. map (λ list. list.items) lists.items ≡ replicate workers []) }
 {
     let mut lists = Vec::with_capacity(alloc, workers as usize)?;
     for _ in 0..workers {
-        lists.push(Vec::new(alloc))?;
+        lists.push(Vec::with_capacity(alloc, room)?)?;
     }
     Ok(lists)
 }
@@ -53,7 +54,7 @@ pub fn by_worker<T: Drop, A: Allocator + Copy>(
 {
     let workers = parts.workers();
     let locates = parts.locates();
-    let mut lists = empty_lists(alloc, workers)?;
+    let mut lists = empty_lists(alloc, workers, 0)?;
     for (index, value) in values.into_iter().enumerate() {
         give(&mut lists, u32::from(locates[index]) % workers, value)?;
     }

@@ -82,6 +82,16 @@ impl<'d, A: Allocator> OwnMessages<'d, A> {
     pub(crate) fn touch(&self) -> u64 {
         self.day.touch_after(&self.near)
     }
+
+    /// Reads bytes of the day where the next messages are looked for, so many of them at most and as far as they are in
+    /// the same stretch, as [`Day::touch_near`] does.
+    pub(crate) fn touch_next(&self, count: usize) -> u64 {
+        let mut sum: u64 = 0;
+        for number in self.numbers.iter().take(count) {
+            sum = sum.wrapping_add(self.day.touch_near(*number));
+        }
+        sum
+    }
 }
 
 impl<'d, A: Allocator> Iterator for OwnMessages<'d, A> {

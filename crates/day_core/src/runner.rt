@@ -281,6 +281,12 @@ impl<'p, A: Allocator + Copy> Runner<'p, A> {
         sum
     }
 
+    /// Reads the day's bytes where the messages after those that were found are looked for, in the same way: a worker of
+    /// many walks to each of its messages from a place before it, and these lie far apart.
+    pub fn touch_messages_ahead(&self) -> u64 {
+        self.left.touch_next(TURNS_AHEAD)
+    }
+
     /// Reads the rows that the first [`TURNS_AHEAD`] messages that the last [`Runner::look_ahead`] left are likely to
     /// need, in the same way: their machines were read after the call before, where there was one.
     pub fn touch_rows_ahead(&self) -> u64 {
@@ -298,6 +304,13 @@ impl<'p, A: Allocator> Runner<'p, A> {
         ensures { result ≡ self.now.worker }
     {
         self.worker
+    }
+
+    /// How many workers share the day.
+    pub fn workers(&self) -> u32
+        ensures { result ≡ self.now.workers }
+    {
+        self.parts.workers()
     }
 
     /// The number of the worker's next message; none where it has done all of them.

@@ -1,14 +1,17 @@
 //! A day, split into the parts of its workers.
-ghost use Rattle.std.specs.Prelude.{◌≡◌, ◌<◌, ◌⊎◌, ◌↔◌, IfOk, IsErrOf};
+ghost use Rattle.std.specs.Prelude.{◌≡◌, ◌<◌, ◌≤◌, ◌⊎◌, ◌↔◌, IfOk, IsErrOf};
 ghost use Rattle.day_core.specs.declared.splitting.SplitFault.TheVariants.{Memory};
 
-use crate::dealing::deal;
+use crate::dealing::{MANY, deal};
 use crate::parts::Parts;
-use crate::seeing::locates_seen;
+use crate::seeing::{locates_seen, stocks_among_first};
 use crate::worker_count::WorkerCount;
 use binaryfile::Day;
 use std::alloc::{AllocError, Allocator};
 use std::thread::Threads;
+
+// How many stocks a worker has at least where a thread does several workers one after another.
+const STOCKS_EACH: usize = 128;
 
 /// Why a day isn't split.
 #[derive(Debug, Clone, Copy, PartialEq, Eq)]
@@ -25,6 +28,26 @@ impl From<AllocError> for SplitFault {
     fn from(_error: AllocError) -> SplitFault {
         SplitFault::Memory
     }
+}
+
+/// For how many workers a day is split where so many threads replay it, so that each thread does several workers one
+/// after another: of as few stocks that their books stay in the processor's caches, where a long day has many. It goes
+/// by the stocks of the day's first messages. Whatever the number, the day makes the same.
+pub fn workers_for<A: Allocator + Copy>(
+    alloc: A,
+    day: &Day<A>,
+    threads: WorkerCount,
+) -> Result<WorkerCount, AllocError>
+    ensures { IfOk result (λ workers. threads ≤ workers) }
+{
+    if day.len() < MANY {
+        return Ok(threads);
+    }
+    let count = threads.get();
+    let stocks = stocks_among_first(alloc, day)?;
+    let most = WorkerCount::MOST / count;
+    let each = (stocks / STOCKS_EACH / count as usize).clamp(1, most as usize);
+    Ok(WorkerCount::new(count * each as u32).unwrap_or(threads))
 }
 
 /// Splits a day as [`split`] does, for a number of workers that is from 1 to 64 by its type.

@@ -1,5 +1,5 @@
 -- All workers of a day, and what each makes of its messages. All is of this project.
-use Rattle.std.specs.Prelude.{◌≡◌, ◌<◌, ℕ, List, All, IfOk, Result, length, map, slice_index_or}
+use Rattle.std.specs.Prelude.{◌≡◌, ◌<◌, ℕ, List, All, IfOk, IfSome, Result, length, map, slice_index_or}
 use Rattle.std.specs.declared.alloc.AllocError.{AllocError}
 use Rattle.stock_machine.specs.StockRows.{StockMachine}
 use Rattle.day_core.specs.declared.merging.Piece.{Piece}
@@ -9,6 +9,7 @@ use Rattle.day_core.specs.Splitting.{Split}
 use Rattle.top_cell.specs.Boards.{CellId, IsOn, WriterAt}
 use Rattle.stock_workers.specs.Working.{WritersAt}
 use Rattle.stock_workers.specs.declared.forking.Finished.{Finished}
+use Rattle.stock_workers.specs.declared.forking.Job.{Job}
 use Rattle.stock_workers.specs.declared.forking.Waiting.{Waiting}
 
 -- a worker of the day that hasn't started: the writers of its stocks have published nothing, and are of the
@@ -46,6 +47,15 @@ pub record HasFinished (split : Split) (worker : ℕ) (refused : List Piece) (st
   pub part : IsReplayedPart split worker refused stocks
   pub writers_are : WritersAt split.day (last_message split.day)
       (own_locates split.workers worker split.day) writers
+
+-- a thread may come to a worker that hasn't started
+abbrev pub MayStart : {A : Type 0} → List CellId → Job A → Type 0
+MayStart board job = IfSome job.waiting (λ w. IsWaiting w.parts.now board w.worker w.writers.items)
+
+-- what a thread has made of it
+abbrev pub IsDone : {A : Type 0} → Job A → Job A → Type 0
+IsDone old new = IfSome old.waiting (λ w. IfOk new.made (λ m. IsFinished w.parts.now w.worker w.writers.items
+    m.refused.items m.stocks.items m.writers.items))
 
 -- what all workers make, in the order of their numbers, where none was refused memory: the writers of their
 -- stocks were these, by locate code

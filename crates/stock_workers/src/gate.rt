@@ -16,3 +16,18 @@ pub struct FreeGate;
 impl Gate for FreeGate {
     fn at<R: Threads + Wait + Sync>(&self, _rt: &R, _worker: u32, _message: u32) {}
 }
+
+/// A gate for workers of whom several are done by one thread, one after another: so many by each, of numbers beside each
+/// other. It calls another gate with the number of the thread in place of the worker's.
+#[derive(Drop)]
+pub(crate) struct ThreadGate<'g, G> {
+    pub gate: &'g G,
+    pub each: u32,
+}
+
+impl<G: Gate> Gate for ThreadGate<'_, G> {
+    fn at<R: Threads + Wait + Sync>(&self, rt: &R, worker: u32, message: u32) {
+        let thread = worker.checked_div(self.each).unwrap_or(0);
+        self.gate.at(rt, thread, message);
+    }
+}

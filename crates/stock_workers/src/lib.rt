@@ -23,5 +23,7 @@ mod running;
 mod worker;
 
 pub use gate::{FreeGate, Gate};
-pub use running::{Replayed, RunFault, Summary, run, run_parts, summarize_parts};
+pub use running::{
+    Replayed, RunFault, Summary, run, run_parts, summarize_in_threads, summarize_parts,
+};
 pub use worker::Worker;

@@ -7,9 +7,11 @@ ghost use Rattle.stock_workers.specs.Running.{AreFinished, AreWaiting, at_last};
 ghost use Rattle.stock_workers.specs.declared.running.RunFault.TheVariants.{Memory};
 
 use crate::forking::{Finished, Waiting, finish_all};
-use crate::gate::Gate;
+use crate::gate::{Gate, ThreadGate};
 use binaryfile::Day;
-use day_core::{Parts, Piece, SplitFault, all_refused, by_worker, in_order, outcomes_with, split};
+use day_core::{
+    Parts, Piece, SplitFault, WorkerCount, all_refused, by_worker, in_order, outcomes_with, split,
+};
 use itch_table::Outcome;
 use std::alloc::{AllocError, Allocator};
 use std::sync::Wait;
@@ -145,8 +147,52 @@ pub fn summarize_parts<R: Threads + Wait + Sync, A: Allocator + Copy + Send + Sy
     ensures writers { IfOk result (λ made.
         made.writers.items ≡ map (at_last parts.now.day) writers.items) }
 {
+    summarize_by(rt, alloc, parts, parts.workers(), board, writers, gate)
+}
+
+/// The same as [`summarize_parts`] by so many threads at most, where the day may be split for more workers than that:
+/// each thread does all messages of one worker after those of another, so that the books of few stocks are in use at a
+/// time. The gate is called with the number of the thread, from 0, in place of the worker's: the workers of a thread are
+/// those of numbers beside each other.
+pub fn summarize_in_threads<R: Threads + Wait + Sync, A: Allocator + Copy + Send + Sync, G: Gate>(
+    rt: &R,
+    alloc: A,
+    parts: &Parts<'_, A>,
+    threads: WorkerCount,
+    board: &Board<'_, A>,
+    writers: Vec<TopWriter, A>,
+    gate: &G,
+) -> Result<Summary<A>, AllocError>
+    requires { AreNew parts.now.day (locates_of_day parts.now.day) board.now writers.items }
+    ensures summary { IfOk result (λ made. IsSummary parts.now.day
+        made.refused.items made.stocks.items made.event) }
+    ensures writers { IfOk result (λ made.
+        made.writers.items ≡ map (at_last parts.now.day) writers.items) }
+{
+    let each = parts.workers().div_ceil(threads.get());
+    let gate = ThreadGate { gate, each };
+    summarize_by(rt, alloc, parts, threads.get(), board, writers, &gate)
+}
+
+// The same, by so many threads, with a gate that is called with the workers' numbers.
+fn summarize_by<R: Threads + Wait + Sync, A: Allocator + Copy + Send + Sync, G: Gate>(
+    rt: &R,
+    alloc: A,
+    parts: &Parts<'_, A>,
+    threads: u32,
+    board: &Board<'_, A>,
+    writers: Vec<TopWriter, A>,
+    gate: &G,
+) -> Result<Summary<A>, AllocError>
+    requires threads { 0 < threads }
+    requires new { AreNew parts.now.day (locates_of_day parts.now.day) board.now writers.items }
+    ensures summary { IfOk result (λ made. IsSummary parts.now.day
+        made.refused.items made.stocks.items made.event) }
+    ensures writers { IfOk result (λ made.
+        made.writers.items ≡ map (at_last parts.now.day) writers.items) }
+{
     let waiting = waiting_workers(alloc, parts, writers)?;
-    let made = finish_all(rt, alloc, board, gate, waiting)?;
+    let made = finish_all(rt, alloc, board, gate, threads as usize, waiting)?;
     let gathered = gather(alloc, parts, made)?;
     Ok(Summary {
         refused: all_refused(alloc, parts, gathered.refused)?,

@@ -23,6 +23,9 @@ use top_cell::{Board, TopWriter};
 // How many stocks a worker has at least to look ahead. Those of fewer stay in the processor's caches by themselves.
 const MANY_STOCKS: usize = 512;
 
+// How many workers share a day at least for the messages of each to lie so far apart that it finds them ahead.
+const MANY_WORKERS: u32 = 16;
+
 /// One worker of a day that is split, with the writers of its stocks' cells: whatever it has done is shown there.
 ///
 /// It borrows the parts of the day. It is seen as where it stands in the day, and the cells of its stocks.
@@ -166,13 +169,29 @@ impl<'p, A: Allocator + Copy> Worker<'p, A> {
             return wait - 1;
         }
         if self.runner.stock_count() < MANY_STOCKS {
-            return TURNS_AHEAD - 1;
+            return self.find_ahead();
         }
         self.runner.look_ahead();
         let machines = self.runner.touch_ahead();
         let cells = self.touch_cells(board);
         let rows = self.runner.touch_rows_ahead();
         if machines.wrapping_add(cells).wrapping_add(rows) == u64::MAX {
+            0
+        } else {
+            TURNS_AHEAD - 1
+        }
+    }
+
+    // The same for a worker of few stocks, whose machines, cells and rows stay in the processor's caches: only its
+    // messages are found ahead, where many workers share the day.
+    fn find_ahead(&mut self) -> usize
+        ensures { self.new ≡ self.old }
+    {
+        if self.runner.workers() < MANY_WORKERS {
+            return TURNS_AHEAD - 1;
+        }
+        self.runner.look_ahead();
+        if self.runner.touch_messages_ahead() == u64::MAX {
             0
         } else {
             TURNS_AHEAD - 1

@@ -4,14 +4,14 @@ ghost use Rattle.top_cell.specs.Boards.{AreNew, IsOn};
 
 use crate::screens::first_screen;
 use binaryfile::{Day, Feed, Sink};
-use day_core::WorkerCount;
+use day_core::{WorkerCount, parts_of};
 use itch_engine::replay_run;
 use std::alloc::{Allocator, Global};
 use std::sync::Wait;
 use std::sync::atomic::{AtomicU64, Ordering};
 use std::test::Fail;
 use std::thread::{Threads, join, yield_now};
-use stock_workers::{Gate, run};
+use stock_workers::{Gate, run, summarize_in_threads};
 use test_support::{AAPL, MSFT, crossed_book, day_with, same};
 use top_cell::{Board, Reading, Screen};
 
@@ -93,6 +93,20 @@ fn two_workers_of_a_report_run_beside_each_other(rt: HostRuntime) -> Result<(), 
         &(returned, met),
         &(Ok(0), 2),
     )
+}
+
+#[test]
+fn threads_of_several_workers_run_beside_each_other(rt: HostRuntime) -> Result<(), Fail> {
+    let alloc = rt.alloc();
+    // Of four workers in two threads, worker 2 has the first stock here, and worker 1 the second one.
+    let day = day_with(alloc, &[MSFT.directory(), AAPL.directory()])?;
+    let gate = Meeting::new();
+    let parts = parts_of(&rt, alloc, &day, WorkerCount::new(4).unwrap())?;
+    let threads = WorkerCount::new(2).unwrap();
+    let (board, writers) = Board::new(&alloc, &day)?;
+    let done = summarize_in_threads(&rt, alloc, &parts, threads, &board, writers, &gate).is_ok();
+    let met = gate.met.load(Ordering::SeqCst);
+    same("who met the other in two threads", &(done, met), &(true, 2))
 }
 
 // Holds the worker at message 2 until a screen has seen message 1.

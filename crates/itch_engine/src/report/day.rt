@@ -11,13 +11,13 @@ ghost use Rattle.itch_engine.specs.Tallies.{IsTally};
 use crate::report::messages::{Tally, put_file_line, put_refused_lines, tally_of};
 use crate::report::stock::put_stock;
 use binaryfile::Day;
-use day_core::{Parts, WorkerCount, parts_of};
+use day_core::{Parts, WorkerCount, parts_of, workers_for};
 use itch_table::Side;
 use std::alloc::{AllocError, Allocator};
 use std::sync::Wait;
 use std::thread::Threads;
 use stock_machine::Stock;
-use stock_workers::{Gate, Summary, summarize_parts};
+use stock_workers::{Gate, Summary, summarize_in_threads};
 use top_cell::Board;
 
 /// The report of a day, and how many of its messages were refused.
@@ -27,18 +27,19 @@ pub(crate) struct Report<A: Allocator> {
     pub refused: u32,
 }
 
-// What a day that is split makes in short, replayed by its workers in threads, on a board of its own.
+// What a day that is split makes in short, replayed by so many threads, on a board of its own.
 fn replay<R: Threads + Wait + Sync, A: Allocator + Copy + Send + Sync, G: Gate>(
     rt: &R,
     alloc: A,
     parts: &Parts<'_, A>,
+    threads: WorkerCount,
     gate: &G,
 ) -> Result<Summary<A>, AllocError>
     ensures { IfOk result (λ summary. IsSummary parts.now.day
         summary.refused.items summary.stocks.items summary.event) }
 {
     let (board, writers) = Board::of_stocks(&alloc, parts.day(), parts.locates())?;
-    summarize_parts(rt, alloc, parts, &board, writers, gate)
+    summarize_in_threads(rt, alloc, parts, threads, &board, writers, gate)
 }
 
 // Adds the lines of a stock.
@@ -116,8 +117,8 @@ pub(crate) fn report_of_day<R: Threads + Wait + Sync, A: Allocator + Copy + Send
     ensures text { IfOk result (λ found. found.text.items ≡ report_of_file day.now) }
     ensures refused { IfOk result (λ found. found.refused ≡ refused_count day.now.payloads) }
 {
-    let parts = parts_of(rt, alloc, day, workers)?;
-    let summary = replay(rt, alloc, &parts, gate)?;
+    let parts = parts_of(rt, alloc, day, workers_for(alloc, day, workers)?)?;
+    let summary = replay(rt, alloc, &parts, workers, gate)?;
     let tally = tally_of(&parts, &summary.refused);
     let text = report_text(alloc, day, &summary, tally)?;
     Ok(Report {

@@ -4,22 +4,22 @@ use Rattle.day_core.specs.Replaying.{last_machine}
 use Rattle.stock_workers.specs.Running.{at_last}
 use Rattle.stock_workers.proofs.Dealing.{all_at_last, find, found, waits}
 use Rattle.stock_workers.proofs.Joined.{all_may_start}
-use Rattle.stock_workers.proofs.running.summarize_parts.Goals as goal
+use Rattle.stock_workers.proofs.running.summarize_by.Goals as goal
 
-pub finish_all-requires-after_bounds : goal.finish_all-requires-after_bounds
-finish_all-requires-after_bounds g c κs within =
+pub finish_all-requires-clause-wait : goal.finish_all-requires-clause-wait
+finish_all-requires-clause-wait g c κs within =
     let ws = c.args.writers.items in
     let board = c.args.board.now in
     let split = c.args.parts.now in
-    let listed = found split.day board ws c.requires in
+    let listed = found split.day board ws c.requires.new in
     all_may_start split (find ws) c.in_ok-waiting.waiting.items board (c.in_ok-waiting.ensures (find ws) listed)
-    (waits split.day board ws c.requires split.workers)
+    (waits split.day board ws c.requires.new split.workers)
 
 pub gather-requires : goal.gather-requires
 gather-requires g c =
     let ws = c.args.writers.items in
     let split = c.args.parts.now in
-    let listed = found split.day c.args.board.now ws c.requires in
+    let listed = found split.day c.args.board.now ws c.requires.new in
     (find ws, c.in_ok-made.ensures split (find ws) (c.in_ok-waiting.ensures (find ws) listed))
 
 pub in_order-requires : goal.in_order-requires
@@ -29,7 +29,7 @@ pub in_order-requires-2 : goal.in_order-requires-2
 in_order-requires-2 g c =
     let ws = c.args.writers.items in
     let split = c.args.parts.now in
-    let listed = found split.day c.args.board.now ws c.requires in
+    let listed = found split.day c.args.board.now ws c.requires.new in
     (λ (l : ℕ). at_last split.day (find ws l), c.in_ok-gathered.ensures.writers (find ws) (c.in_ok-made.ensures split (find ws) (c.in_ok-waiting.ensures (find ws) listed)))
 
 pub returns-clause-summary : goal.returns-clause-summary
@@ -43,6 +43,6 @@ pub returns-clause-writers : goal.returns-clause-writers
 returns-clause-writers g c =
     let ws = c.args.writers.items in
     let split = c.args.parts.now in
-    let listed = found split.day c.args.board.now ws c.requires in
+    let listed = found split.day c.args.board.now ws c.requires.new in
     c.in_ok-in_order-2.ensures.order (λ (l : ℕ). at_last split.day (find ws l)) (c.in_ok-gathered.ensures.writers (find ws) (c.in_ok-made.ensures split (find ws) (c.in_ok-waiting.ensures (find ws) listed)))
     ∙ all_at_last split.day ws (locates_of_day split.day) listed
