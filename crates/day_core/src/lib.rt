@@ -3,7 +3,8 @@
 //! [`split`] says which messages each of 1 to 64 workers does, and [`replay_parts`] does them, one worker after
 //! another: the outcome of each message, and each stock's machine after the day. [`Parts::own`] gives a worker's
 //! messages one after another ([`OwnMessages`]), each by its number and its payload. [`parts_of`] is [`split`] for a
-//! number that is from 1 to 64 by its type ([`WorkerCount`]).
+//! number that is from 1 to 64 by its type ([`WorkerCount`]), and [`workers_for`] says for how many workers a day is split
+//! where some threads do several of them each.
 //!
 //! ```rust
 //! let parts = split(rt, alloc, &day, workers)?;

@@ -5,7 +5,8 @@ use std::thread::Threads;
 /// Is called by each worker before each of its messages, in the worker's own thread, and may wait there: so a test can
 /// hold a worker until another has come somewhere, or until a screen has seen something.
 pub trait Gate: Sync {
-    /// A worker, by its number from 0, comes to a message of the day, by its number from 1.
+    /// A worker, by its number from 0, comes to a message of the day, by its number from 1. Where one thread does several
+    /// workers, the number is that of the thread.
     fn at<R: Threads + Wait + Sync>(&self, rt: &R, worker: u32, message: u32);
 }
 

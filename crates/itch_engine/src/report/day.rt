@@ -103,7 +103,8 @@ fn report_text<A: Allocator + Copy>(
     Ok(text)
 }
 
-/// Replays a day by this many workers in threads, each of which calls the gate before each message, and reports.
+/// Replays a day by this many workers in threads, each of which calls the gate before each message, and reports. A day of
+/// many stocks is split for more, of whom each thread does several one after another.
 #[tactic(auto, unfolding(crate::specs::Report::refused_count))]
 pub(crate) fn report_of_day<R: Threads + Wait + Sync, A: Allocator + Copy + Send + Sync, G: Gate>(
     rt: &R,
