@@ -179,7 +179,7 @@ impl<A: Allocator> Day<A> {
     }
 
     /// Reads bytes where the payload of this number is looked for, from the nearest place before it that the day has
-    /// kept, in the same way. A number that no payload has reads nothing.
+    /// kept, in the same way. A number that no payload has may read other bytes or none.
     pub fn touch_near(&self, number: u32) -> u64 {
         let Some(start) = self
             .starts

@@ -20,7 +20,7 @@ use std::thread::Threads;
 // In how many chunks the messages of a long day are dealt, each by one thread.
 const CHUNKS: u32 = 16;
 
-/// How many messages a day has at least to be dealt in chunks.
+/// How many messages a day has at least to be dealt in chunks, and to be split for more workers than threads.
 pub(crate) const MANY: u32 = 1 << 17;
 
 /// The messages of a stretch of a day, dealt to the workers of their stocks.
@@ -60,8 +60,8 @@ pub fn event_after(payload: &[u8], before: Option<u8>) -> Option<u8>
     }
 }
 
-// For how many messages each worker's list has room at first: twice its share of so many, so that few lists grow. What a
-// list doesn't need isn't touched.
+// For how many messages each worker's list has room at first: twice its share of so many, so that few lists grow.
+// What a list doesn't need isn't touched.
 fn room_for(messages: u32, workers: u32) -> usize {
     2 * messages.checked_div(workers).unwrap_or(0) as usize
 }

@@ -83,8 +83,8 @@ impl<'d, A: Allocator> OwnMessages<'d, A> {
         self.day.touch_after(&self.near)
     }
 
-    /// Reads bytes of the day where the next messages are looked for, so many of them at most and as far as they are in
-    /// the same stretch, as [`Day::touch_near`] does.
+    /// Reads bytes of the day where the next messages are looked for, so many of them at most and as far as they are
+    /// in the same stretch, as [`Day::touch_near`] does.
     pub(crate) fn touch_next(&self, count: usize) -> u64 {
         let mut sum: u64 = 0;
         for number in self.numbers.iter().take(count) {

@@ -10,7 +10,10 @@ use binaryfile::Day;
 use std::alloc::{AllocError, Allocator};
 use std::thread::Threads;
 
-// How many stocks a worker has at least where a thread does several workers one after another.
+/// How many workers share a day at least for the messages of each to lie so far apart that it finds them ahead.
+pub const MANY_WORKERS: u32 = 16;
+
+// How many stocks a worker has, about, where a thread does several workers one after another.
 const STOCKS_EACH: usize = 128;
 
 /// Why a day isn't split.
@@ -30,9 +33,12 @@ impl From<AllocError> for SplitFault {
     }
 }
 
-/// For how many workers a day is split where so many threads replay it, so that each thread does several workers one
-/// after another: of as few stocks that their books stay in the processor's caches, where a long day has many. It goes
-/// by the stocks of the day's first messages. Whatever the number, the day makes the same.
+/// For how many workers a day is split where so many threads replay it: for [`MANY_WORKERS`] to 64, as many for each
+/// thread, where a long day has many stocks, so that a thread does several workers one after another, of as few stocks
+/// that their books stay in the processor's caches; else for the threads alone. How many stocks the day has is
+/// estimated from its first messages. Whatever the number, the day makes the same.
+///
+/// The error says that memory was refused.
 pub fn workers_for<A: Allocator + Copy>(
     alloc: A,
     day: &Day<A>,
@@ -47,7 +53,11 @@ pub fn workers_for<A: Allocator + Copy>(
     let stocks = stocks_among_first(alloc, day)?;
     let most = WorkerCount::MOST / count;
     let each = (stocks / STOCKS_EACH / count as usize).clamp(1, most as usize);
-    Ok(WorkerCount::new(count * each as u32).unwrap_or(threads))
+    let workers = count * each as u32;
+    if workers < MANY_WORKERS {
+        return Ok(threads);
+    }
+    Ok(WorkerCount::new(workers).unwrap_or(threads))
 }
 
 /// Splits a day as [`split`] does, for a number of workers that is from 1 to 64 by its type.
@@ -74,7 +84,8 @@ pub fn parts_of<'d, R: Threads + Sync, A: Allocator + Copy + Send + Sync>(
 /// Splits a day into parts for this many workers, from 1 to 64. The parts borrow the day.
 ///
 /// [`SplitFault::Workers`] where the number is another, which is looked at first, and else [`SplitFault::Memory`] where
-/// memory is refused; there are no parts after a fault. Each list of messages grows by doubling.
+/// memory is refused; there are no parts after a fault. Each list of messages has room for twice its share at first, and
+/// grows by doubling.
 pub fn split<'d, R: Threads + Sync, A: Allocator + Copy + Send + Sync>(
     rt: &R,
     alloc: A,

@@ -33,7 +33,8 @@ pub(crate) struct Finished<A: Allocator> {
     pub writers: Vec<TopWriter, A>,
 }
 
-/// The work of a thread on one worker: the worker, until it has started, and then what it has made.
+/// The work of a thread on one worker: the worker, until it has started, and then what it has made. Before that it has
+/// made nothing, which is written as an error.
 #[derive(Drop)]
 pub(crate) struct Job<'p, A: Allocator> {
     pub waiting: Option<Waiting<'p, A>>,

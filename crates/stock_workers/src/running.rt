@@ -7,7 +7,7 @@ ghost use Rattle.stock_workers.specs.Running.{AreFinished, AreWaiting, at_last};
 ghost use Rattle.stock_workers.specs.declared.running.RunFault.TheVariants.{Memory};
 
 use crate::forking::{Finished, Waiting, finish_all};
-use crate::gate::{Gate, ThreadGate};
+use crate::gate::{Gate, GroupGate};
 use binaryfile::Day;
 use day_core::{
     Parts, Piece, SplitFault, WorkerCount, all_refused, by_worker, in_order, outcomes_with, split,
@@ -151,9 +151,9 @@ pub fn summarize_parts<R: Threads + Wait + Sync, A: Allocator + Copy + Send + Sy
 }
 
 /// The same as [`summarize_parts`] by so many threads at most, where the day may be split for more workers than that:
-/// each thread does all messages of one worker after those of another, so that the books of few stocks are in use at a
-/// time. The gate is called with the number of the thread, from 0, in place of the worker's: the workers of a thread are
-/// those of numbers beside each other.
+/// the workers stand in groups of numbers beside each other, and each thread does those of a group, each of them to the
+/// day's end before the next, so that the books of few stocks are in use at a time. The gate is called with the number
+/// of the group, from 0, in place of the worker's. After an error the writers are gone.
 pub fn summarize_in_threads<R: Threads + Wait + Sync, A: Allocator + Copy + Send + Sync, G: Gate>(
     rt: &R,
     alloc: A,
@@ -170,7 +170,7 @@ pub fn summarize_in_threads<R: Threads + Wait + Sync, A: Allocator + Copy + Send
         made.writers.items ≡ map (at_last parts.now.day) writers.items) }
 {
     let each = parts.workers().div_ceil(threads.get());
-    let gate = ThreadGate { gate, each };
+    let gate = GroupGate { gate, each };
     summarize_by(rt, alloc, parts, threads.get(), board, writers, &gate)
 }
 

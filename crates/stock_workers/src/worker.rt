@@ -11,7 +11,7 @@ ghost use Rattle.stock_workers.specs.Working.{PublishesTurn, ShowsTurn, WritersA
 
 use crate::forking::Waiting;
 use crate::gate::Gate;
-use day_core::{Parts, Piece, Prefix, Runner, TURNS_AHEAD};
+use day_core::{MANY_WORKERS, Parts, Piece, Prefix, Runner, TURNS_AHEAD};
 use itch_table::Top;
 use std::alloc::{AllocError, Allocator};
 use std::marker::Model;
@@ -22,9 +22,6 @@ use top_cell::{Board, TopWriter};
 
 // How many stocks a worker has at least to look ahead. Those of fewer stay in the processor's caches by themselves.
 const MANY_STOCKS: usize = 512;
-
-// How many workers share a day at least for the messages of each to lie so far apart that it finds them ahead.
-const MANY_WORKERS: u32 = 16;
 
 /// One worker of a day that is split, with the writers of its stocks' cells: whatever it has done is shown there.
 ///
@@ -158,7 +155,8 @@ impl<'p, A: Allocator + Copy> Worker<'p, A> {
     /// the processor fetches the memory of all of them at once: a publish waits for all reads before it, so turns by
     /// themselves would wait for the memory of one message after another. First the machines are read, then the cells,
     /// and then the rows of the next turns, where the machines that the call before has read lead, each in a loop of
-    /// its own, so short that the processor is in all of its rounds at once. A worker of few stocks does without.
+    /// its own, so short that the processor is in all of its rounds at once. A worker of few stocks does without these;
+    /// where many workers share the day, it finds its messages ahead all the same, as one of many stocks does.
     /// Nothing that is seen of the worker changes. It returns what `wait` is after the next turn; the number depends on
     /// what was read, so that the reads aren't left out.
     pub(crate) fn look_ahead(&mut self, board: &Board<'_, A>, wait: usize) -> usize
@@ -175,14 +173,16 @@ impl<'p, A: Allocator + Copy> Worker<'p, A> {
         let machines = self.runner.touch_ahead();
         let cells = self.touch_cells(board);
         let rows = self.runner.touch_rows_ahead();
-        if machines.wrapping_add(cells).wrapping_add(rows) == u64::MAX {
+        let messages = self.touch_messages();
+        let sum = machines.wrapping_add(cells).wrapping_add(rows);
+        if sum.wrapping_add(messages) == u64::MAX {
             0
         } else {
             TURNS_AHEAD - 1
         }
     }
 
-    // The same for a worker of few stocks, whose machines, cells and rows stay in the processor's caches: only its
+    // The same for a worker of few stocks, whose machines, cells and rows mostly stay in the processor's caches: only its
     // messages are found ahead, where many workers share the day.
     fn find_ahead(&mut self) -> usize
         ensures { self.new ≡ self.old }
@@ -191,11 +191,19 @@ impl<'p, A: Allocator + Copy> Worker<'p, A> {
             return TURNS_AHEAD - 1;
         }
         self.runner.look_ahead();
-        if self.runner.touch_messages_ahead() == u64::MAX {
+        if self.touch_messages() == u64::MAX {
             0
         } else {
             TURNS_AHEAD - 1
         }
+    }
+
+    // Reads the day's bytes where the messages to be found next are looked for, where many workers share the day.
+    fn touch_messages(&self) -> u64 {
+        if self.runner.workers() < MANY_WORKERS {
+            return 0;
+        }
+        self.runner.touch_messages_ahead()
     }
 
     // Reads the cells of the messages whose machines are read.

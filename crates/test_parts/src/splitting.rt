@@ -238,7 +238,8 @@ fn day_of_stocks<A: Allocator + Copy>(alloc: A, stocks: u16) -> Result<Day<A>, F
 #[test]
 fn threads_have_several_workers_where_a_day_has_many_stocks(rt: HostRuntime) -> Result<(), Fail> {
     for (stocks, counts) in [
-        (383, [(1, 2), (3, 3), (64, 64)]),
+        (2_047, [(1, 1), (16, 16), (64, 64)]),
+        (2_048, [(1, 16), (2, 16), (5, 5)]),
         (9_000, [(1, 64), (3, 63), (33, 33)]),
     ] {
         let day = day_of_stocks(rt.alloc(), stocks)?;

@@ -31,7 +31,7 @@ fn report_of_digits<R: Threads + Wait + Sync, A: Allocator + Copy + Send + Sync>
 
 /// Reads a day file that is given in hexadecimal digits, replays it and writes the report, as [`replay_run`] does.
 ///
-/// One worker does the whole day. Spaces and line feeds are passed over. [`ProgFault::TooManyBytes`] comes above
+/// One thread does the whole day. Spaces and line feeds are passed over. [`ProgFault::TooManyBytes`] comes above
 /// [`MOST_HEX_BYTES`] bytes of input, and [`ProgFault::BadHex`] only where there is an odd number of digits, or a byte
 /// that is no hexadecimal digit, no space and no line feed.
 ///

@@ -36,9 +36,11 @@ pub(crate) fn report_of_file<R: Threads + Wait + Sync, A: Allocator + Copy + Sen
 /// [`ProgFault::Read`] comes exactly where the feed has failed, [`ProgFault::TooManyBytes`] above
 /// [`MOST_FILE_BYTES`] bytes, and [`ProgFault::TooManyMessages`] above [`MOST_MESSAGES`] messages. The report is the
 /// same for every number of workers: each replays the messages of its stocks in a thread of its own, calls the gate
-/// before each of them, and may wait there. Where no thread can be made, the work is done all the same. Where a long day
-/// has many stocks, a worker replays those of some stocks to the day's end and then those of others: so each stock's
-/// messages come in their order, but not all of a worker's.
+/// before each of them, and may wait there. Where no thread can be made, the work is done all the same.
+///
+/// Where a long day has many stocks, a worker here is a group of workers of fewer stocks each, of which its thread does
+/// one after another, as [`stock_workers::summarize_in_threads`] says: each stock's messages come in their order, but
+/// not all of a group's, and the gate is called with the group's number.
 ///
 /// ```text
 /// let mut feed = Feed::new(file);

@@ -103,14 +103,14 @@ fn report_text<A: Allocator + Copy>(
     Ok(text)
 }
 
-/// Replays a day by this many workers in threads, each of which calls the gate before each message, and reports. A day of
-/// many stocks is split for more, of whom each thread does several one after another.
+/// Replays a day by this many threads, whose workers call the gate before each message, and reports. A long day of many
+/// stocks is split for more workers, of which each thread does several one after another.
 #[tactic(auto, unfolding(crate::specs::Report::refused_count))]
 pub(crate) fn report_of_day<R: Threads + Wait + Sync, A: Allocator + Copy + Send + Sync, G: Gate>(
     rt: &R,
     alloc: A,
     day: &Day<A>,
-    workers: WorkerCount,
+    threads: WorkerCount,
     gate: &G,
 ) -> Result<Report<A>, AllocError>
     requires few { length day.now.payloads < 2 ^ 32 }
@@ -118,8 +118,8 @@ pub(crate) fn report_of_day<R: Threads + Wait + Sync, A: Allocator + Copy + Send
     ensures text { IfOk result (λ found. found.text.items ≡ report_of_file day.now) }
     ensures refused { IfOk result (λ found. found.refused ≡ refused_count day.now.payloads) }
 {
-    let parts = parts_of(rt, alloc, day, workers_for(alloc, day, workers)?)?;
-    let summary = replay(rt, alloc, &parts, workers, gate)?;
+    let parts = parts_of(rt, alloc, day, workers_for(alloc, day, threads)?)?;
+    let summary = replay(rt, alloc, &parts, threads, gate)?;
     let tally = tally_of(&parts, &summary.refused);
     let text = report_text(alloc, day, &summary, tally)?;
     Ok(Report {
