@@ -35,7 +35,7 @@ event_stays (Known (System head m)) locate event is = let never : ⊥ = cc in ab
 event_stays shape locate event is = refl
 
 -- the event of a stretch with one message more
-pub event_or_before : (shape : Shape) (event before : Option ℕ) → option_or (event_with shape event) before ≡ event_with shape (option_or event before)
+event_or_before : (shape : Shape) (event before : Option ℕ) → option_or (event_with shape event) before ≡ event_with shape (option_or event before)
 event_or_before (Known (System head m)) event before = refl
 event_or_before shape event before = refl
 

@@ -4,10 +4,7 @@ mod Chunks
 mod Dealt
 mod OwnLeft
 pub mod Kept
-pub mod Placing
-pub mod Prefixes
-pub mod FirstStocks
-mod Outlines
+mod Placing
 pub mod Progress
 pub mod Running
 mod Whole

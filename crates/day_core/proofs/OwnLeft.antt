@@ -1,23 +1,36 @@
 -- A worker's messages of a day, each with its payload: those that are left, and those that were found ahead.
-use Rattle.std.proofs.Common.{◌≡◌, ℕ, zero, suc, ◌+◌, ◌-◌, ◌<◌, ◌≤◌, List, [], ◌∷◌, ◌++◌, length, drop, take, get_or, eqb, map, false, Option, Some, None, IfNone, IfSome, MatchOption, refl, append-nil, append_assoc, ap, sym, subst, ◌∙◌, arith}
+use Rattle.std.proofs.Common.{◌≡◌, ℕ, zero, suc, ◌+◌, ◌-◌, ◌<◌, ◌≤◌, List, [], ◌∷◌, ◌++◌, length, drop, take, get_or, eqb, map, true, false, Option, Some, None, IfNone, IfSome, MatchOption, refl, append-nil, append_assoc, ap, sym, subst, ◌∙◌, arith}
 use Rattle.std.specs.List.{All, Contains, range_with_len, slice_get}
 use Rattle.std.specs.Option.{option_map, option_to_list}
 use Rattle.std.proofs.lemmas.List.{length-drop, length-map, map-append, take_all}
+use Rattle.std.proofs.lemmas.List.Elements.{All-map}
 use Rattle.std.proofs.lemmas.List.Kept.{IsStrictlyIncreasing-filter}
 use Rattle.std.proofs.lemmas.Option.{slice_get-get_or, slice_get_past}
 use Rattle.itch_table.proofs.DayLocates.{range_rises}
 use Rattle.itch_table.specs.declared.outcome.Part.TheVariants.{Locate}
 use Rattle.itch_table.specs.Parts.{part}
 use Rattle.itch_table.specs.Projection.{payload_at}
-use Rattle.day_core.specs.Owners.{is_own, own_messages, own_of, part_at}
-use Rattle.day_core.specs.Workers.{AreAhead, AreOfStocks, IsFound, WorkerState, after_others, numbered, worker_messages}
+use Rattle.day_core.specs.Owners.{is_own, own_locates, own_messages, own_of, part_at}
+use Rattle.day_core.specs.Workers.{AreAhead, AreOfStocks, IsFound, WorkerState, numbered, worker_messages}
 use Rattle.day_core.specs.declared.runner.FoundMessage.{FoundMessage}
 use Rattle.day_core.proofs.Placing.{place_below}
-use Rattle.day_core.proofs.Running.{payload_is}
+use Rattle.day_core.proofs.Progress.{own_passes, own_within}
+use Rattle.day_core.proofs.Running.{code_there, own_code, payload_is}
 
 -- the message of a day with this number
 abbrev message : List (List ℕ) → ℕ → ℕ × List ℕ
 message day n = (n, payload_at day n)
+
+-- each of a worker's messages is of one of its stocks
+pub all_of_own : (workers worker : ℕ) (day : List (List ℕ)) → AreOfStocks (own_locates workers worker day) (own_messages workers worker day)
+all_of_own workers worker day =
+    All-map (λ m. (locate : ℕ) × (part m.1 ≡ Locate locate) × (locate < 0x1_0000 → Contains (own_locates workers worker day) locate)) (message day) (own_of workers worker day) (λ i d lt.
+    let n = get_or (own_of workers worker day) i d in
+    let within = own_within workers worker day i d lt in
+    let passes = own_passes workers worker day i d lt in
+    let code = own_code workers worker (part_at day n) passes in
+    let own : is_own workers worker (Locate code.0) ≡ true = ap (is_own workers worker) (sym code.1) ∙ passes in
+    (code.0, code.1, λ fits. code_there workers worker day n code.0 within.0 within.1 fits code.1 own))
 
 -- ---- those that are left
 
@@ -124,58 +137,56 @@ none_found [] new none = (refl, none)
 none_found (f ∷ xs) new none = let never : ⊥ = cc in absurd never
 
 -- a runner's next message, where it has one
-module _ (s : WorkerState) (before : ℕ) (locates : List ℕ) (next : Option FoundMessage) (ahead : List FoundMessage) (taken : ℕ) (left : List (ℕ × List ℕ)) (has : AreAhead s before locates next ahead taken left)
+module _ (s : WorkerState) (locates : List ℕ) (next : Option FoundMessage) (ahead : List FoundMessage) (taken : ℕ) (left : List (ℕ × List ℕ)) (has : AreAhead s locates next ahead taken left)
     (f : FoundMessage) (is : next ≡ Some f) where
-  at : (s.done < length (worker_messages s)) × ((before + f.number, f.payload.now) ≡ message s.day (get_or (worker_messages s) s.done 0))
-      × (map (after_others before) (numbered (drop taken ahead) ++ left) ≡ drop (s.done + 1) (own_messages s.workers s.worker s.day))
-  at = first_left (message s.day) (worker_messages s) s.done _ _ (sym (ap (λ (o : Option FoundMessage). map (after_others before) (numbered (option_to_list o ++ drop taken ahead) ++ left)) is) ∙ has.all)
+  at : (s.done < length (worker_messages s)) × ((f.number, f.payload.now) ≡ message s.day (get_or (worker_messages s) s.done 0))
+      × (numbered (drop taken ahead) ++ left ≡ drop (s.done + 1) (own_messages s.workers s.worker s.day))
+  at = first_left (message s.day) (worker_messages s) s.done _ _ (sym (ap (λ (o : Option FoundMessage). numbered (option_to_list o ++ drop taken ahead) ++ left) is) ∙ has.all)
 
   pub next_more : s.done < length (worker_messages s)
   next_more = at.0
 
-  pub next_number : before + f.number ≡ get_or (worker_messages s) s.done 0
+  pub next_number : f.number ≡ get_or (worker_messages s) s.done 0
   next_number = ap (λ (m : ℕ × List ℕ). m.0) at.1
 
-  pub next_payload : f.payload.now ≡ payload_at s.day (before + f.number)
+  pub next_payload : f.payload.now ≡ payload_at s.day f.number
   next_payload = ap (λ (m : ℕ × List ℕ). m.1) at.1 ∙ ap (payload_at s.day) (sym next_number)
 
-  pub next_after : map (after_others before) (numbered (drop taken ahead) ++ left) ≡ drop (s.done + 1) (own_messages s.workers s.worker s.day)
+  pub next_after : numbered (drop taken ahead) ++ left ≡ drop (s.done + 1) (own_messages s.workers s.worker s.day)
   next_after = at.2
 
   pub next_index : f.index < length locates
   next_index = (subst (λ (o : Option FoundMessage). IfSome o (λ x. IsFound locates x.payload.now x.index)) is has.next_found).within
 
-  pub next_stock : part_at s.day (before + f.number) ≡ Locate (get_or locates f.index 0)
+  pub next_stock : part_at s.day f.number ≡ Locate (get_or locates f.index 0)
   next_stock = ap part (sym next_payload) ∙ (subst (λ (o : Option FoundMessage). IfSome o (λ x. IsFound locates x.payload.now x.index)) is has.next_found).stock_is
 
 -- and where it has none
-pub none_next : (s : WorkerState) (before : ℕ) (locates : List ℕ) (next : Option FoundMessage) (ahead : List FoundMessage) (taken : ℕ) (left : List (ℕ × List ℕ)) → AreAhead s before locates next ahead taken left
+pub none_next : (s : WorkerState) (locates : List ℕ) (next : Option FoundMessage) (ahead : List FoundMessage) (taken : ℕ) (left : List (ℕ × List ℕ)) → AreAhead s locates next ahead taken left
     → next ≡ None → s.done ≤ length (worker_messages s) → s.done ≡ length (worker_messages s)
-none_next s before locates next ahead taken left has is within =
+none_next s locates next ahead taken left has is within =
     let rest = subst (λ (o : Option FoundMessage). IfNone o ((drop taken ahead ≡ []) × (left ≡ []))) is has.none in
     none_left (message s.day) (worker_messages s) s.done
-    (sym (λ i. map (after_others before) (numbered (option_to_list (is i) ++ rest.0 i) ++ rest.1 i)) ∙ has.all) within
+    (sym (λ i. numbered (option_to_list (is i) ++ rest.0 i) ++ rest.1 i) ∙ has.all) within
 
 -- in either case its number
-pub next_is : (s : WorkerState) (before : ℕ) (locates : List ℕ) (next : Option FoundMessage) (ahead : List FoundMessage) (taken : ℕ) (left : List (ℕ × List ℕ)) → AreAhead s before locates next ahead taken left
-    → s.done ≤ length (worker_messages s) → option_map (λ f. before + f.number) next ≡ slice_get (worker_messages s) s.done
-next_is s before locates None ahead taken left has within = sym (slice_get_past (worker_messages s) s.done (omega (arith, none_next s before locates None ahead taken left has refl within)))
-next_is s before locates (Some f) ahead taken left has within =
-    ap Some (next_number s before locates (Some f) ahead taken left has f refl) ∙ sym (slice_get-get_or (worker_messages s) s.done 0 (next_more s before locates (Some f) ahead taken left has f refl))
+pub next_is : (s : WorkerState) (locates : List ℕ) (next : Option FoundMessage) (ahead : List FoundMessage) (taken : ℕ) (left : List (ℕ × List ℕ)) → AreAhead s locates next ahead taken left
+    → s.done ≤ length (worker_messages s) → option_map (λ f. f.number) next ≡ slice_get (worker_messages s) s.done
+next_is s locates None ahead taken left has within = sym (slice_get_past (worker_messages s) s.done (omega (arith, none_next s locates None ahead taken left has refl within)))
+next_is s locates (Some f) ahead taken left has within =
+    ap Some (next_number s locates (Some f) ahead taken left has f refl) ∙ sym (slice_get-get_or (worker_messages s) s.done 0 (next_more s locates (Some f) ahead taken left has f refl))
 
 -- a runner after its turn
-pub ahead_after : (s : WorkerState) (before : ℕ) (locates : List ℕ) (next after : Option FoundMessage) (ahead lent : List FoundMessage) (taken then : ℕ) (left rest : List (ℕ × List ℕ)) (f : FoundMessage)
-    → AreAhead s before locates next ahead taken left → next ≡ Some f → lent ≡ ahead → then ≤ length lent
+pub ahead_after : (s : WorkerState) (locates : List ℕ) (next after : Option FoundMessage) (ahead lent : List FoundMessage) (taken then : ℕ) (left rest : List (ℕ × List ℕ)) (f : FoundMessage)
+    → AreAhead s locates next ahead taken left → next ≡ Some f → lent ≡ ahead → then ≤ length lent
     → numbered (option_to_list after ++ drop then lent) ++ rest ≡ numbered (drop taken lent) ++ left
     → IfNone after ((drop then lent ≡ []) × (rest ≡ [])) → IfSome after (λ x. IsFound locates x.payload.now x.index) → AreOfStocks locates rest
-    → AreAhead (record s { done = s.done + 1 }) before locates after ahead then rest
-ahead_after s before locates next after ahead lent taken then left rest f has is same within all none found are = record {
+    → AreAhead (record s { done = s.done + 1 }) locates after ahead then rest
+ahead_after s locates next after ahead lent taken then left rest f has is same within all none found are = record {
   within = omega (arith, within, ap length same);
   all =
-      ap (map (after_others before))
-      (ap (λ (fs : List FoundMessage). numbered (option_to_list after ++ drop then fs) ++ rest) (sym same) ∙ all
-      ∙ ap (λ (fs : List FoundMessage). numbered (drop taken fs) ++ left) same)
-      ∙ next_after s before locates next ahead taken left has f is;
+      ap (λ (fs : List FoundMessage). numbered (option_to_list after ++ drop then fs) ++ rest) (sym same) ∙ all
+      ∙ ap (λ (fs : List FoundMessage). numbered (drop taken fs) ++ left) same ∙ next_after s locates next ahead taken left has f is;
   none = subst (λ (fs : List FoundMessage). IfNone after ((drop then fs ≡ []) × (rest ≡ []))) same none;
   next_found = found;
   found = has.found;
@@ -183,14 +194,14 @@ ahead_after s before locates next after ahead lent taken then left rest f has is
 }
 
 -- a runner that has found more of its messages
-pub ahead_further : (s : WorkerState) (before : ℕ) (locates : List ℕ) (next : Option FoundMessage) (ahead kept more : List FoundMessage) (taken : ℕ) (left rest : List (ℕ × List ℕ))
-    → AreAhead s before locates next ahead taken left → kept ≡ drop taken ahead → numbered more ++ rest ≡ numbered kept ++ left
-    → All (λ f. IsFound locates f.payload.now f.index) more → AreOfStocks locates rest → AreAhead s before locates next more 0 rest
-ahead_further s before locates next ahead kept more taken left rest has kept_is same found are =
+pub ahead_further : (s : WorkerState) (locates : List ℕ) (next : Option FoundMessage) (ahead kept more : List FoundMessage) (taken : ℕ) (left rest : List (ℕ × List ℕ))
+    → AreAhead s locates next ahead taken left → kept ≡ drop taken ahead → numbered more ++ rest ≡ numbered kept ++ left
+    → All (λ f. IsFound locates f.payload.now f.index) more → AreOfStocks locates rest → AreAhead s locates next more 0 rest
+ahead_further s locates next ahead kept more taken left rest has kept_is same found are =
     let further : numbered more ++ rest ≡ numbered (drop taken ahead) ++ left = same ∙ ap (λ (fs : List FoundMessage). numbered fs ++ left) kept_is in
     record {
       within = omega arith;
-      all = ap (map (after_others before)) (same_after (option_to_list next) more (drop taken ahead) rest left further) ∙ has.all;
+      all = same_after (option_to_list next) more (drop taken ahead) rest left further ∙ has.all;
       none = nothing next further has.none;
       next_found = has.next_found;
       found = found;
@@ -201,15 +212,14 @@ ahead_further s before locates next ahead kept more taken left rest has kept_is 
     nothing None further none = none_found more rest (further ∙ (λ i. numbered (none.0 i) ++ none.1 i))
     nothing (Some f) further none = tt
 
--- a runner before the first of these messages
-pub ahead_first : (s : WorkerState) (before : ℕ) (locates : List ℕ) (next : Option FoundMessage) (ahead : List FoundMessage) (all left : List (ℕ × List ℕ))
-    → map (after_others before) all ≡ drop s.done (own_messages s.workers s.worker s.day) → Found locates all left next → ahead ≡ [] → AreOfStocks locates left
-    → AreAhead s before locates next ahead 0 left
-ahead_first s before locates next ahead all left is found nothing are = record {
+-- a runner that has done nothing yet
+pub ahead_first : (s : WorkerState) (locates : List ℕ) (next : Option FoundMessage) (ahead : List FoundMessage) (all left : List (ℕ × List ℕ)) → s.done ≡ 0
+    → all ≡ own_messages s.workers s.worker s.day → Found locates all left next → ahead ≡ [] → AreOfStocks locates left → AreAhead s locates next ahead 0 left
+ahead_first s locates next ahead all left none is found nothing are = record {
   within = omega arith;
   all =
-      ap (map (after_others before))
-      (found_after locates all left next ahead found nothing ∙ ap (λ (fs : List FoundMessage). numbered fs ++ all) nothing) ∙ is;
+      found_after locates all left next ahead found nothing ∙ ap (λ (fs : List FoundMessage). numbered fs ++ all) nothing ∙ is
+      ∙ ap (λ (n : ℕ). drop n (own_messages s.workers s.worker s.day)) (sym none);
   none = found_last locates all left next ahead found nothing;
   next_found = found_some locates all left next found;
   found = λ k d lt. absurd (omega (arith, lt, ap length nothing));

@@ -4,6 +4,8 @@ use Rattle.std.specs.List.{range_with_len}
 use Rattle.std.proofs.lemmas.Bool.{cases_Bool, cases_lt, eq-eqb, ne_eqb}
 use Rattle.std.proofs.lemmas.List.{take_all}
 use Rattle.std.proofs.lemmas.List.Elements.{filter_more, filter_passes}
+use Rattle.std.proofs.lemmas.List.FromFn.{length-range_with_len}
+use Rattle.std.proofs.lemmas.List.Sums.{count_by-le-length, length-filter}
 use Rattle.std.proofs.lemmas.Nat.{mod_below}
 use Rattle.itch_table.specs.declared.outcome.Part.{Part}
 use Rattle.itch_table.specs.declared.outcome.Part.TheVariants.{Locate, Nowhere}
@@ -20,6 +22,14 @@ unfolding own_of
 own_within workers worker day i d lt =
     let within = kept_within (λ n. is_own workers worker (part_at day n)) 1 (length day) i d lt in
     (omega (arith, within), omega (arith, within))
+
+-- a worker has no more messages than the day
+pub own_few : (workers worker : ℕ) (day : List (List ℕ)) → length (own_of workers worker day) ≤ length day
+unfolding own_of
+own_few workers worker day =
+    let p = λ (n : ℕ). is_own workers worker (part_at day n) in
+    let all = range_with_len 1 (length day) in
+    omega (arith, length-filter p all, count_by-le-length p all, length-range_with_len 1 (length day))
 
 pub own_passes : (workers worker : ℕ) (day : List (List ℕ)) (i d : ℕ) → i < length (own_of workers worker day)
     → is_own workers worker (part_at day (get_or (own_of workers worker day) i d)) ≡ true
@@ -83,7 +93,7 @@ within_more day locate n before =
           omega (arith, before, there)
     ]
 
-pub last_within : (day : List (List ℕ)) (locate n : ℕ) → last_until day locate n ≤ n
+last_within : (day : List (List ℕ)) (locate n : ℕ) → last_until day locate n ≤ n
 last_within day locate zero = omega arith
 last_within day locate (suc n) = subst (λ (k : ℕ). last_until day locate k ≤ k) (omega arith) (within_more day locate n (last_within day locate n))
 
@@ -115,7 +125,7 @@ module _ (day : List (List ℕ)) (workers locate : ℕ) where
   progress_kept done d lt off =
       ap (last_or 0) (filter_more of_this own done d lt ∙ ap (λ (b : Bool). filter of_this (take done own) ++ cond b (get_or own done d ∷ []) []) off ∙ append-nil _)
 
-  pub narrower : (n : ℕ) → of_this n ≡ true → is_own workers (owner workers locate) (part_at day n) ≡ true
+  narrower : (n : ℕ) → of_this n ≡ true → is_own workers (owner workers locate) (part_at day n) ≡ true
   narrower n on = rw (own_part locate (part_at day n) on) (eq-eqb _ _ refl)
 
   -- before the next message of its worker a stock's last message is the last of the day's that is the stock's

@@ -27,9 +27,10 @@ use Rattle.itch_table.proofs.StockDays.{is_own_part, only-empty, own_next, steps
 use Rattle.stock_machine.specs.StockRows.{StockMachine}
 use Rattle.day_core.specs.declared.merging.Piece.{Piece}
 use Rattle.day_core.specs.Owners.{is_own, machine_of, own_locates, own_of, owner, part_at, piece_of, progress}
-use Rattle.day_core.specs.Workers.{IsRunner, IsTurned, MayGrowNext, TakesTurn, WorkerState, machine_at, new_machine, next_message, worker_messages, worker_locates}
+use Rattle.day_core.specs.Workers.{IsRunner, IsTurned, MayGrowNext, TakesTurn, WorkerState, machine_at, new_machine, next_message, worker_messages, state_in, worker_locates}
 use Rattle.day_core.specs.declared.runner.Turned.{Turned}
-use Rattle.day_core.proofs.Progress.{machine_next, own_within, progress_kept, progress_moved}
+use Rattle.day_core.specs.Splitting.{Split}
+use Rattle.day_core.proofs.Progress.{machine_next, own_within, progress_first, progress_kept, progress_moved}
 
 -- what holds anyway holds where there is an error
 pub on_err : {T E : Type 0} (r : Result T E) (P : Type 0) → P → OnErr r P
@@ -86,7 +87,7 @@ code_there workers worker day n locate some within fits mine own =
 pub new_is : (m : StockMachine) (locate : ℕ) → m.locate ≡ locate → m.world ≡ empty_world → m.steps ≡ 0 → m ≡ new_machine locate
 new_is m locate code world steps = λ i. record { locate = code i; world = world i; steps = steps i }
 
-pub machine_first : (day : List (List ℕ)) (locate : ℕ) → machine_of day locate 0 ≡ new_machine locate
+machine_first : (day : List (List ℕ)) (locate : ℕ) → machine_of day locate 0 ≡ new_machine locate
 machine_first day locate = new_is _ locate refl (ap (only locate) (after-none day) ∙ only-empty locate) (steps-none day locate)
 
 pub machine_stepped : (day : List (List ℕ)) (locate n : ℕ) (before m : StockMachine) (o : Outcome) → 1 ≤ n → part_at day n ≡ Locate locate → before ≡ machine_of day locate (n - 1)
@@ -286,6 +287,22 @@ module _ (old new : WorkerState) (t : Turned) (turn : TakesTurn old new (Some t)
       ∙ progress_there old named t.index turn.0.more named_next turn.0.within turn.0.stock has.0 has.1 apart
       ∙ ap (λ (l : ℕ). progress old.day old.workers l old.done) code
 
+-- ---- a worker that has done nothing yet
+
+begins : (day : List (List ℕ)) (workers : ℕ) (locates : List ℕ) → map new_machine locates ≡ map (λ l. machine_of day l (progress day workers l 0)) locates
+begins day workers locates = map_same new_machine (λ l. machine_of day l (progress day workers l 0)) locates
+    (λ k lt. sym (ap (machine_of day (get_or locates k 0)) (progress_first day workers (get_or locates k 0)) ∙ machine_first day (get_or locates k 0)))
+
 pub codes_are : (workers worker : ℕ) (day : List (List ℕ)) → filter (λ l. eqb (l % workers) worker) (locates_of_day day) ≡ own_locates workers worker day
 unfolding own_locates
 codes_are workers worker day = refl
+
+pub runner_new : (split : Split) (worker : ℕ) (locates : List ℕ) (stocks : List StockMachine)
+    → length split.day < 2 ^ 32 → locates ≡ own_locates split.workers worker split.day → stocks ≡ map new_machine locates
+    → IsRunner (state_in split worker 0) locates stocks
+runner_new split worker locates stocks few codes made = record {
+  few = few;
+  within = omega arith;
+  locates_are = codes;
+  stocks_are = made ∙ begins split.day split.workers locates;
+}

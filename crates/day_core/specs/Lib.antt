@@ -7,5 +7,4 @@ pub mod Indices
 pub mod Replaying
 pub mod Schedules
 pub mod Splitting
-pub mod Prefixes
 pub mod Workers

@@ -75,13 +75,6 @@ HasOutcome day all message = (d : Outcome) → slice_index_or all (message - 1) 
 abbrev pub for_own_stocks : {T : Type 0} → (ℕ → T) → Split → ℕ → List T
 for_own_stocks f split worker = map f (own_locates split.workers worker split.day)
 
--- what a worker makes of all its messages of a day: those that are refused, with their outcomes, and the machines of its
--- stocks by rising locate code
-pub record IsReplayedPart (split : Split) (worker : ℕ) (refused : List Piece) (stocks : List StockMachine)
-    : Type 0 where
-  pub refused_are : refused ≡ refused_by split worker
-  pub stocks_are : stocks ≡ for_own_stocks (last_machine split.day) split worker
-
 -- a value for each worker, by its number
 abbrev pub each_worker : {T : Type 0} → (ℕ → T) → Split → List T
 each_worker f split = map f (range_with_len 0 split.workers)

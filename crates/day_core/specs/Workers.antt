@@ -36,15 +36,6 @@ state_in split worker done = record {
 abbrev pub first_state : Split → ℕ → WorkerState
 first_state split worker = state_in split worker 0
 
--- a day that has a prefix and then this segment, which is split
-abbrev pub with_prefix : List (List ℕ) → Split → Split
-with_prefix prefix segment = record { day = prefix ++ segment.day; workers = segment.workers }
-
--- a worker of that day that has done its messages of the prefix, and this many of the segment's
-abbrev pub state_after : List (List ℕ) → Split → ℕ → ℕ → WorkerState
-state_after prefix segment worker done =
-    state_in (with_prefix prefix segment) worker (length (own_of segment.workers worker prefix) + done)
-
 -- the worker's messages, by their numbers, rising
 abbrev pub worker_messages : WorkerState → List ℕ
 worker_messages s = own_of s.workers s.worker s.day
@@ -101,17 +92,12 @@ pub record IsFound (locates : List ℕ) (payload : List ℕ) (index : ℕ) : Typ
 abbrev pub numbered : List FoundMessage → List (ℕ × List ℕ)
 numbered found = map (λ f. (f.number, f.payload.now)) found
 
--- a message of a segment by its number in the day, where this many messages come before the segment
-abbrev pub after_others : ℕ → ℕ × List ℕ → ℕ × List ℕ
-after_others before m = (before + m.0, m.1)
-
 -- what a runner has of its messages, after those that it has done: the next one, those that were found after
--- it, of which this many were taken, and those that are left to be found. Each has its number in a segment of the day,
--- before which this many messages come
-pub record AreAhead (s : WorkerState) (before : ℕ) (locates : List ℕ) (next : Option FoundMessage)
+-- it, of which this many were taken, and those that are left to be found
+pub record AreAhead (s : WorkerState) (locates : List ℕ) (next : Option FoundMessage)
     (ahead : List FoundMessage) (taken : ℕ) (left : List (ℕ × List ℕ)) : Type 0 where
   pub within : taken ≤ length ahead
-  pub all : map (after_others before) (numbered (option_to_list next ++ drop taken ahead) ++ left)
+  pub all : numbered (option_to_list next ++ drop taken ahead) ++ left
       ≡ drop s.done (own_messages s.workers s.worker s.day)
   pub none : IfNone next ((drop taken ahead ≡ []) × (left ≡ []))
   pub next_found : IfSome next (λ f. IsFound locates f.payload.now f.index)

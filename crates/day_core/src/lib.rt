@@ -13,10 +13,6 @@
 //!
 //! `stock_workers` replays the parts in threads. [`Turns`] and [`play`] replay them without threads, in any order of
 //! the workers, and [`merge`] puts outcomes together that come in any order. [`Runner`] is one worker without threads.
-//! A day may come in segments, of which one has to be in memory at a time: [`Prefix`] says how many messages came before
-//! a segment, and in proofs which, [`Outline`] what is known of them, and [`Runner::resume`] is a worker that goes on
-//! after them.
-//!
 //! [`event_after`] is the last event code after one more payload. [`note_refused`], [`all_refused`] and
 //! [`outcomes_with`] are for callers that turn workers by themselves: the refused messages of each worker, of a day,
 //! and the outcomes of all messages of it.
@@ -30,17 +26,14 @@ mod laws;
 mod locate_indices;
 mod merging;
 mod ordering;
-mod outline;
 mod own_messages;
 mod parts;
 mod playing;
-mod prefix;
 mod refusals;
 mod replaying;
 mod runner;
 mod seeing;
 mod splitting;
-mod starting;
 mod turns;
 mod worker_cells;
 mod worker_count;
@@ -49,11 +42,9 @@ pub use dealing::event_after;
 pub use laws::{days_come_to_their_end, looks_never_go_back, looks_show_their_stock};
 pub use merging::{MergeFault, Piece, merge};
 pub use ordering::{by_worker, in_order};
-pub use outline::Outline;
 pub use own_messages::{OwnMessage, OwnMessages};
 pub use parts::Parts;
 pub use playing::{Event, Seen, play};
-pub use prefix::Prefix;
 pub use refusals::{all_refused, note_refused, outcomes_with};
 pub use replaying::{ReplayedDay, replay_parts};
 pub use runner::{Runner, TURNS_AHEAD, Turned};

@@ -48,13 +48,6 @@ impl<A: Allocator + Copy> LocateIndices<A> {
 }
 
 impl<A: Allocator> LocateIndices<A> {
-    /// The list of the codes.
-    pub fn as_slice(&self) -> &[u16]
-        ensures { result.now ≡ self.now }
-    {
-        self.locates.as_slice()
-    }
-
     /// Where a locate code stands in the list, which the caller knows to have it.
     pub fn index_in(&self, locate: u16) -> usize
         requires { Contains self.now locate }

@@ -1,5 +1,5 @@
 //! A worker's messages of a day, one after another.
-ghost use Rattle.std.specs.Prelude.{◌≡◌, ◌≤◌, [], All, length, map, slice_index_or};
+ghost use Rattle.std.specs.Prelude.{◌≡◌, ◌<◌, ◌≤◌, ◌^◌, [], All, length, map, slice_index_or};
 ghost use Rattle.std.specs.Iterator.{YieldsFirstBy, item_count};
 ghost use Rattle.itch_table.specs.Projection.{payload_at};
 ghost use Rattle.day_core.specs.Stretches.{own_among};
@@ -55,6 +55,20 @@ fn list_of<A: Allocator>(lists: &[Vec<u32, A>], worker: u32) -> &[u32]
         Some(list) => list.as_slice(),
         None => &[],
     }
+}
+
+/// How many messages a worker has in stretches that come one after another.
+pub(crate) fn count_of<A: Allocator>(stretches: &[Vec<Vec<u32, A>, A>], worker: u32) -> usize
+    requires { length (own_among worker (map (λ lists. map (λ list. list.items) lists.items) stretches.now))
+        < 2 ^ 32 }
+    ensures { result
+        ≡ length (own_among worker (map (λ lists. map (λ list. list.items) lists.items) stretches.now)) }
+{
+    let mut count = 0;
+    for lists in stretches {
+        count += list_of(lists, worker).len();
+    }
+    count
 }
 
 impl<'d, A: Allocator> OwnMessages<'d, A> {

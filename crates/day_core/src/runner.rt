@@ -1,21 +1,17 @@
 //! One worker without threads.
-ghost use Rattle.std.specs.Prelude.{◌≡◌, ◌<◌, ◌≤◌, ◌+◌, ◌^◌, ◌∷◌, ◌++◌, [], All, IfNone, IfOk, IfSome, MatchOption, OnErr, drop, length, map, slice_get, slice_index};
+ghost use Rattle.std.specs.Prelude.{◌≡◌, ◌<◌, ◌≤◌, ◌∷◌, ◌++◌, [], All, IfNone, IfOk, IfSome, MatchOption, OnErr, drop, length, map, slice_get, slice_index};
 ghost use Rattle.std.specs.List.{Contains};
 ghost use Rattle.std.specs.Option.{option_to_list};
 ghost use Rattle.day_core.specs.Owners.{own_locates};
-ghost use Rattle.day_core.specs.Replaying.{last_machine};
-ghost use Rattle.day_core.specs.Workers.{AreOfStocks, IsFound, MayGrowNext, TakesTurn, first_state, machine_at, new_machine, numbered, state_after, worker_locates, worker_messages};
+ghost use Rattle.day_core.specs.Workers.{AreOfStocks, IsFound, MayGrowNext, TakesTurn, first_state, machine_at, new_machine, numbered, worker_locates, worker_messages};
 
 use crate::locate_indices::LocateIndices;
 use crate::merging::Piece;
 use crate::own_messages::OwnMessages;
 use crate::parts::Parts;
-use crate::prefix::Prefix;
-use crate::starting::{new_stocks, own_codes, stocks_after};
 use itch_table::locate_in;
 use std::alloc::{AllocError, Allocator};
 use std::marker::Model;
-use std::snapshot::Snapshot;
 use stock_machine::Stock;
 
 /// What a worker's turn did.
@@ -42,17 +38,11 @@ struct FoundMessage<'d> {
 /// One worker of a day that is split: the machines of its stocks, and how many of its messages it has done. It borrows
 /// the parts of the day, and walks through its messages there.
 ///
-/// It does its messages in their order, one a turn, whatever other workers do. The parts may be those of a segment of
-/// the day: a worker that goes on after a prefix of the day has the machines of its stocks there, and numbers messages
-/// as the day does.
+/// It does its messages in their order, one a turn, whatever other workers do.
 #[derive(Drop)]
 pub struct Runner<'p, A: Allocator> {
-    // The prefix, which is known in proofs alone, and how many messages it has.
-    prefix: Snapshot<Prefix<A>>,
-    before: u32,
     parts: &'p Parts<'p, A>,
     worker: u32,
-    // How many of the worker's messages after the prefix it has done.
     done: usize,
     // The next message, those that were found after it, of which this many were taken since, and those that are left to
     // be found. As many are found as the list has room for.
@@ -65,15 +55,47 @@ pub struct Runner<'p, A: Allocator> {
 }
 
 impl<'p, A: Allocator> Model for Runner<'p, A> {
-    ghost use Rattle.day_core.specs.Workers.{AreAhead, IsRunner, WorkerState, state_after};
+    ghost use Rattle.day_core.specs.Workers.{AreAhead, IsRunner, WorkerState, state_in};
 
     ghost Value = { WorkerState };
 
-    ghost view = { λ r. state_after r.prefix.value r.parts.now r.worker r.done };
+    ghost view = { λ r. state_in r.parts.now r.worker r.done };
 
-    ghost invariant = { λ r. IsRunner (state_after r.prefix.value r.parts.now r.worker r.done) r.indices r.stocks.items
-        × AreAhead (state_after r.prefix.value r.parts.now r.worker r.done) r.before r.indices r.next r.ahead.items
-        r.taken r.left };
+    ghost invariant = { λ r. IsRunner (state_in r.parts.now r.worker r.done) r.indices r.stocks.items
+        × AreAhead (state_in r.parts.now r.worker r.done) r.indices r.next r.ahead.items r.taken r.left };
+}
+
+// The locate codes of a worker's stocks.
+#[tactic(auto, unfolding(crate::specs::Owners::own_locates))]
+fn own_codes<A: Allocator + Copy>(
+    alloc: A,
+    parts: &Parts<'_, A>,
+    worker: u32,
+) -> Result<Vec<u16, A>, AllocError>
+    ensures { IfOk result (λ codes.
+        codes.items ≡ own_locates parts.now.workers worker parts.now.day) }
+{
+    let workers = parts.workers();
+    parts
+        .locates()
+        .iter()
+        .copied()
+        .filter(|locate| u32::from(*locate) % workers == worker)
+        .collect(alloc)
+}
+
+// A machine before the first message for each of the stocks.
+fn new_stocks<A: Allocator + Copy>(
+    alloc: A,
+    locates: &[u16],
+) -> Result<Vec<Stock<A>, A>, AllocError>
+    ensures { IfOk result (λ stocks. stocks.items ≡ map new_machine locates.now) }
+{
+    let mut stocks = Vec::with_capacity(alloc, locates.len())?;
+    for locate in locates {
+        stocks.push(Stock::new(alloc, *locate))?;
+    }
+    Ok(stocks)
 }
 
 // Finds the next of a worker's messages that are left to be found.
@@ -154,39 +176,6 @@ fn remove_first<T: Copy, A: Allocator>(list: &mut Vec<T, A>, count: usize)
     list.truncate(len - count);
 }
 
-// A worker that goes on after a prefix, with the machines of its stocks there and their locate codes: of those that have
-// messages in the prefix or in the segment.
-fn with_machines<'p, A: Allocator + Copy>(
-    alloc: A,
-    prefix: &Prefix<A>,
-    parts: &'p Parts<'p, A>,
-    worker: u32,
-    indices: LocateIndices<A>,
-    stocks: Vec<Stock<A>, A>,
-) -> Result<Runner<'p, A>, AllocError>
-    requires few { length prefix.now + length parts.now.day < 2 ^ 32 }
-    requires locates { indices ≡ own_locates parts.now.workers worker (prefix.now ++ parts.now.day) }
-    requires stocks { stocks.items ≡ map (last_machine prefix.now) indices }
-    ensures { IfOk result (λ runner. runner ≡ state_after prefix.now parts.now worker 0) }
-{
-    let ahead = Vec::with_capacity(alloc, 2 * TURNS_AHEAD)?;
-    let mut left = parts.own(worker);
-    let next = find_next(&mut left, &indices);
-    Ok(Runner {
-        prefix: Snapshot::of(prefix),
-        before: prefix.count(),
-        parts,
-        worker,
-        done: 0,
-        next,
-        ahead,
-        taken: 0,
-        left,
-        indices,
-        stocks,
-    })
-}
-
 impl<'p, A: Allocator + Copy> Runner<'p, A> {
     /// A worker that has done nothing yet. Workers are numbered from 0; a number from `parts.workers()` on has no
     /// messages and no stocks.
@@ -196,28 +185,20 @@ impl<'p, A: Allocator + Copy> Runner<'p, A> {
         let locates = own_codes(alloc, parts, worker)?;
         let stocks = new_stocks(alloc, &locates)?;
         let indices = LocateIndices::new(alloc, locates)?;
-        with_machines(alloc, &Prefix::none(), parts, worker, indices, stocks)
-    }
-
-    /// A worker that has done its messages of a prefix of the day, and none of the segment after it, whose parts are
-    /// given. The caller passes the machines of the worker's stocks after the prefix, by rising locate code, as
-    /// [`Runner::into_stocks`] gives them; a stock whose first message is in the segment gets a new one.
-    ///
-    /// After an error the machines are gone.
-    pub fn resume(
-        alloc: A,
-        prefix: &Prefix<A>,
-        parts: &'p Parts<'p, A>,
-        worker: u32,
-        stocks: Vec<Stock<A>, A>,
-    ) -> Result<Runner<'p, A>, AllocError>
-        requires few { length prefix.now + length parts.now.day < 2 ^ 32 }
-        requires stocks { stocks.items ≡ map (last_machine prefix.now)
-            (own_locates parts.now.workers worker prefix.now) }
-        ensures { IfOk result (λ runner. runner ≡ state_after prefix.now parts.now worker 0) }
-    {
-        let (indices, stocks) = stocks_after(alloc, prefix, parts, worker, stocks)?;
-        with_machines(alloc, prefix, parts, worker, indices, stocks)
+        let ahead = Vec::with_capacity(alloc, 2 * TURNS_AHEAD)?;
+        let mut left = parts.own(worker);
+        let next = find_next(&mut left, &indices);
+        Ok(Runner {
+            parts,
+            worker,
+            done: 0,
+            next,
+            ahead,
+            taken: 0,
+            left,
+            indices,
+            stocks,
+        })
     }
 
     /// Does the worker's next message on the machine of its stock, and returns what became of it; none, with nothing
@@ -240,7 +221,7 @@ impl<'p, A: Allocator + Copy> Runner<'p, A> {
         self.next = take_next(&self.ahead, &mut self.taken, &mut self.left, &self.indices);
         Ok(Some(Turned {
             piece: Piece {
-                message: self.before + found.number,
+                message: found.number,
                 outcome,
             },
             index: found.index,
@@ -318,14 +299,7 @@ impl<'p, A: Allocator> Runner<'p, A> {
         ensures { result ≡ slice_get (worker_messages self.now) self.now.done }
     {
         let found = self.next?;
-        Some(self.before + found.number)
-    }
-
-    /// The locate codes of the worker's stocks, rising.
-    pub fn locates(&self) -> &[u16]
-        ensures { result.now ≡ worker_locates self.now }
-    {
-        self.indices.as_slice()
+        Some(found.number)
     }
 
     /// How many stocks the worker has.

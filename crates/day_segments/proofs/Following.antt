@@ -13,7 +13,7 @@ use Rattle.byte_strings.specs.Bytes.{AreBytes, IsByte}
 use Rattle.binaryfile.specs.Entries.{Contents, IsPayload, Splits, entry, marker}
 use Rattle.binaryfile.proofs.Splitting.{splits_contents}
 use Rattle.day_segments.proofs.Carried.{entries_long}
-use Rattle.day_segments.specs.Segments.{IsReadTo, IsSegment, carry_after, carry_by, followed_by, nothing_read, tail_after}
+use Rattle.day_segments.specs.Segments.{IsReadTo, IsSegment, carry_after, carry_by, followed_by, nothing_read}
 
 abbrev contents : List (List ℕ) → Bool → List ℕ → Contents
 contents payloads marked tail = record { payloads = payloads; marked = marked; tail = tail }
@@ -89,15 +89,6 @@ module _ (start now next : Option (List ℕ)) (carried : List ℕ) (size most : 
   pub reads_on : (before : Contents) (given : ℕ) → IsReadTo start now before carried given → IsReadTo start next (followed_by before c) (carry_after c) (given + length segment.bytes)
   reads_on before given read = follows before.payloads given read.bytes before.tail before.marked read.gave read.are read.split read.carry_is read.given_is
 
--- after a marker a segment more makes the tail longer by its own
-pub tail_longer : (before segment : Contents) → before.marked ≡ true → length (followed_by before segment).tail ≡ length before.tail + length segment.tail
-tail_longer before segment marked =
-    ap (λ (marked : Bool). length (tail_after marked before.tail segment.tail)) marked ∙ length-append before.tail segment.tail
-
--- before a marker the tail is that of the last segment
-pub tail_anew : (before segment : Contents) → before.marked ≡ false → length (followed_by before segment).tail ≡ length segment.tail
-tail_anew before segment unmarked = ap (λ (marked : Bool). length (tail_after marked before.tail segment.tail)) unmarked
-
 module _ (start now : Option (List ℕ)) (before : Contents) (carried : List ℕ) (given : ℕ) (read : IsReadTo start now before carried given) where
   -- where nothing more comes, all was read
   pub all_read : (next : Option (List ℕ)) → GaveAll now next [] → GaveAll start next read.bytes
@@ -112,10 +103,6 @@ module _ (start now : Option (List ℕ)) (before : Contents) (carried : List ℕ
   -- no more payloads than bytes were read
   pub few_read : length before.payloads ≤ given
   few_read = omega (arith, entries_long before.payloads, parts_long)
-
-  -- nor is the tail longer than what was read
-  pub tail_within : length before.tail ≤ given
-  tail_within = omega (arith, parts_long)
 
   -- what the reader gave, where it may be no more than `most` bytes
   module _ (most : ℕ) (within : given ≤ most) where

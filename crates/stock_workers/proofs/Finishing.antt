@@ -4,10 +4,9 @@ use Rattle.std.proofs.lemmas.List.Elements.{All-map}
 use Rattle.stock_machine.specs.StockRows.{StockMachine}
 use Rattle.day_core.specs.declared.merging.Piece.{Piece}
 use Rattle.day_core.specs.Owners.{last_message}
-use Rattle.day_core.specs.Replaying.{is_refused, refused_by}
-use Rattle.day_core.specs.Splitting.{Split, split_of}
-use Rattle.day_core.specs.Workers.{WorkerState, first_state, machine_at, state_after, with_prefix, worker_locates}
-use Rattle.day_core.proofs.Prefixes.{has_done}
+use Rattle.day_core.specs.Replaying.{is_refused}
+use Rattle.day_core.specs.Splitting.{Split}
+use Rattle.day_core.specs.Workers.{WorkerState, first_state, machine_at, worker_locates}
 use Rattle.day_core.proofs.StocksByWorker.{HasDone, does_more, refused_through, stocks_through}
 use Rattle.top_cell.specs.Boards.{CellId, IsOn, Place, WriterAt}
 use Rattle.stock_workers.specs.Running.{IsFinished, at_last}
@@ -77,14 +76,3 @@ finished split worker writers now after refused stocks ends under none left stan
 -- the cells are the board's
 pub on_board : (board : List CellId) (writers : List WriterAt) (now : Working) → All (λ w. IsOn board w.place) writers → now.places ≡ map (λ w. w.place) writers → All (IsOn board) now.places
 on_board board writers now on same = subst (All (IsOn board)) (sym same) (All-map (IsOn board) (λ w. w.place) writers on)
-
--- a worker that goes on after a prefix is under way
-pub goes_on : (prefix : List (List ℕ)) (segment : Split) (worker : ℕ) (writers : List WriterAt) (now : Working) (refused : List Piece)
-    → refused ≡ refused_by (split_of prefix segment.workers) worker
-    → now ≡ record { state = state_after prefix segment worker 0; places = map (λ w. w.place) writers }
-    → IsUnderWay (waiting (with_prefix prefix segment) worker writers) now refused
-goes_on prefix segment worker writers now refused are is =
-    subst (λ (w : Working). IsUnderWay (waiting (with_prefix prefix segment) worker writers) w refused) (sym is) (record {
-      way = has_done prefix segment.day segment.workers worker refused are;
-      same_places = refl;
-    })

@@ -1,5 +1,5 @@
 mod Dealing
 mod Finishing
+mod Jobs
 mod Joined
 mod Writing
-mod Resuming

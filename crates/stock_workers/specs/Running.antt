@@ -4,7 +4,7 @@ use Rattle.std.specs.declared.alloc.AllocError.{AllocError}
 use Rattle.stock_machine.specs.StockRows.{StockMachine}
 use Rattle.day_core.specs.declared.merging.Piece.{Piece}
 use Rattle.day_core.specs.Owners.{last_message, own_locates}
-use Rattle.day_core.specs.Replaying.{IsReplayedPart, each_worker, for_own_stocks, last_machine, refused_by}
+use Rattle.day_core.specs.Replaying.{each_worker, for_own_stocks, last_machine, refused_by}
 use Rattle.day_core.specs.Splitting.{Split}
 use Rattle.top_cell.specs.Boards.{CellId, IsOn, WriterAt}
 use Rattle.stock_workers.specs.Working.{WritersAt}
@@ -24,7 +24,6 @@ pub record IsWaiting (split : Split) (board : List CellId) (worker : ℕ) (write
 -- stocks
 pub record AreWaiting {A : Type 0} (split : Split) (writer : ℕ → WriterAt) (all : List (Waiting A))
     : Type 0 where
-  pub splits_are : map (λ w. w.parts.now) all ≡ each_worker (λ worker. split) split
   pub numbers_are : map (λ w. w.worker) all ≡ each_worker (λ worker. worker) split
   pub writers_are : map (λ w. w.writers.items) all ≡ each_worker (for_own_stocks writer split) split
 
@@ -40,22 +39,33 @@ pub record IsFinished (split : Split) (worker : ℕ) (writers : List WriterAt) (
   pub stocks_are : stocks ≡ for_own_stocks (last_machine split.day) split worker
   pub writers_are : after ≡ map (at_last split.day) writers
 
--- what a worker has made of all its messages: those that were refused, the machines of its stocks, and a writer of each,
--- at its stock's last message
-pub record HasFinished (split : Split) (worker : ℕ) (refused : List Piece) (stocks : List StockMachine)
-    (writers : List WriterAt) : Type 0 where
-  pub part : IsReplayedPart split worker refused stocks
-  pub writers_are : WritersAt split.day (last_message split.day)
-      (own_locates split.workers worker split.day) writers
+-- a worker of a split day has the writers of its stocks
+abbrev pub HasOwnWriters : {A : Type 0} → Split → (ℕ → WriterAt) → Waiting A → Type 0
+HasOwnWriters split writer w = w.writers.items ≡ for_own_stocks writer split w.worker
 
--- a thread may come to a worker that hasn't started
-abbrev pub MayStart : {A : Type 0} → List CellId → Job A → Type 0
-MayStart board job = IfSome job.waiting (λ w. IsWaiting w.parts.now board w.worker w.writers.items)
+-- what the worker of this number has made of a split day, where the writers of its stocks were these, or that memory was
+-- refused
+abbrev pub IsMade : {A : Type 0} → Split → (ℕ → WriterAt) → ℕ → Result (Finished A) AllocError → Type 0
+IsMade split writer worker made = IfOk made (λ m. IsFinished split worker (for_own_stocks writer split worker)
+    m.refused.items m.stocks.items m.writers.items)
 
--- what a thread has made of it
-abbrev pub IsDone : {A : Type 0} → Job A → Job A → Type 0
-IsDone old new = IfSome old.waiting (λ w. IfOk new.made (λ m. IsFinished w.parts.now w.worker w.writers.items
-    m.refused.items m.stocks.items m.writers.items))
+-- a job on a worker of a split day: where it hasn't started that worker waits, and what is made is the worker's
+pub record IsJob {A : Type 0} (split : Split) (writer : ℕ → WriterAt) (job : Job A) : Type 0 where
+  pub waits : IfSome job.waiting (λ w. (w.worker ≡ job.worker) × HasOwnWriters split writer w)
+  pub made_is : IsMade split writer job.worker job.made
+
+-- a thread may come to a job
+abbrev pub MayStart : {A : Type 0} → Split → List CellId → Job A → Type 0
+MayStart split board job = IfSome job.waiting (λ w. IsWaiting split board w.worker w.writers.items)
+
+-- jobs on workers of a split day are jobs on them afterwards
+abbrev pub StayJobs : {A : Type 0} → Split → List (Job A) → List (Job A) → Type 0
+StayJobs split old new = (writer : ℕ → WriterAt) → All (IsJob split writer) old → All (IsJob split writer) new
+
+-- what workers of a split day have made, each at its number
+abbrev pub AreMade : {A : Type 0} → Split → (ℕ → WriterAt) → List (Result (Finished A) AllocError) → Type 0
+AreMade {A} split writer made = (worker : ℕ) (d : Result (Finished A) AllocError) → worker < length made
+    → IsMade split writer worker (slice_index_or made worker d)
 
 -- what all workers make, in the order of their numbers, where none was refused memory: the writers of their
 -- stocks were these, by locate code

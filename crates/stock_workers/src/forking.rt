@@ -1,25 +1,24 @@
 //! All turns of all workers of a day, by threads.
-ghost use Rattle.std.specs.Prelude.{◌≡◌, ◌<◌, ◌+◌, ◌^◌, ℕ, [], Some, All, IfOk, length, map};
+ghost use Rattle.std.specs.Prelude.{◌≡◌, ◌<◌, ℕ, List, [], All, IfOk, IsErr, IsPermutation, length};
 ghost use Rattle.std.specs.Thread.{IsSend, IsSync};
 ghost use denote.Param.Send.{Frees};
-ghost use Rattle.day_core.specs.Splitting.{Split, split_of};
-ghost use Rattle.day_core.specs.Workers.{with_prefix};
-ghost use Rattle.top_cell.specs.Boards.{WriterAt};
-ghost use Rattle.stock_workers.specs.Running.{AreFinished, AreWaiting, HasFinished, IsDone, IsFinished, IsWaiting, MayStart};
+ghost use Rattle.day_core.specs.Splitting.{Split};
+ghost use Rattle.top_cell.specs.Boards.{CellId, WriterAt};
+ghost use Rattle.stock_workers.specs.Running.{AreFinished, AreMade, AreWaiting, HasOwnWriters, IsFinished, IsJob, IsWaiting, MayStart, StayJobs};
 
-use crate::gate::Gate;
+use crate::gate::{Gate, ShareGate};
 use crate::worker::Worker;
-use day_core::{Parts, Piece, Prefix, note_refused};
+use day_core::{Parts, Piece, WorkerCount, note_refused};
 use std::alloc::{AllocError, Allocator};
+use std::cmp::Reverse;
 use std::sync::Wait;
 use std::thread::{Threads, for_each_mut};
 use stock_machine::Stock;
 use top_cell::{Board, TopWriter};
 
-/// A worker that hasn't started: the parts of its day, its number, and the writers of its stocks.
+/// A worker that hasn't started: its number, and the writers of its stocks.
 #[derive(Drop)]
-pub(crate) struct Waiting<'p, A: Allocator> {
-    pub parts: &'p Parts<'p, A>,
+pub(crate) struct Waiting<A: Allocator> {
     pub worker: u32,
     pub writers: Vec<TopWriter, A>,
 }
@@ -33,53 +32,38 @@ pub(crate) struct Finished<A: Allocator> {
     pub writers: Vec<TopWriter, A>,
 }
 
-/// The work of a thread on one worker: the worker, until it has started, and then what it has made. Before that it has
-/// made nothing, which is written as an error.
+/// The work on one worker: its number, the worker itself until it has started, and then what it has made. Before that it
+/// has made nothing, which is written as an error.
 #[derive(Drop)]
-pub(crate) struct Job<'p, A: Allocator> {
-    pub waiting: Option<Waiting<'p, A>>,
+pub(crate) struct Job<A: Allocator> {
+    pub worker: u32,
+    pub waiting: Option<Waiting<A>>,
     pub made: Result<Finished<A>, AllocError>,
 }
 
-impl<A: Allocator + Copy> Finished<A> {
-    // What any worker makes of no messages.
-    fn none(alloc: A) -> Finished<A>
-        ensures { (workers worker : ℕ) → HasFinished (split_of [] workers) worker
-            result.refused.items result.stocks.items result.writers.items }
-    {
-        Finished {
-            refused: Vec::new(alloc),
-            stocks: Vec::new(alloc),
-            writers: Vec::new(alloc),
-        }
-    }
+/// The jobs that one thread does, one after another, with the share's number and about how much there is to do.
+#[derive(Drop)]
+pub(crate) struct Share<A: Allocator> {
+    pub number: u32,
+    pub load: u64,
+    pub jobs: Vec<Job<A>, A>,
 }
 
-// All turns of one worker in a segment, after what it has made of the prefix before it.
+// All turns of one worker.
 fn finish<R: Threads + Wait + Sync, A: Allocator + Copy, G: Gate>(
     rt: &R,
     alloc: A,
+    parts: &Parts<'_, A>,
     board: &Board<'_, A>,
     gate: &G,
-    prefix: &Prefix<A>,
-    waiting: Waiting<'_, A>,
-    earlier: Finished<A>,
+    waiting: Waiting<A>,
 ) -> Result<Finished<A>, AllocError>
-    requires few { length prefix.now + length waiting.parts.now.day < 2 ^ 32 }
-    requires waits { IsWaiting (with_prefix prefix.now waiting.parts.now) board.now waiting.worker
-        waiting.writers.items }
-    requires earlier { HasFinished (split_of prefix.now waiting.parts.now.workers) waiting.worker
-        earlier.refused.items earlier.stocks.items earlier.writers.items }
-    ensures { IfOk result (λ made. IsFinished (with_prefix prefix.now waiting.entry.parts.now)
-        waiting.entry.worker waiting.entry.writers.items made.refused.items made.stocks.items
-        made.writers.items) }
+    requires { IsWaiting parts.now board.now waiting.worker waiting.writers.items }
+    ensures { IfOk result (λ made. IsFinished parts.now waiting.worker waiting.writers.items
+        made.refused.items made.stocks.items made.writers.items) }
 {
-    let Finished {
-        mut refused,
-        stocks,
-        writers: shown,
-    } = earlier;
-    let mut worker = Worker::resume(alloc, prefix, waiting, stocks, &shown, board)?;
+    let mut refused = Vec::new(alloc);
+    let mut worker = Worker::new(alloc, parts, waiting.worker, waiting.writers)?;
     let mut wait = 0;
     while let Some(piece) = worker.turn(rt, board, gate)? {
         note_refused(&mut refused, piece)?;
@@ -93,97 +77,201 @@ fn finish<R: Threads + Wait + Sync, A: Allocator + Copy, G: Gate>(
     })
 }
 
-// All turns of one worker of a whole day.
-fn finish_day<R: Threads + Wait + Sync, A: Allocator + Copy, G: Gate>(
-    rt: &R,
-    alloc: A,
-    board: &Board<'_, A>,
-    gate: &G,
-    waiting: Waiting<'_, A>,
-) -> Result<Finished<A>, AllocError>
-    requires { IsWaiting waiting.parts.now board.now waiting.worker waiting.writers.items }
-    ensures { IfOk result (λ made. IsFinished waiting.entry.parts.now waiting.entry.worker
-        waiting.entry.writers.items made.refused.items made.stocks.items made.writers.items) }
-{
-    // For the proof alone: it says that the day has fewer than 2^32 messages.
-    let _few = waiting.parts.workers();
-    let earlier = Finished::none(alloc);
-    finish(rt, alloc, board, gate, &Prefix::none(), waiting, earlier)
-}
-
 // All turns of the worker of a job that isn't done.
 fn do_job<R: Threads + Wait + Sync, A: Allocator + Copy, G: Gate>(
     rt: &R,
     alloc: A,
+    parts: &Parts<'_, A>,
     board: &Board<'_, A>,
     gate: &G,
-    job: &mut Job<'_, A>,
+    job: &mut Job<A>,
 )
-    requires { MayStart board.now job.old }
-    ensures { IsDone job.old job.new }
+    requires { MayStart parts.now board.now job.old }
+    ensures { (writer : ℕ → WriterAt) → IsJob parts.now writer job.old → IsJob parts.now writer job.new }
 {
     if let Some(waiting) = job.waiting.take() {
-        job.made = finish_day(rt, alloc, board, gate, waiting);
+        job.made = finish(rt, alloc, parts, board, gate, waiting);
     }
 }
 
-// A job for each worker, none of which is done.
-fn jobs_of<'p, A: Allocator + Copy>(
+// All jobs of a share, one after another.
+fn do_jobs<R: Threads + Wait + Sync, A: Allocator + Copy, G: Gate>(
+    rt: &R,
     alloc: A,
-    all: Vec<Waiting<'p, A>, A>,
-) -> Result<Vec<Job<'p, A>, A>, AllocError>
-    ensures { IfOk result (λ jobs. map (λ job. job.waiting) jobs.items ≡ map (λ w. Some w) all.entry.items) }
+    parts: &Parts<'_, A>,
+    board: &Board<'_, A>,
+    gate: &G,
+    jobs: &mut [Job<A>],
+)
+    requires { All (MayStart parts.now board.now) jobs.old }
+    ensures { StayJobs parts.now jobs.old jobs.new }
 {
-    let mut jobs = Vec::with_capacity(alloc, all.len())?;
+    for job in jobs.iter_mut() {
+        do_job(rt, alloc, parts, board, gate, job);
+    }
+}
+
+// The workers with most messages first, and of equal ones that of the lower number, where there are more of them than
+// shares: so the last ones that are given to a share change little.
+fn heaviest_first<A: Allocator>(
+    parts: &Parts<'_, A>,
+    shares: usize,
+    mut all: Vec<Waiting<A>, A>,
+) -> Vec<Waiting<A>, A>
+    ensures { IsPermutation all.items result.items }
+{
+    if all.len() > shares {
+        all.sort_unstable_by_key(|waiting| {
+            let messages = parts.own_count(waiting.worker);
+            (Reverse(messages), waiting.worker)
+        });
+    }
+    all
+}
+
+// So many shares without jobs, with the numbers from 0 on.
+fn empty_shares<A: Allocator + Copy>(alloc: A, count: u32) -> Result<Vec<Share<A>, A>, AllocError>
+    ensures many { IfOk result (λ shares. length shares.items ≡ count) }
+    ensures empty { IfOk result (λ shares. All (λ share. share.jobs.items ≡ []) shares.items) }
+{
+    let mut shares = Vec::with_capacity(alloc, count as usize)?;
+    for number in 0..count {
+        shares.push(Share {
+            number,
+            load: 0,
+            jobs: Vec::new(alloc),
+        })?;
+    }
+    Ok(shares)
+}
+
+// The first of the shares that have least to do.
+fn lightest<A: Allocator>(shares: &[Share<A>]) -> usize
+    requires { 0 < length shares.now }
+    ensures { result < length shares.now }
+{
+    let mut lightest = 0;
+    for index in 1..shares.len() {
+        if shares[index].load < shares[lightest].load {
+            lightest = index;
+        }
+    }
+    lightest
+}
+
+// The workers in so many shares, each given to one that has least to do then. Where there are no more workers than shares,
+// each has the share of its place in the list.
+fn shares_of<A: Allocator + Copy>(
+    alloc: A,
+    parts: &Parts<'_, A>,
+    count: u32,
+    all: Vec<Waiting<A>, A>,
+) -> Result<Vec<Share<A>, A>, AllocError>
+    requires { 0 < count }
+    ensures start { IfOk result (λ shares. (board : List CellId)
+        → All (λ w. IsWaiting parts.now board w.worker w.writers.items) all.items
+        → All (λ share. All (MayStart parts.now board) share.jobs.items) shares.items) }
+    ensures jobs { IfOk result (λ shares. (writer : ℕ → WriterAt)
+        → All (HasOwnWriters parts.now writer) all.items
+        → All (λ share. All (IsJob parts.now writer) share.jobs.items) shares.items) }
+{
+    let mut shares = empty_shares(alloc, count)?;
     for waiting in all {
-        jobs.push(Job {
+        let index = lightest(&shares);
+        let share = &mut shares[index];
+        let messages = parts.own_count(waiting.worker);
+        share.load = share.load.saturating_add(u64::from(messages) + 1);
+        share.jobs.push(Job {
+            worker: waiting.worker,
             waiting: Some(waiting),
             made: Err(AllocError),
         })?;
     }
-    Ok(jobs)
+    Ok(shares)
 }
 
-// What jobs that are done have made.
-fn made_by<A: Allocator + Copy>(
+// A place for what each of so many workers makes, which is nothing yet.
+fn none_made<A: Allocator + Copy>(
     alloc: A,
-    jobs: Vec<Job<'_, A>, A>,
+    workers: usize,
 ) -> Result<Vec<Result<Finished<A>, AllocError>, A>, AllocError>
-    ensures { IfOk result (λ made. made.items ≡ map (λ job. job.made) jobs.entry.items) }
+    ensures many { IfOk result (λ made. length made.items ≡ workers) }
+    ensures none { IfOk result (λ made. All (λ one. IsErr one) made.items) }
 {
-    let mut made = Vec::with_capacity(alloc, jobs.len())?;
-    for job in jobs {
-        made.push(job.made)?;
+    let mut made = Vec::with_capacity(alloc, workers)?;
+    for _ in 0..workers {
+        made.push(Err(AllocError))?;
     }
     Ok(made)
 }
 
-/// All turns of all workers, by so many threads at most. Each does those of as many workers, one after another, which
-/// stand beside each other in the list; where no thread can be made, they are done by the thread that asked for one.
+// Puts what jobs have made in the places of their workers.
+fn put_made<A: Allocator>(made: &mut Vec<Result<Finished<A>, AllocError>, A>, jobs: Vec<Job<A>, A>)
+    ensures many { length made.new.items ≡ length made.old.items }
+    ensures made { (split : Split) (writer : ℕ → WriterAt) → All (IsJob split writer) jobs.items
+        → AreMade split writer made.old.items → AreMade split writer made.new.items }
+{
+    for job in jobs {
+        let place = job.worker as usize;
+        if place < made.len() {
+            made[place] = job.made;
+        }
+    }
+}
+
+// What all workers have made, in the order of their numbers.
+fn made_by<A: Allocator + Copy>(
+    alloc: A,
+    workers: usize,
+    shares: Vec<Share<A>, A>,
+) -> Result<Vec<Result<Finished<A>, AllocError>, A>, AllocError>
+    ensures many { IfOk result (λ made. length made.items ≡ workers) }
+    ensures made { IfOk result (λ made. (split : Split) (writer : ℕ → WriterAt)
+        → All (λ share. All (IsJob split writer) share.jobs.items) shares.items
+        → AreMade split writer made.items) }
+{
+    let mut made = none_made(alloc, workers)?;
+    for share in shares {
+        put_made(&mut made, share.jobs);
+    }
+    Ok(made)
+}
+
+/// All turns of all workers of a day, by so many threads at most. Each does a share of the workers, one after another, and
+/// all shares have about as many messages; where no thread can be made, they are done by the thread that asked for one.
 pub(crate) fn finish_all<R: Threads + Wait + Sync, A: Allocator + Copy + Send + Sync, G: Gate>(
     rt: &R,
     alloc: A,
+    parts: &Parts<'_, A>,
+    threads: WorkerCount,
     board: &Board<'_, A>,
+    all: Vec<Waiting<A>, A>,
     gate: &G,
-    threads: usize,
-    all: Vec<Waiting<'_, A>, A>,
 ) -> Result<Vec<Result<Finished<A>, AllocError>, A>, AllocError>
-    requires threads { 0 < threads }
-    requires wait { All (λ w. IsWaiting w.parts.now board.now w.worker w.writers.items) all.items }
-    ensures { IfOk result (λ made. (split : Split) (writer : ℕ → WriterAt)
-        → AreWaiting split writer all.entry.items → AreFinished split writer made.items) }
+    requires wait { All (λ w. IsWaiting parts.now board.now w.worker w.writers.items) all.items }
+    ensures { IfOk result (λ made. (writer : ℕ → WriterAt)
+        → AreWaiting parts.now writer all.items → AreFinished parts.now writer made.items) }
 {
-    let mut jobs = jobs_of(alloc, all)?;
+    let count = threads.get();
+    let workers = all.len();
+    let heaviest = heaviest_first(parts, count as usize, all);
+    let mut shares = shares_of(alloc, parts, count, heaviest)?;
     for_each_mut(
         rt,
-        jobs.as_mut_slice(),
-        threads,
-        &|_index: usize, job: &mut Job<'_, A>|
+        shares.as_mut_slice(),
+        count as usize,
+        &|_index: usize, share: &mut Share<A>|
             requires { IsSync R.row × IsSync G.row × IsSend A.row × IsSync A.row
                 × Frees A.Allocator A.dealloc_token
-                × MayStart board.now job.now }
-            ensures { IsDone job.entry.now job.exit.now }
-        { do_job(rt, alloc, board, gate, job) },
+                × All (MayStart parts.now board.now) share.now.jobs.items }
+            ensures { StayJobs parts.entry.now share.entry.now.jobs.items share.exit.now.jobs.items }
+        {
+            let share_gate = ShareGate {
+                gate,
+                share: share.number,
+            };
+            do_jobs(rt, alloc, parts, board, &share_gate, &mut share.jobs);
+        },
     );
-    made_by(alloc, jobs)
+    made_by(alloc, workers, shares)
 }

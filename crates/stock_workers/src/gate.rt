@@ -5,9 +5,9 @@ use std::thread::Threads;
 /// Is called by each worker before each of its messages, in the thread that does the worker, and may wait there: so a
 /// test can hold a worker until another has come somewhere, or until a screen has seen something.
 pub trait Gate: Sync {
-    /// A worker, by its number from 0, comes to a message of the day, by its number from 1. In `summarize_in_threads`
-    /// the number is that of a group of workers, which one thread does one after another where it can be made: numbers
-    /// of messages rise within each worker, and not within a group.
+    /// A worker, by its number from 0, comes to a message of the day, by its number from 1. Where the day is split for
+    /// more workers than threads (`summarize_in_threads`), the number is that of a share of the workers, which one thread
+    /// does one after another: numbers of messages rise within each worker, and not within a share.
     fn at<R: Threads + Wait + Sync>(&self, rt: &R, worker: u32, message: u32);
 }
 
@@ -19,17 +19,16 @@ impl Gate for FreeGate {
     fn at<R: Threads + Wait + Sync>(&self, _rt: &R, _worker: u32, _message: u32) {}
 }
 
-/// A gate for workers of which one thread does several, one after another: so many each, of numbers beside each other.
-/// It calls another gate with the number of the group in place of the worker's.
+/// A gate for the workers of a share, which one thread does one after another: it calls another gate with the number of
+/// the share in place of the worker's.
 #[derive(Drop)]
-pub(crate) struct GroupGate<'g, G> {
+pub(crate) struct ShareGate<'g, G> {
     pub gate: &'g G,
-    pub each: u32,
+    pub share: u32,
 }
 
-impl<G: Gate> Gate for GroupGate<'_, G> {
-    fn at<R: Threads + Wait + Sync>(&self, rt: &R, worker: u32, message: u32) {
-        let group = worker.checked_div(self.each).unwrap_or(0);
-        self.gate.at(rt, group, message);
+impl<G: Gate> Gate for ShareGate<'_, G> {
+    fn at<R: Threads + Wait + Sync>(&self, rt: &R, _worker: u32, message: u32) {
+        self.gate.at(rt, self.share, message);
     }
 }

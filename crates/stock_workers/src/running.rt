@@ -7,7 +7,7 @@ ghost use Rattle.stock_workers.specs.Running.{AreFinished, AreWaiting, at_last};
 ghost use Rattle.stock_workers.specs.declared.running.RunFault.TheVariants.{Memory};
 
 use crate::forking::{Finished, Waiting, finish_all};
-use crate::gate::{Gate, GroupGate};
+use crate::gate::Gate;
 use binaryfile::Day;
 use day_core::{
     Parts, Piece, SplitFault, WorkerCount, all_refused, by_worker, in_order, outcomes_with, split,
@@ -72,11 +72,11 @@ struct Gathered<A: Allocator> {
 }
 
 // The workers of a day before they start, in the order of their numbers.
-fn waiting_workers<'p, A: Allocator + Copy>(
+fn waiting_workers<A: Allocator + Copy>(
     alloc: A,
-    parts: &'p Parts<'p, A>,
+    parts: &Parts<'_, A>,
     writers: Vec<TopWriter, A>,
-) -> Result<Vec<Waiting<'p, A>, A>, AllocError>
+) -> Result<Vec<Waiting<A>, A>, AllocError>
     requires { length writers.items ≡ length (locates_of_day parts.now.day) }
     ensures { IfOk result (λ all. (writer : ℕ → WriterAt)
         → writers.items ≡ map writer (locates_of_day parts.now.day)
@@ -86,11 +86,7 @@ fn waiting_workers<'p, A: Allocator + Copy>(
     let lists = by_worker(alloc, parts, writers)?;
     let mut all = Vec::with_capacity(alloc, count as usize)?;
     for (worker, writers) in (0..count).zip(lists) {
-        all.push(Waiting {
-            parts,
-            worker,
-            writers,
-        })?;
+        all.push(Waiting { worker, writers })?;
     }
     Ok(all)
 }
@@ -147,13 +143,15 @@ pub fn summarize_parts<R: Threads + Wait + Sync, A: Allocator + Copy + Send + Sy
     ensures writers { IfOk result (λ made.
         made.writers.items ≡ map (at_last parts.now.day) writers.items) }
 {
-    summarize_by(rt, alloc, parts, parts.workers(), board, writers, gate)
+    let threads = WorkerCount::new(parts.workers()).unwrap_or(WorkerCount::ONE);
+    summarize_in_threads(rt, alloc, parts, threads, board, writers, gate)
 }
 
 /// The same as [`summarize_parts`] by so many threads at most, where the day may be split for more workers than that:
-/// the workers stand in groups of numbers beside each other, and each thread does those of a group, each of them to the
-/// day's end before the next, so that the books of few stocks are in use at a time. The gate is called with the number
-/// of the group, from 0, in place of the worker's. After an error the writers are gone.
+/// each thread does a share of the workers, each of them to the day's end before the next, so that the books of few
+/// stocks are in use at a time, and all shares have about as many messages. The gate is called with the number of the
+/// share, from 0 and below the number of threads, in place of the worker's; where there are no more workers than threads
+/// it is the worker's. After an error the writers are gone.
 pub fn summarize_in_threads<R: Threads + Wait + Sync, A: Allocator + Copy + Send + Sync, G: Gate>(
     rt: &R,
     alloc: A,
@@ -169,30 +167,8 @@ pub fn summarize_in_threads<R: Threads + Wait + Sync, A: Allocator + Copy + Send
     ensures writers { IfOk result (λ made.
         made.writers.items ≡ map (at_last parts.now.day) writers.items) }
 {
-    let each = parts.workers().div_ceil(threads.get());
-    let gate = GroupGate { gate, each };
-    summarize_by(rt, alloc, parts, threads.get(), board, writers, &gate)
-}
-
-// The same, by so many threads, with a gate that is called with the workers' numbers.
-fn summarize_by<R: Threads + Wait + Sync, A: Allocator + Copy + Send + Sync, G: Gate>(
-    rt: &R,
-    alloc: A,
-    parts: &Parts<'_, A>,
-    threads: u32,
-    board: &Board<'_, A>,
-    writers: Vec<TopWriter, A>,
-    gate: &G,
-) -> Result<Summary<A>, AllocError>
-    requires threads { 0 < threads }
-    requires new { AreNew parts.now.day (locates_of_day parts.now.day) board.now writers.items }
-    ensures summary { IfOk result (λ made. IsSummary parts.now.day
-        made.refused.items made.stocks.items made.event) }
-    ensures writers { IfOk result (λ made.
-        made.writers.items ≡ map (at_last parts.now.day) writers.items) }
-{
     let waiting = waiting_workers(alloc, parts, writers)?;
-    let made = finish_all(rt, alloc, board, gate, threads as usize, waiting)?;
+    let made = finish_all(rt, alloc, parts, threads, board, waiting, gate)?;
     let gathered = gather(alloc, parts, made)?;
     Ok(Summary {
         refused: all_refused(alloc, parts, gathered.refused)?,

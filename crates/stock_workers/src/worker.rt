@@ -1,17 +1,14 @@
 //! One worker with the writers of its stocks' cells.
-ghost use Rattle.std.specs.Prelude.{◌≡◌, ◌<◌, ◌≤◌, ◌+◌, ◌^◌, All, IfOk, IfSome, MatchOption, OnErr, length, map};
+ghost use Rattle.std.specs.Prelude.{◌≡◌, ◌≤◌, All, IfOk, IfSome, MatchOption, OnErr, length, map};
 ghost use Rattle.std.specs.List.{Contains};
 ghost use Rattle.itch_table.specs.Shows.{top_after};
-ghost use Rattle.day_core.specs.Owners.{last_message, own_locates};
-ghost use Rattle.day_core.specs.Replaying.{last_machine};
-ghost use Rattle.day_core.specs.Workers.{MayGrowNext, first_state, machine_at, state_after, with_prefix, worker_locates};
+ghost use Rattle.day_core.specs.Owners.{own_locates};
+ghost use Rattle.day_core.specs.Workers.{MayGrowNext, first_state, machine_at, worker_locates};
 ghost use Rattle.top_cell.specs.Boards.{IsOn};
-ghost use Rattle.stock_workers.specs.Running.{IsWaiting};
 ghost use Rattle.stock_workers.specs.Working.{PublishesTurn, ShowsTurn, WritersAt, WritersStand, stands, writer_state};
 
-use crate::forking::Waiting;
 use crate::gate::Gate;
-use day_core::{MANY_WORKERS, Parts, Piece, Prefix, Runner, TURNS_AHEAD};
+use day_core::{MANY_WORKERS, Parts, Piece, Runner, TURNS_AHEAD};
 use itch_table::Top;
 use std::alloc::{AllocError, Allocator};
 use std::marker::Model;
@@ -34,7 +31,6 @@ pub struct Worker<'p, A: Allocator> {
 
 impl<'p, A: Allocator> Model for Worker<'p, A> {
     ghost use Rattle.std.specs.Prelude.{map};
-    ghost use Rattle.stock_workers.specs.Running.{IsWaiting};
     ghost use Rattle.stock_workers.specs.Working.{Working, WritersStand};
 
     ghost Value = { Working };
@@ -72,48 +68,6 @@ impl<'p, A: Allocator + Copy> Worker<'p, A> {
             ≡ record { state = first_state parts.now worker; places = map (λ w. w.place) writers.items }) }
     {
         let runner = Runner::new(alloc, parts, worker)?;
-        Ok(Worker { runner, writers })
-    }
-
-    /// A worker that goes on after a prefix of the day: it waits with the parts of the segment after it, and with the
-    /// writers of its stocks' cells on the segment's board, none of which has published anything. The caller passes
-    /// the machines of its stocks after the prefix, and the writers that have shown them on the board before, each at
-    /// its stock's last message. What these have shown is shown on the segment's board first.
-    ///
-    /// After an error the machines and the writers are gone.
-    pub(crate) fn resume(
-        alloc: A,
-        prefix: &Prefix<A>,
-        waiting: Waiting<'p, A>,
-        stocks: Vec<Stock<A>, A>,
-        shown: &[TopWriter],
-        board: &Board<'_, A>,
-    ) -> Result<Worker<'p, A>, AllocError>
-        requires few { length prefix.now + length waiting.parts.now.day < 2 ^ 32 }
-        requires stocks { stocks.items ≡ map (last_machine prefix.now)
-            (own_locates waiting.parts.now.workers waiting.worker prefix.now) }
-        requires shown { WritersAt prefix.now (last_message prefix.now)
-            (own_locates waiting.parts.now.workers waiting.worker prefix.now) shown.now }
-        requires waits { IsWaiting (with_prefix prefix.now waiting.parts.now) board.now waiting.worker
-            waiting.writers.items }
-        ensures { IfOk result (λ made. made ≡ record {
-          state = state_after prefix.now waiting.entry.parts.now waiting.entry.worker 0;
-          places = map (λ w. w.place) waiting.entry.writers.items;
-        }) }
-    {
-        let Waiting {
-            parts,
-            worker,
-            mut writers,
-        } = waiting;
-        let runner = Runner::resume(alloc, prefix, parts, worker, stocks)?;
-        for earlier in shown {
-            let Some(index) = runner.index_of(earlier.locate()) else {
-                continue;
-            };
-            let best = runner.stock_at(index).top();
-            writers[index].publish(board, earlier.message(), best);
-        }
         Ok(Worker { runner, writers })
     }
 

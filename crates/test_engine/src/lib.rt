@@ -11,4 +11,6 @@ mod moments;
 #[cfg(test)]
 mod runs;
 #[cfg(test)]
+mod shares;
+#[cfg(test)]
 mod watching;

@@ -12,7 +12,7 @@ use std::sync::atomic::{AtomicU64, Ordering};
 use std::test::Fail;
 use std::thread::{Threads, join, yield_now};
 use stock_workers::{Gate, run, summarize_in_threads};
-use test_support::{AAPL, MSFT, crossed_book, day_with, same};
+use test_support::{AAPL, MSFT, Ticker, crossed_book, day_with, same};
 use top_cell::{Board, Reading, Screen};
 
 // How often a worker that is held looks whether it may go on, at most; each time other threads may run.
@@ -107,6 +107,55 @@ fn threads_of_several_workers_run_beside_each_other(rt: HostRuntime) -> Result<(
     let done = summarize_in_threads(&rt, alloc, &parts, threads, &board, writers, &gate).is_ok();
     let met = gate.met.load(Ordering::SeqCst);
     same("who met the other in two threads", &(done, met), &(true, 2))
+}
+
+// Counts how often it was called with number 0, and with other numbers.
+#[derive(Drop)]
+struct Calls {
+    first: AtomicU64,
+    others: AtomicU64,
+}
+
+impl Gate for Calls {
+    fn at<R: Threads + Wait + Sync>(&self, _rt: &R, worker: u32, _message: u32) {
+        let calls = match worker {
+            0 => &self.first,
+            _ => &self.others,
+        };
+        calls.fetch_add(1, Ordering::SeqCst);
+    }
+}
+
+#[test]
+fn threads_have_as_many_messages_as_each_other(rt: HostRuntime) -> Result<(), Fail> {
+    let alloc = rt.alloc();
+    // Of four workers in two threads, those of numbers 0 and 1 have three messages each, the others one each.
+    let first = Ticker { locate: 4, ..AAPL };
+    let third = Ticker { locate: 3, ..AAPL };
+    let day = day_with(
+        alloc,
+        &[
+            first.directory(),
+            first.directory(),
+            first.directory(),
+            AAPL.directory(),
+            AAPL.directory(),
+            AAPL.directory(),
+            MSFT.directory(),
+            third.directory(),
+        ],
+    )?;
+    let gate = Calls {
+        first: AtomicU64::new(0),
+        others: AtomicU64::new(0),
+    };
+    let parts = parts_of(&rt, alloc, &day, WorkerCount::new(4).unwrap())?;
+    let threads = WorkerCount::new(2).unwrap();
+    let (board, writers) = Board::new(&alloc, &day)?;
+    let done = summarize_in_threads(&rt, alloc, &parts, threads, &board, writers, &gate).is_ok();
+    let first = gate.first.load(Ordering::SeqCst);
+    let others = gate.others.load(Ordering::SeqCst);
+    same("messages by thread", &(done, first, others), &(true, 4, 4))
 }
 
 // Holds the worker at message 2 until a screen has seen message 1.

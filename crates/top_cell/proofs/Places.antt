@@ -2,9 +2,10 @@
 use Rattle.std.proofs.Common.{◌≡◌, ◌⊎◌, ℕ, zero, suc, ◌<◌, List, [], ◌∷◌, ◌++◌, length, map, get_or, Some, inl, inr, refl, sym, ap, ◌∙◌, subst, ⊎_elim, arith, length-append}
 use Rattle.std.specs.Prelude.{slice_get}
 use Rattle.std.proofs.lemmas.List.{length-map, map-append}
-use Rattle.std.specs.List.Sorted.{IsStrictlyIncreasing}
 use Rattle.std.specs.List.{AllPairs}
 use Rattle.atomic_table.specs.Seated.{TableId}
+use Rattle.itch_table.specs.Shows.{locates_of_day}
+use Rattle.itch_table.proofs.DayLocates.{rising}
 use Rattle.std.proofs.lemmas.List.Kept.{AllPairs-from_increasing}
 use Rattle.top_cell.specs.Boards.{CellId, WriterAt, AreApart, AreNew, IsOn, cell_id, cells_of, new_writer, place}
 use Rattle.top_cell.specs.Cells.{HasCells}
@@ -70,9 +71,9 @@ apart (x ∷ xs) rises zero (suc j) c d e f same = let one : Some x ≡ Some c =
 apart (x ∷ xs) rises (suc i) zero c d e f same = let one : Some x ≡ Some d = f in let is : x ≡ d = cc in absurd (omega (arith, first_lowest x xs i c rises e, ap (λ (o : CellId). o.locate) is, same))
 apart (x ∷ xs) rises (suc i) (suc j) c d e f same = ap suc (apart xs (λ a b k below inside. rises (suc a) (suc b) k (omega arith) (omega arith)) i j c d e f same)
 
--- the cells of stocks by rising locate code
-pub rising_apart : (day : List (List ℕ)) (locates : List ℕ) (board : List CellId) (writers : List WriterAt) → AreNew day locates board writers → IsStrictlyIncreasing locates → AreApart board
-rising_apart day locates board writers new rises = apart board (subst (AllPairs (λ a b. a < b)) (sym new.cells) (AllPairs-from_increasing locates rises))
+-- the cells of a day's stocks
+pub day_apart : (day : List (List ℕ)) (board : List CellId) (writers : List WriterAt) → AreNew day (locates_of_day day) board writers → AreApart board
+day_apart day board writers new = apart board (subst (AllPairs (λ a b. a < b)) (sym new.cells) (AllPairs-from_increasing (locates_of_day day) (rising day)))
 
 -- ---- new boards
 

@@ -1,6 +1,5 @@
 //! The cells of a day's stocks.
-ghost use Rattle.std.specs.Prelude.{ℕ, ◌≡◌, ◌+◌, ◌<◌, ◌^◌, ◌++◌, IfOk, Some, length, slice_get};
-ghost use Rattle.std.specs.List.Sorted.{IsStrictlyIncreasing};
+ghost use Rattle.std.specs.Prelude.{ℕ, ◌≡◌, ◌+◌, ◌<◌, IfOk, Some, length, slice_get};
 ghost use Rattle.itch_table.specs.Shows.{locates_of_day};
 ghost use Rattle.top_cell.specs.Boards.{AreApart, AreNew, CellId, cell_id, new_writer};
 ghost use Rattle.top_cell.specs.Cells.{HasCells};
@@ -12,7 +11,7 @@ use crate::rule::{Cells, Standing, Words};
 use crate::seat::{STRIDE, Seat};
 use crate::writer::TopWriter;
 use binaryfile::Day;
-use day_core::{Prefix, locates};
+use day_core::locates;
 use std::alloc::{AllocError, Allocator};
 use std::marker::{Brand, Model};
 
@@ -50,25 +49,24 @@ impl<'a, A: Allocator> Board<'a, A> {
     }
 }
 
-// Opens the next cell of a board, as that of a stock of a day: of a prefix, and then this segment. Returns its writer.
+// Opens the next cell of a board, as that of a stock of the day, and returns its writer.
 fn open<J: Naming, A: Allocator>(
     cells: &Words,
     opener: &mut atomic_table::Seat<(), Standing>,
-    prefix: &Prefix<A>,
-    segment: &Day<A>,
+    day: &Day<A>,
     locate: u16,
     index: u16,
 ) -> TopWriter
-    requires stock { J.stock ≡ day_stock (prefix.now ++ segment.now.payloads) locate }
-    requires few { length prefix.now + length segment.now.payloads < 2 ^ 32 }
+    requires stock { J.stock ≡ day_stock day.now.payloads locate }
     requires own { (opener.old.table_id ≡ cells.now.table_id) × (0 < cells.now.table_id.words) }
     requires next { opener.old.me.0 ≡ Opener index }
     ensures same { opener.new.table_id ≡ opener.old.table_id }
     ensures next { opener.new.me.0 ≡ Opener (index + 1) }
     ensures writer { result
-        ≡ new_writer (prefix.now ++ segment.now.payloads) locate index
-        (cell_id locate cells.now.table_id) }
+        ≡ new_writer day.now.payloads locate index (cell_id locate cells.now.table_id) }
 {
+    // For the proof alone: it says that the day has fewer than 2^32 messages.
+    let _few = day.payloads();
     let table_seat = cells.split_seat::<Opens<J>>(opener);
     TopWriter {
         seat: Seat { table_seat, index },
@@ -101,24 +99,6 @@ impl<'a, A: Allocator + Copy> Board<'a, A> {
         ensures { IfOk result (λ made.
             AreNew day.now.payloads (locates_of_day day.now.payloads) made.0 made.1.items) }
     {
-        // For the proof alone: it says that the day has fewer than 2^32 messages.
-        let _few = day.payloads();
-        Board::of_segment(alloc, &Prefix::none(), day, locates)
-    }
-
-    /// The same for some stocks of the day that a prefix and the segment after it make, whose locate codes the caller
-    /// passes, rising: a cell for each of them, and its writer.
-    pub fn of_segment(
-        alloc: &'a A,
-        prefix: &Prefix<A>,
-        segment: &Day<A>,
-        locates: &[u16],
-    ) -> Result<(Board<'a, A>, Vec<TopWriter, A>), AllocError>
-        requires few { length prefix.now + length segment.now.payloads < 2 ^ 32 }
-        requires rising { IsStrictlyIncreasing locates.now }
-        ensures { IfOk result (λ made. AreNew (prefix.now ++ segment.now.payloads) locates.now
-            made.0 made.1.items) }
-    {
         let count = locates.len();
         // There are at most 2^16 stocks, so the product always fits; the proof doesn't use that.
         let Some(words) = count.checked_mul(STRIDE) else {
@@ -129,14 +109,7 @@ impl<'a, A: Allocator + Copy> Board<'a, A> {
         let mut writers = Vec::with_capacity(*alloc, count)?;
         for locate in locates {
             let index = writers.len() as u16;
-            let writer = open::<Brand, A>(
-                &cells.shared,
-                &mut opener,
-                prefix,
-                segment,
-                *locate,
-                index,
-            );
+            let writer = open::<Brand, A>(&cells.shared, &mut opener, day, *locate, index);
             writers.push(writer)?;
         }
         let locates = Vec::from_slice(*alloc, locates)?;

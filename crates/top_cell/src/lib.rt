@@ -26,7 +26,6 @@
 //! ```
 //!
 //! [`Board::of_stocks`] is [`Board::new`] where the day is split already: it takes `parts.locates()` of `day_core`.
-//! [`Board::of_segment`] is for one segment of a day that goes on after a `Prefix` of `day_core`.
 //! [`Screen::read`] takes `rt`, since it may wait; [`Screen::glance`] makes a bounded number of loads.
 //! [`TopWriter::screen`] makes a screen, and [`Screen::split`] a further one.
 //!

@@ -1,32 +1,44 @@
-use Rattle.std.proofs.Common.{◌≡◌, get_or, arith, ap, sym, subst, length, map, ◌∙◌}
-use Rattle.std.proofs.lemmas.Result.{IfOk-weaker}
-use Rattle.stock_workers.specs.Running.{IsDone}
-use Rattle.stock_workers.proofs.Joined.{all_done, may_start, written_back}
+use Rattle.std.proofs.Common.{◌≡◌, ◌<◌, All, length, get_or, sym, ap, subst, ◌∙◌, arith}
+use Rattle.std.proofs.lemmas.List.Sorted.{All-permutation}
+use Rattle.stock_workers.specs.Running.{HasOwnWriters, IsJob, IsWaiting, MayStart, StayJobs}
+use Rattle.stock_workers.proofs.Jobs.{both_ok, written_back}
+use Rattle.stock_workers.proofs.Joined.{all_finished, all_have_own}
 use Rattle.stock_workers.proofs.forking.finish_all.Goals as goal
 
 pub for_each_mut-requires-clause-accepts : goal.for_each_mut-requires-clause-accepts
 for_each_mut-requires-clause-accepts g c κs within = λ i p lt is.
-    let same = c.as_mut_slice.ensures.value in (
+    let same = c.as_mut_slice.ensures.value in
+    let split = c.args.parts.now in
+    let board = c.args.board.now in
+    let waits = All-permutation (λ w. IsWaiting split board w.worker w.writers.items) c.args.all.items c.heaviest_first-heaviest.result.items c.heaviest_first-heaviest.ensures c.requires.wait in
+    let start = (c.in_ok-shares.ensures {u = tt}).start board waits i p.now (omega (arith, lt, ap length same)) in (
       (
         search,
         search,
         search,
         search,
         search,
-        may_start c.args.board.now c.args.all.items c.in_ok-jobs.jobs.items (c.in_ok-jobs.ensures {u = tt}) c.requires.wait i p.now (omega (arith, lt, ap length same)) (is ∙ ap (λ xs. get_or xs i p.now) same),
+        subst (λ share. All (MayStart split board) share.jobs.items) (sym (is ∙ ap (λ xs. get_or xs i p.now) same)) start,
       ),
       search,
     )
 
 pub returns : goal.returns
 returns g c =
-    let jobs = c.in_ok-jobs.jobs.items in
+    let split = c.args.parts.now in
+    let all = c.args.all.items in
+    let shares = c.in_ok-shares.shares.items in
     let after = c.for_each_mut.new.s in
     let same = c.as_mut_slice.ensures.value in
-    let long : length after ≡ length jobs = c.for_each_mut.auto.s ∙ ap length same in
-    IfOk-weaker c.made_by.result _ _ (λ made is split writer are.
-    all_done split writer c.args.all.items jobs after made.items are (c.in_ok-jobs.ensures {u = tt}) long
-    (λ k d lt.
-    let at = (c.for_each_mut.ensures k d (omega (arith, lt, ap length same))).1 in
-    subst (λ job. IsDone job (get_or after k d)) (at.argument_is ∙ ap (λ xs. get_or xs k d) same) (subst (IsDone at.argument.now) at.left at.call))
-    (is ∙ ap (map (λ job. job.made)) (written_back after _ c.in_ok-jobs.jobs.len (long ∙ sym c.in_ok-jobs.jobs.ok.0)))) c.made_by.ensures
+    let long : length after ≡ length shares = c.for_each_mut.auto.s ∙ ap length same in
+    let whole = written_back after _ c.in_ok-shares.shares.len (long ∙ sym c.in_ok-shares.shares.ok.0) in
+    both_ok c.made_by.result _ _ _ c.made_by.ensures.many c.made_by.ensures.made (λ made many is writer are.
+    all_finished split writer all made.items are (many ∙ c.len-workers.ensures ∙ c.args.all.ok.0)
+    (is split writer (subst (All (λ share. All (IsJob split writer) share.jobs.items)) (sym whole) (λ k d lt.
+    let there : k < length shares = omega (arith, lt, long) in
+    let own = All-permutation (HasOwnWriters split writer) all c.heaviest_first-heaviest.result.items c.heaviest_first-heaviest.ensures (all_have_own split writer all are) in
+    let jobs = (c.in_ok-shares.ensures {u = tt}).jobs writer own k d there in
+    let at = (c.for_each_mut.ensures k d (omega (arith, there, ap length same))).1 in
+    let stay = subst (λ share. StayJobs split share.jobs.items (get_or after k d).jobs.items) (at.argument_is ∙ ap (λ xs. get_or xs k d) same)
+    (subst (λ share. StayJobs split at.argument.now.jobs.items share.jobs.items) at.left at.call) in
+    stay writer jobs))))

@@ -1,5 +1,11 @@
-use Rattle.std.proofs.Common.{◌≡◌, map}
+use Rattle.std.proofs.Common.{◌≡◌, All, ℕ, length}
+use Rattle.day_core.specs.Splitting.{Split}
+use Rattle.top_cell.specs.Boards.{WriterAt}
+use Rattle.stock_workers.specs.Running.{AreMade, IsJob}
 use Rattle.stock_workers.proofs.forking.made_by.Given as goal
 
-abbrev pub invariant-loop-job : goal.invariant-loop-job
-invariant-loop-job g l = l.made.items ≡ map (λ job. job.made) l.yielded
+abbrev pub invariant-loop-share : goal.invariant-loop-share
+invariant-loop-share g l = record {
+  many : length l.made.items ≡ l.workers;
+  made : (split : Split) (writer : ℕ → WriterAt) → All (λ share. All (IsJob split writer) share.jobs.items) l.yielded → AreMade split writer l.made.items;
+}

@@ -13,7 +13,6 @@ use Rattle.stock_workers.proofs.running.waiting_workers.Goals as goal
 
 pub loop-worker-init : goal.loop-worker-init
 loop-worker-init g c = record {
-  splits = ap (map (λ w. w.parts.now)) c.in_ok-all.ensures.items;
   numbers = ap (map (λ w. w.worker)) c.in_ok-all.ensures.items;
   writers = ap (map (λ w. w.writers)) c.in_ok-all.ensures.items;
 }
@@ -22,7 +21,6 @@ pub loop-worker-preserved : goal.loop-worker-preserved
 loop-worker-preserved g c =
     let before = c.loop-worker in
     record {
-      splits = ap (map (λ w. w.parts.now)) c.in_ok-push.ensures.items ∙ map-append (λ w. w.parts.now) before.all.items _ ∙ ap (λ xs. xs ++ c.args.parts.now ∷ []) before.invariant.splits ∙ sym (map-append (λ _. c.args.parts.now) before.yielded _);
       numbers = ap (map (λ w. w.worker)) c.in_ok-push.ensures.items ∙ map-append (λ w. w.worker) before.all.items _ ∙ ap (λ xs. xs ++ c.in-Some.worker ∷ []) before.invariant.numbers ∙ sym (map-append (λ p. p.0) before.yielded _);
       writers = ap (map (λ w. w.writers)) c.in_ok-push.ensures.items ∙ map-append (λ w. w.writers) before.all.items _ ∙ ap (λ xs. xs ++ c.in-Some.writers ∷ []) before.invariant.writers ∙ sym (map-append (λ p. p.1) before.yielded _);
     }
@@ -45,7 +43,6 @@ returns g c = λ writer are.
     let counted = ap (map (λ p. p.0)) all ∙ firsts-zip (range_with_len 0 count) lists same in
     let workers = c.workers-count.ensures.workers in
     record {
-      splits_are = done.invariant.splits ∙ sym (map_twice (λ (k : ℕ). split) (λ p. p.0) done.yielded) ∙ ap (map (λ (k : ℕ). split)) counted ∙ ap (λ (n : ℕ). map (λ (k : ℕ). split) (range_with_len 0 n)) workers;
       numbers_are = done.invariant.numbers ∙ counted ∙ sym (map-id (range_with_len 0 count)) ∙ ap (λ (n : ℕ). map (λ (k : ℕ). k) (range_with_len 0 n)) workers;
       writers_are =
           sym (map_twice (λ v. v.items) (λ w. w.writers) done.all.items) ∙ ap (map (λ v. v.items)) (done.invariant.writers ∙ ap (map (λ p. p.1)) all ∙ seconds-zip (range_with_len 0 count) lists same)

@@ -3,7 +3,6 @@ use Rattle.stock_workers.proofs.running.waiting_workers.Given as goal
 
 abbrev pub invariant-loop-worker : goal.invariant-loop-worker
 invariant-loop-worker g l = record {
-  splits : map (λ w. w.parts.now) l.all.items ≡ map (λ _. l.fn.parts) l.yielded;
   numbers : map (λ w. w.worker) l.all.items ≡ map (λ p. p.0) l.yielded;
   writers : map (λ w. w.writers) l.all.items ≡ map (λ p. p.1) l.yielded;
 }

@@ -1,30 +1,24 @@
-use Rattle.std.proofs.Common.{List, ℕ, ◌++◌, length, map, ap, subst, sym, ◌∙◌, ◌≡◌, arith}
-use Rattle.day_core.specs.Owners.{own_locates}
-use Rattle.day_core.specs.Replaying.{last_machine}
-use Rattle.day_core.specs.Workers.{WorkerState, new_machine, state_after}
-use Rattle.std.specs.Prelude.{IfOk}
+use Rattle.std.proofs.Common.{List, ℕ, map, refl, subst, sym, ap, ◌∙◌}
 use Rattle.std.specs.List.Sorted.{IsStrictlyIncreasing}
-use Rattle.day_core.proofs.Running.{codes_rise}
-use Rattle.day_core.proofs.Prefixes.{new_machines, none_before}
+use Rattle.day_core.specs.Owners.{own_messages}
+use Rattle.day_core.specs.Workers.{AreOfStocks, new_machine}
+use Rattle.day_core.proofs.OwnLeft.{ahead_first, all_of_own}
+use Rattle.day_core.proofs.Running.{codes_rise, runner_new}
 use Rattle.day_core.proofs.runner.Runner.new.Goals as goal
 
 pub new-requires : goal.new-requires
-new-requires g c = subst IsStrictlyIncreasing (sym c.in_ok-locates.ensures.codes) (codes_rise c.args.parts.now.workers c.args.worker c.args.parts.now.day)
+new-requires g c = subst IsStrictlyIncreasing (sym c.in_ok-locates.ensures) (codes_rise c.args.parts.now.workers c.args.worker c.args.parts.now.day)
 
-pub with_machines-requires-clause-few : goal.with_machines-requires-clause-few
-with_machines-requires-clause-few g c = omega (arith, c.own_codes.ensures.few, ap length c.none.ensures)
-
-pub with_machines-requires-clause-locates : goal.with_machines-requires-clause-locates
-with_machines-requires-clause-locates g c =
-    let segment = c.args.parts.now in
-    c.in_ok-indices.ensures ∙ c.in_ok-locates.ensures.codes ∙ ap (λ (prefix : List (List ℕ)). own_locates segment.workers c.args.worker (prefix ++ segment.day)) (sym c.none.ensures)
-
-pub with_machines-requires-clause-stocks : goal.with_machines-requires-clause-stocks
-with_machines-requires-clause-stocks g c = c.in_ok-stocks.ensures ∙ ap (map new_machine) (c.deref.ensures.value ∙ sym c.in_ok-indices.ensures) ∙ new_machines c.in_ok-indices.indices
-    ∙ ap (λ (prefix : List (List ℕ)). map (last_machine prefix) c.in_ok-indices.indices) (sym c.none.ensures)
-
-pub returns : goal.returns
-returns g c =
+pub find_next-next-requires : goal.find_next-next-requires
+find_next-next-requires g c =
     let split = c.args.parts.now in
-    let first = ap (λ (prefix : List (List ℕ)). state_after prefix split c.args.worker 0) c.none.ensures ∙ none_before split c.args.worker in
-    subst (λ (s : WorkerState). IfOk c.with_machines-2.result (λ runner. runner ≡ s)) first c.with_machines-2.ensures
+    subst (λ (ms : List (ℕ × List ℕ)). AreOfStocks c.in_ok-indices.indices ms) (sym c.own-left.ensures.messages)
+    (subst (λ (ls : List ℕ). AreOfStocks ls (own_messages split.workers c.args.worker split.day)) (sym (c.in_ok-indices.ensures ∙ c.in_ok-locates.ensures)) (all_of_own split.workers c.args.worker split.day))
+
+pub invariant_of-result : goal.invariant_of-result
+invariant_of-result g c =
+    let codes = c.in_ok-indices.ensures in
+    let stocks = c.in_ok-stocks.ensures ∙ ap (map new_machine) (c.deref.ensures.value ∙ sym codes) in (
+      runner_new c.args.parts.now c.args.worker _ _ c.own-left.ensures.few (codes ∙ c.in_ok-locates.ensures) stocks,
+      ahead_first _ _ _ _ _ _ refl c.own-left.ensures.messages c.find_next-next.ensures.found (c.in_ok-ahead.ensures {u = tt}).items c.find_next-next.ensures.left,
+    )
