@@ -33,8 +33,8 @@ impl From<AllocError> for SplitFault {
     }
 }
 
-/// For how many workers a day is split where so many threads replay it: for [`MANY_WORKERS`] to 64, as many for each
-/// thread, where a long day has many stocks, so that a thread does several workers one after another, of as few stocks
+/// For how many workers a day is split where so many threads replay it: for [`MANY_WORKERS`] to 64, a multiple of the
+/// threads, where a long day has many stocks, so that a thread does several workers one after another, of as few stocks
 /// that their books stay in the processor's caches; else for the threads alone. How many stocks the day has is
 /// estimated from its first messages. Whatever the number, the day makes the same.
 ///

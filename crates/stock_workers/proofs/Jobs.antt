@@ -1,4 +1,4 @@
--- Jobs on the workers of a split day: one that is done, one that is given to a share, and what is made of it.
+-- Jobs on the workers of a split day: one that is done, one that is given to a batch, and what is made of it.
 use Rattle.std.proofs.Common.{◌≡◌, ℕ, ◌+◌, ◌<◌, ◌≤◌, List, [], ◌∷◌, ◌++◌, All, length, get_or, set, take, Option, Some, None, IfSome, Result, IfOk, IsErr, Ok, Err, refl, sym, subst, arith, inl, inr}
 use Rattle.std.specs.declared.alloc.AllocError.{AllocError}
 use Rattle.std.proofs.Math.Seq.{take-append_seam}
@@ -10,7 +10,7 @@ use Rattle.day_core.specs.Splitting.{Split}
 use Rattle.top_cell.specs.Boards.{WriterAt}
 use Rattle.stock_workers.specs.declared.forking.Finished.{Finished}
 use Rattle.stock_workers.specs.declared.forking.Job.{Job}
-use Rattle.stock_workers.specs.declared.forking.Share.{Share}
+use Rattle.stock_workers.specs.declared.forking.Batch.{Batch}
 use Rattle.stock_workers.specs.declared.forking.Waiting.{Waiting}
 use Rattle.stock_workers.specs.Running.{AreMade, HasOwnWriters, IsFinished, IsJob, IsMade}
 
@@ -65,16 +65,16 @@ pub left_more : {X : Type 0} (P : X → Type 0) (xs : List X) (i : ℕ) (y : X) 
 left_more P xs i y left k d after lt =
     subst P (sym (get_or-set_other xs i k y d (λ e. omega (arith, after, e)))) (left k d (omega (arith, after)) (omega (arith, lt, length-set xs i y)))
 
--- shares, of which one is given one job more
-pub given_more : {A : Type 0} (W : Waiting A → Type 0) (P : Job A → Type 0) (yielded : List (Waiting A)) (w : Waiting A) (shares : List (Share A)) (i : ℕ) (share after : Share A) (job : Job A)
-    → (All W yielded → All (λ s. All P s.jobs.items) shares) → (W w → P job) → share ≡ get_or shares i share → i < length shares
-    → after.jobs.items ≡ share.jobs.items ++ job ∷ [] → All W (yielded ++ w ∷ []) → All (λ s. All P s.jobs.items) (set shares i after)
-given_more {A} W P yielded w shares i share after job before starts is lt pushed all =
+-- batches, of which one is given one job more
+pub given_more : {A : Type 0} (W : Waiting A → Type 0) (P : Job A → Type 0) (yielded : List (Waiting A)) (w : Waiting A) (batches : List (Batch A)) (i : ℕ) (batch after : Batch A) (job : Job A)
+    → (All W yielded → All (λ s. All P s.jobs.items) batches) → (W w → P job) → batch ≡ get_or batches i batch → i < length batches
+    → after.jobs.items ≡ batch.jobs.items ++ job ∷ [] → All W (yielded ++ w ∷ []) → All (λ s. All P s.jobs.items) (set batches i after)
+given_more {A} W P yielded w batches i batch after job before starts is lt pushed all =
     let parts = All-pop W (yielded ++ w ∷ []) yielded (Some w) refl all in
     let given = before parts.0 in
-    let here : All P share.jobs.items = subst (λ (s : Share A). All P s.jobs.items) (sym is) (given i share lt) in
-    All-set (λ s. All P s.jobs.items) shares i after
-    (subst (All P) (sym pushed) (All-push P share.jobs.items job here (starts parts.1))) given
+    let here : All P batch.jobs.items = subst (λ (s : Batch A). All P s.jobs.items) (sym is) (given i batch lt) in
+    All-set (λ s. All P s.jobs.items) batches i after
+    (subst (All P) (sym pushed) (All-push P batch.jobs.items job here (starts parts.1))) given
 
 -- a list whose items are written back in their places
 pub written_back : {X : Type 0} (xs rest : List X) (n : ℕ) → length xs ≡ n → take n (xs ++ rest) ≡ xs

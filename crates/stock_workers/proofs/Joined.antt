@@ -57,5 +57,4 @@ all_may_start split writer all board are each = λ k d lt. may_wait split writer
 pub all_finished : {A : Type 0} (split : Split) (writer : ℕ → WriterAt) (all : List (Waiting A)) (made : List (Result (Finished A) AllocError)) → AreWaiting split writer all → length made ≡ length all
     → AreMade split writer made → AreFinished split writer made
 all_finished split writer all made are long each =
-    let count = many_wait split writer all are in
-    record { long = long ∙ count; each = λ k d lt. each k d (omega (arith, lt, long, count)) }
+    record { long = long ∙ many_wait split writer all are; each = each }

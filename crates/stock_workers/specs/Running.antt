@@ -59,20 +59,16 @@ abbrev pub MayStart : {A : Type 0} → Split → List CellId → Job A → Type 
 MayStart split board job = IfSome job.waiting (λ w. IsWaiting split board w.worker w.writers.items)
 
 -- jobs on workers of a split day are jobs on them afterwards
-abbrev pub StayJobs : {A : Type 0} → Split → List (Job A) → List (Job A) → Type 0
-StayJobs split old new = (writer : ℕ → WriterAt) → All (IsJob split writer) old → All (IsJob split writer) new
+abbrev pub AreStillJobs : {A : Type 0} → Split → List (Job A) → List (Job A) → Type 0
+AreStillJobs split old new = (writer : ℕ → WriterAt) → All (IsJob split writer) old → All (IsJob split writer) new
 
 -- what workers of a split day have made, each at its number
 abbrev pub AreMade : {A : Type 0} → Split → (ℕ → WriterAt) → List (Result (Finished A) AllocError) → Type 0
 AreMade {A} split writer made = (worker : ℕ) (d : Result (Finished A) AllocError) → worker < length made
     → IsMade split writer worker (slice_index_or made worker d)
 
--- what all workers make, in the order of their numbers, where none was refused memory: the writers of their
--- stocks were these, by locate code
+-- what all workers make, in the order of their numbers: the writers of their stocks were these, by locate code
 pub record AreFinished {A : Type 0} (split : Split) (writer : ℕ → WriterAt)
     (made : List (Result (Finished A) AllocError)) : Type 0 where
   pub long : length made ≡ split.workers
-  pub each : (worker : ℕ) (d : Result (Finished A) AllocError) → worker < split.workers
-      → IfOk (slice_index_or made worker d)
-      (λ m. IsFinished split worker (for_own_stocks writer split worker) m.refused.items m.stocks.items
-      m.writers.items)
+  pub each : AreMade split writer made

@@ -4,9 +4,9 @@ ghost use Rattle.std.specs.Thread.{IsSend, IsSync};
 ghost use denote.Param.Send.{Frees};
 ghost use Rattle.day_core.specs.Splitting.{Split};
 ghost use Rattle.top_cell.specs.Boards.{CellId, WriterAt};
-ghost use Rattle.stock_workers.specs.Running.{AreFinished, AreMade, AreWaiting, HasOwnWriters, IsFinished, IsJob, IsWaiting, MayStart, StayJobs};
+ghost use Rattle.stock_workers.specs.Running.{AreFinished, AreMade, AreWaiting, HasOwnWriters, IsFinished, IsJob, IsWaiting, MayStart, AreStillJobs};
 
-use crate::gate::{Gate, ShareGate};
+use crate::gate::{BatchGate, Gate};
 use crate::worker::Worker;
 use day_core::{Parts, Piece, WorkerCount, note_refused};
 use std::alloc::{AllocError, Allocator};
@@ -41,9 +41,9 @@ pub(crate) struct Job<A: Allocator> {
     pub made: Result<Finished<A>, AllocError>,
 }
 
-/// The jobs that one thread does, one after another, with the share's number and about how much there is to do.
+/// The jobs that one thread does, one after another, with the batch's number and about how much there is to do.
 #[derive(Drop)]
-pub(crate) struct Share<A: Allocator> {
+pub(crate) struct Batch<A: Allocator> {
     pub number: u32,
     pub load: u64,
     pub jobs: Vec<Job<A>, A>,
@@ -94,7 +94,7 @@ fn do_job<R: Threads + Wait + Sync, A: Allocator + Copy, G: Gate>(
     }
 }
 
-// All jobs of a share, one after another.
+// All jobs of a batch, one after another.
 fn do_jobs<R: Threads + Wait + Sync, A: Allocator + Copy, G: Gate>(
     rt: &R,
     alloc: A,
@@ -104,23 +104,23 @@ fn do_jobs<R: Threads + Wait + Sync, A: Allocator + Copy, G: Gate>(
     jobs: &mut [Job<A>],
 )
     requires { All (MayStart parts.now board.now) jobs.old }
-    ensures { StayJobs parts.now jobs.old jobs.new }
+    ensures { AreStillJobs parts.now jobs.old jobs.new }
 {
     for job in jobs.iter_mut() {
         do_job(rt, alloc, parts, board, gate, job);
     }
 }
 
-// The workers with most messages first, and of equal ones that of the lower number, where there are more of them than
-// shares: so the last ones that are given to a share change little.
+// The workers with most messages first, and of equal ones that of the lower number, where there are more of them than so
+// many batches: then the last ones that are given to a batch change little.
 fn heaviest_first<A: Allocator>(
     parts: &Parts<'_, A>,
-    shares: usize,
+    count: usize,
     mut all: Vec<Waiting<A>, A>,
 ) -> Vec<Waiting<A>, A>
     ensures { IsPermutation all.items result.items }
 {
-    if all.len() > shares {
+    if all.len() > count {
         all.sort_unstable_by_key(|waiting| {
             let messages = parts.own_count(waiting.worker);
             (Reverse(messages), waiting.worker)
@@ -129,65 +129,65 @@ fn heaviest_first<A: Allocator>(
     all
 }
 
-// So many shares without jobs, with the numbers from 0 on.
-fn empty_shares<A: Allocator + Copy>(alloc: A, count: u32) -> Result<Vec<Share<A>, A>, AllocError>
-    ensures many { IfOk result (λ shares. length shares.items ≡ count) }
-    ensures empty { IfOk result (λ shares. All (λ share. share.jobs.items ≡ []) shares.items) }
+// So many batches without jobs, with the numbers from 0 on.
+fn empty_batches<A: Allocator + Copy>(alloc: A, count: u32) -> Result<Vec<Batch<A>, A>, AllocError>
+    ensures many { IfOk result (λ batches. length batches.items ≡ count) }
+    ensures empty { IfOk result (λ batches. All (λ batch. batch.jobs.items ≡ []) batches.items) }
 {
-    let mut shares = Vec::with_capacity(alloc, count as usize)?;
+    let mut batches = Vec::with_capacity(alloc, count as usize)?;
     for number in 0..count {
-        shares.push(Share {
+        batches.push(Batch {
             number,
             load: 0,
             jobs: Vec::new(alloc),
         })?;
     }
-    Ok(shares)
+    Ok(batches)
 }
 
-// The first of the shares that have least to do.
-fn lightest<A: Allocator>(shares: &[Share<A>]) -> usize
-    requires { 0 < length shares.now }
-    ensures { result < length shares.now }
+// The first of the batches that have least to do.
+fn lightest<A: Allocator>(batches: &[Batch<A>]) -> usize
+    requires { 0 < length batches.now }
+    ensures { result < length batches.now }
 {
     let mut lightest = 0;
-    for index in 1..shares.len() {
-        if shares[index].load < shares[lightest].load {
+    for index in 1..batches.len() {
+        if batches[index].load < batches[lightest].load {
             lightest = index;
         }
     }
     lightest
 }
 
-// The workers in so many shares, each given to one that has least to do then. Where there are no more workers than shares,
-// each has the share of its place in the list.
-fn shares_of<A: Allocator + Copy>(
+// The workers in so many batches, each given to one that has least to do then. Where there are no more workers than batches,
+// each has the batch of its place in the list.
+fn batches_of<A: Allocator + Copy>(
     alloc: A,
     parts: &Parts<'_, A>,
     count: u32,
     all: Vec<Waiting<A>, A>,
-) -> Result<Vec<Share<A>, A>, AllocError>
+) -> Result<Vec<Batch<A>, A>, AllocError>
     requires { 0 < count }
-    ensures start { IfOk result (λ shares. (board : List CellId)
+    ensures start { IfOk result (λ batches. (board : List CellId)
         → All (λ w. IsWaiting parts.now board w.worker w.writers.items) all.items
-        → All (λ share. All (MayStart parts.now board) share.jobs.items) shares.items) }
-    ensures jobs { IfOk result (λ shares. (writer : ℕ → WriterAt)
+        → All (λ batch. All (MayStart parts.now board) batch.jobs.items) batches.items) }
+    ensures jobs { IfOk result (λ batches. (writer : ℕ → WriterAt)
         → All (HasOwnWriters parts.now writer) all.items
-        → All (λ share. All (IsJob parts.now writer) share.jobs.items) shares.items) }
+        → All (λ batch. All (IsJob parts.now writer) batch.jobs.items) batches.items) }
 {
-    let mut shares = empty_shares(alloc, count)?;
+    let mut batches = empty_batches(alloc, count)?;
     for waiting in all {
-        let index = lightest(&shares);
-        let share = &mut shares[index];
+        let index = lightest(&batches);
+        let batch = &mut batches[index];
         let messages = parts.own_count(waiting.worker);
-        share.load = share.load.saturating_add(u64::from(messages) + 1);
-        share.jobs.push(Job {
+        batch.load = batch.load.saturating_add(u64::from(messages) + 1);
+        batch.jobs.push(Job {
             worker: waiting.worker,
             waiting: Some(waiting),
             made: Err(AllocError),
         })?;
     }
-    Ok(shares)
+    Ok(batches)
 }
 
 // A place for what each of so many workers makes, which is nothing yet.
@@ -212,6 +212,7 @@ fn put_made<A: Allocator>(made: &mut Vec<Result<Finished<A>, AllocError>, A>, jo
         → AreMade split writer made.old.items → AreMade split writer made.new.items }
 {
     for job in jobs {
+        // It always is; with no proof of that, a job without a place would be lost, and reported as memory refused.
         let place = job.worker as usize;
         if place < made.len() {
             made[place] = job.made;
@@ -223,22 +224,22 @@ fn put_made<A: Allocator>(made: &mut Vec<Result<Finished<A>, AllocError>, A>, jo
 fn made_by<A: Allocator + Copy>(
     alloc: A,
     workers: usize,
-    shares: Vec<Share<A>, A>,
+    batches: Vec<Batch<A>, A>,
 ) -> Result<Vec<Result<Finished<A>, AllocError>, A>, AllocError>
     ensures many { IfOk result (λ made. length made.items ≡ workers) }
     ensures made { IfOk result (λ made. (split : Split) (writer : ℕ → WriterAt)
-        → All (λ share. All (IsJob split writer) share.jobs.items) shares.items
+        → All (λ batch. All (IsJob split writer) batch.jobs.items) batches.items
         → AreMade split writer made.items) }
 {
     let mut made = none_made(alloc, workers)?;
-    for share in shares {
-        put_made(&mut made, share.jobs);
+    for batch in batches {
+        put_made(&mut made, batch.jobs);
     }
     Ok(made)
 }
 
-/// All turns of all workers of a day, by so many threads at most. Each does a share of the workers, one after another, and
-/// all shares have about as many messages; where no thread can be made, they are done by the thread that asked for one.
+/// All turns of all workers of a day, by so many threads at most. Each does a batch of the workers, one after another, and
+/// all batches have about as many messages; where no thread can be made, they are done by the thread that asked for one.
 pub(crate) fn finish_all<R: Threads + Wait + Sync, A: Allocator + Copy + Send + Sync, G: Gate>(
     rt: &R,
     alloc: A,
@@ -252,26 +253,26 @@ pub(crate) fn finish_all<R: Threads + Wait + Sync, A: Allocator + Copy + Send + 
     ensures { IfOk result (λ made. (writer : ℕ → WriterAt)
         → AreWaiting parts.now writer all.items → AreFinished parts.now writer made.items) }
 {
-    let count = threads.get();
+    let count = threads.get().min(parts.workers());
     let workers = all.len();
     let heaviest = heaviest_first(parts, count as usize, all);
-    let mut shares = shares_of(alloc, parts, count, heaviest)?;
+    let mut batches = batches_of(alloc, parts, count, heaviest)?;
     for_each_mut(
         rt,
-        shares.as_mut_slice(),
+        batches.as_mut_slice(),
         count as usize,
-        &|_index: usize, share: &mut Share<A>|
+        &|_index: usize, batch: &mut Batch<A>|
             requires { IsSync R.row × IsSync G.row × IsSend A.row × IsSync A.row
                 × Frees A.Allocator A.dealloc_token
-                × All (MayStart parts.now board.now) share.now.jobs.items }
-            ensures { StayJobs parts.entry.now share.entry.now.jobs.items share.exit.now.jobs.items }
+                × All (MayStart parts.now board.now) batch.now.jobs.items }
+            ensures { AreStillJobs parts.entry.now batch.entry.now.jobs.items batch.exit.now.jobs.items }
         {
-            let share_gate = ShareGate {
+            let batch_gate = BatchGate {
                 gate,
-                share: share.number,
+                batch: batch.number,
             };
-            do_jobs(rt, alloc, parts, board, &share_gate, &mut share.jobs);
+            do_jobs(rt, alloc, parts, board, &batch_gate, &mut batch.jobs);
         },
     );
-    made_by(alloc, workers, shares)
+    made_by(alloc, workers, batches)
 }

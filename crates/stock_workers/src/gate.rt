@@ -6,8 +6,8 @@ use std::thread::Threads;
 /// test can hold a worker until another has come somewhere, or until a screen has seen something.
 pub trait Gate: Sync {
     /// A worker, by its number from 0, comes to a message of the day, by its number from 1. Where the day is split for
-    /// more workers than threads (`summarize_in_threads`), the number is that of a share of the workers, which one thread
-    /// does one after another: numbers of messages rise within each worker, and not within a share.
+    /// more workers than threads (`summarize_in_threads`), the number is that of a batch of the workers, which one thread
+    /// does one after another: numbers of messages rise within each worker, and not within a batch.
     fn at<R: Threads + Wait + Sync>(&self, rt: &R, worker: u32, message: u32);
 }
 
@@ -19,16 +19,16 @@ impl Gate for FreeGate {
     fn at<R: Threads + Wait + Sync>(&self, _rt: &R, _worker: u32, _message: u32) {}
 }
 
-/// A gate for the workers of a share, which one thread does one after another: it calls another gate with the number of
-/// the share in place of the worker's.
+/// A gate for the workers of a batch, which one thread does one after another: it calls another gate with the number of
+/// the batch in place of the worker's.
 #[derive(Drop)]
-pub(crate) struct ShareGate<'g, G> {
+pub(crate) struct BatchGate<'g, G> {
     pub gate: &'g G,
-    pub share: u32,
+    pub batch: u32,
 }
 
-impl<G: Gate> Gate for ShareGate<'_, G> {
+impl<G: Gate> Gate for BatchGate<'_, G> {
     fn at<R: Threads + Wait + Sync>(&self, rt: &R, _worker: u32, message: u32) {
-        self.gate.at(rt, self.share, message);
+        self.gate.at(rt, self.batch, message);
     }
 }

@@ -143,14 +143,14 @@ pub fn summarize_parts<R: Threads + Wait + Sync, A: Allocator + Copy + Send + Sy
     ensures writers { IfOk result (λ made.
         made.writers.items ≡ map (at_last parts.now.day) writers.items) }
 {
-    let threads = WorkerCount::new(parts.workers()).unwrap_or(WorkerCount::ONE);
+    let threads = WorkerCount::new(parts.workers()).unwrap();
     summarize_in_threads(rt, alloc, parts, threads, board, writers, gate)
 }
 
 /// The same as [`summarize_parts`] by so many threads at most, where the day may be split for more workers than that:
-/// each thread does a share of the workers, each of them to the day's end before the next, so that the books of few
-/// stocks are in use at a time, and all shares have about as many messages. The gate is called with the number of the
-/// share, from 0 and below the number of threads, in place of the worker's; where there are no more workers than threads
+/// each thread does a batch of the workers, each of them to the day's end before the next, so that the books of few
+/// stocks are in use at a time, and all batches have about as many messages. The gate is called with the number of the
+/// batch, from 0 and below the number of threads, in place of the worker's; where there are no more workers than threads
 /// it is the worker's. After an error the writers are gone.
 pub fn summarize_in_threads<R: Threads + Wait + Sync, A: Allocator + Copy + Send + Sync, G: Gate>(
     rt: &R,

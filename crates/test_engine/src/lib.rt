@@ -3,6 +3,8 @@
 #![tactic(auto)]
 
 #[cfg(test)]
+mod batches;
+#[cfg(test)]
 mod engines;
 #[cfg(test)]
 mod faults;
@@ -10,7 +12,5 @@ mod faults;
 mod moments;
 #[cfg(test)]
 mod runs;
-#[cfg(test)]
-mod shares;
 #[cfg(test)]
 mod watching;

@@ -129,19 +129,21 @@ impl Gate for Calls {
 #[test]
 fn threads_have_as_many_messages_as_each_other(rt: HostRuntime) -> Result<(), Fail> {
     let alloc = rt.alloc();
-    // Of four workers in two threads, those of numbers 0 and 1 have three messages each, the others one each.
+    // Of four workers in two threads, that of number 0 has one message, the next two, then three and four.
     let first = Ticker { locate: 4, ..AAPL };
     let third = Ticker { locate: 3, ..AAPL };
     let day = day_with(
         alloc,
         &[
             first.directory(),
-            first.directory(),
-            first.directory(),
-            AAPL.directory(),
             AAPL.directory(),
             AAPL.directory(),
             MSFT.directory(),
+            MSFT.directory(),
+            MSFT.directory(),
+            third.directory(),
+            third.directory(),
+            third.directory(),
             third.directory(),
         ],
     )?;
@@ -155,7 +157,7 @@ fn threads_have_as_many_messages_as_each_other(rt: HostRuntime) -> Result<(), Fa
     let done = summarize_in_threads(&rt, alloc, &parts, threads, &board, writers, &gate).is_ok();
     let first = gate.first.load(Ordering::SeqCst);
     let others = gate.others.load(Ordering::SeqCst);
-    same("messages by thread", &(done, first, others), &(true, 4, 4))
+    same("messages by thread", &(done, first, others), &(true, 5, 5))
 }
 
 // Holds the worker at message 2 until a screen has seen message 1.

@@ -38,9 +38,9 @@ pub(crate) fn report_of_file<R: Threads + Wait + Sync, A: Allocator + Copy + Sen
 /// same for every number of workers: each replays the messages of its stocks in a thread of its own, calls the gate
 /// before each of them, and may wait there. Where no thread can be made, the work is done all the same.
 ///
-/// Where a long day has many stocks, a worker here is a share of workers of fewer stocks each, of which its thread does
-/// one after another, as [`stock_workers::summarize_in_threads`] says: each stock's messages come in their order, but
-/// not all of a share's, and the gate is called with the share's number.
+/// Where a long day has many stocks, a worker here is a batch of workers of fewer stocks each, which its thread does one
+/// after another, as [`stock_workers::summarize_in_threads`] says: each stock's messages come in their order, but not all
+/// of a batch's, and the gate is called with the batch's number.
 ///
 /// ```text
 /// let mut feed = Feed::new(file);

@@ -30,22 +30,29 @@ fn long_day<A: Allocator + Copy>(alloc: A) -> Result<Vec<u8, A>, AllocError> {
     Ok(bytes)
 }
 
-// Counts how often it is called with a number of a thread, and with another number.
+// Counts how often it is called with a number of a thread, and with another number; and how often with a message that
+// isn't after the one of the call before.
 #[derive(Drop)]
 struct Calls {
     threads: u32,
     within: AtomicU64,
     beyond: AtomicU64,
+    last: AtomicU64,
+    falls: AtomicU64,
 }
 
 impl Gate for Calls {
-    fn at<R: Threads + Wait + Sync>(&self, _rt: &R, worker: u32, _message: u32) {
+    fn at<R: Threads + Wait + Sync>(&self, _rt: &R, worker: u32, message: u32) {
         let calls = if worker < self.threads {
             &self.within
         } else {
             &self.beyond
         };
         calls.fetch_add(1, Ordering::SeqCst);
+        let message = u64::from(message);
+        if self.last.swap(message, Ordering::SeqCst) >= message {
+            self.falls.fetch_add(1, Ordering::SeqCst);
+        }
     }
 }
 
@@ -61,6 +68,8 @@ fn a_long_day_of_many_stocks_is_the_same_for_all_numbers_of_threads(
             threads,
             within: AtomicU64::new(0),
             beyond: AtomicU64::new(0),
+            last: AtomicU64::new(0),
+            falls: AtomicU64::new(0),
         };
         let count = WorkerCount::new(threads).ok_or_else(|| Fail::new("1 to 64 threads"))?;
         let mut report = Vec::new(alloc);
@@ -74,6 +83,8 @@ fn a_long_day_of_many_stocks_is_the_same_for_all_numbers_of_threads(
         let begins = report.get(..BEGINS.len()).unwrap_or(b"");
         same_bytes("the beginning of a report", begins, BEGINS)?;
         if threads == 1 {
+            // The thread does 16 workers, each from its first message on.
+            same("falls", &gate.falls.load(Ordering::SeqCst), &15)?;
             first = report;
         } else {
             same_bytes("a report", &report, &first)?;

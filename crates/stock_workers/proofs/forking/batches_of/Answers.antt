@@ -4,34 +4,34 @@ use Rattle.std.proofs.lemmas.Iterator.Consumers.{YieldsList-end}
 use Rattle.std.proofs.lemmas.List.{length-set, map-id}
 use Rattle.stock_workers.specs.Running.{HasOwnWriters, IsJob, IsWaiting, MayStart}
 use Rattle.stock_workers.proofs.Jobs.{begun, given_more}
-use Rattle.stock_workers.proofs.forking.shares_of.Goals as goal
+use Rattle.stock_workers.proofs.forking.batches_of.Goals as goal
 
 pub loop-waiting-init : goal.loop-waiting-init
 loop-waiting-init g c =
-    let shares = c.in_ok-shares.ensures {u = tt} in
+    let batches = c.in_ok-batches.ensures {u = tt} in
     record {
-      many = shares.many;
-      start = λ board none k d lt k' d' lt'. absurd (omega (arith, lt', ap length (shares.empty k d lt)));
-      jobs = λ writer none k d lt k' d' lt'. absurd (omega (arith, lt', ap length (shares.empty k d lt)));
+      many = batches.many;
+      start = λ board none k d lt k' d' lt'. absurd (omega (arith, lt', ap length (batches.empty k d lt)));
+      jobs = λ writer none k d lt k' d' lt'. absurd (omega (arith, lt', ap length (batches.empty k d lt)));
     }
 
 pub loop-waiting-preserved : goal.loop-waiting-preserved
 loop-waiting-preserved g c =
     let before = c.loop-waiting in
     let split = c.args.parts.now in
-    let shares = before.shares.items in
+    let batches = before.batches.items in
     let at = c.lightest-index.result in
-    let share = c.index_mut-share.result.now in
-    let within : at < length shares = omega (arith, c.lightest-index.ensures, ap length c.deref.ensures.value) in
-    let is = c.index_mut-share.ensures.value in
+    let batch = c.index_mut-batch.result.now in
+    let within : at < length batches = omega (arith, c.lightest-index.ensures, ap length c.deref.ensures.value) in
+    let is = c.index_mut-batch.ensures.value in
     let pushed = (c.in_ok-push.ensures {u = tt}).items in
     record {
-      many = length-set shares at _ ∙ before.invariant.many;
+      many = length-set batches at _ ∙ before.invariant.many;
       start = λ board.
-          given_more (λ w. IsWaiting split board w.worker w.writers.items) (MayStart split board) before.yielded c.in-Some.waiting shares at share _ _ (before.invariant.start board)
+          given_more (λ w. IsWaiting split board w.worker w.writers.items) (MayStart split board) before.yielded c.in-Some.waiting batches at batch _ _ (before.invariant.start board)
           (λ waits. waits) is within pushed;
       jobs = λ writer.
-          given_more (HasOwnWriters split writer) (IsJob split writer) before.yielded c.in-Some.waiting shares at share _ _ (before.invariant.jobs writer)
+          given_more (HasOwnWriters split writer) (IsJob split writer) before.yielded c.in-Some.waiting batches at batch _ _ (before.invariant.jobs writer)
           (λ own. begun split writer c.in-Some.waiting _ own) is within pushed;
     }
 
