@@ -1,3 +1,4 @@
 pub mod ByteRanges
 pub mod Splitting
 pub mod Offsets
+pub mod Gaps

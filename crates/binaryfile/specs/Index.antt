@@ -15,6 +15,10 @@ offset payloads n = length (flat_map entry (take n payloads))
 abbrev pub payloads_of : List ℕ → List (List ℕ)
 payloads_of bytes = (contents_of bytes).payloads
 
+-- how many entries stand before a place
+abbrev pub entries_before : Place → ℕ
+entries_before place = place.number
+
 -- a place is that of the entry after as many payloads as it says
 unfoldable pub IsPlace : List (List ℕ) → Place → Type 0
 IsPlace payloads place = (place.number ≤ length payloads) × (place.at ≡ offset payloads place.number)

@@ -3,13 +3,15 @@ ghost use Rattle.std.specs.Prelude.{◌≡◌, ◌≢◌, ◌+◌, ◌-◌, ◌<
 ghost use Rattle.byte_strings.specs.Bytes.{AreBytes};
 ghost use Rattle.binaryfile.specs.Devices.{HasFailed, GaveMore, GaveUpTo, Sends};
 ghost use Rattle.binaryfile.specs.Entries.{bytes_of, Splits};
-ghost use Rattle.binaryfile.specs.Index.{IsPlace};
+ghost use Rattle.binaryfile.specs.EntryLists.{IsGap};
+ghost use Rattle.binaryfile.specs.Index.{IsPlace, entries_before};
 ghost use Rattle.binaryfile.specs.Loading.{Loads, ExceedsMessages, HasMoreMessages};
 
+use crate::entry_list::{FAR, Gap};
 use crate::load::read_to_end;
 use crate::scan::{
     IndexedEntries, Place, begins_with_marker, bytes_after, bytes_from, entries_within,
-    nth_payload, payload_near,
+    entry_place, nth_payload, payload_at,
 };
 use crate::{Feed, LoadFault, Payloads, STRIDE, Sink, WriteFault, send};
 use std::alloc::Allocator;
@@ -25,8 +27,8 @@ pub struct Limits {
     pub messages: u32,
 }
 
-// How many lines of memory, of so many bytes, are read ahead where a payload is looked for.
-const LINES: usize = 4;
+// How many lines of memory, of so many bytes, are read ahead of an entry.
+const LINES: usize = 2;
 
 const LINE: usize = 64;
 
@@ -152,16 +154,66 @@ impl<A: Allocator> Day<A> {
         )
     }
 
-    /// The same as [`Day::payload`], which is faster where a place of this day stands a little before the payload. A
-    /// place for the payload after it is left there: a caller that comes to payloads in their order keeps one.
-    pub fn payload_near(&self, near: &mut Place, number: u32) -> &[u8]
-        requires first { 1 ≤ number }
-        requires last { number ≤ length self.now.payloads }
-        requires near { IsPlace self.now.payloads near.old }
-        ensures payload { result.now ≡ slice_index_or self.now.payloads (number - 1) result.now }
-        ensures near { IsPlace self.now.payloads near.new }
+    /// Where the entry after this many begins, or where the entries end.
+    pub fn place(&self, count: u32) -> Place
+        requires { count ≤ length self.now.payloads }
+        ensures place { IsPlace self.now.payloads result }
+        ensures count { entries_before result ≡ count }
     {
-        payload_near(&self.bytes, &self.starts, near, number - 1)
+        let number = count as usize;
+        let at = if count == self.count {
+            self.end
+        } else {
+            entry_place(&self.bytes, &self.starts, number)
+        };
+        Place { number, at }
+    }
+
+    /// The place to which a gap leads.
+    #[inline(always)]
+    pub(crate) fn place_after(&self, near: Place, gap: Gap) -> Place
+        requires near { IsPlace self.now.payloads near }
+        requires gap { IsGap self.now.payloads (entries_before near) gap }
+        ensures place { IsPlace self.now.payloads result }
+        ensures number { entries_before result ≡ entries_before near + gap.entries }
+        // The numbers of the day's payloads fit 32 bits.
+        ensures few { length self.now.payloads < 2 ^ 32 }
+    {
+        // The place lies within the day's bytes, so no sum wraps.
+        let _length = self.bytes.len();
+        let number = near.number + gap.entries as usize;
+        if gap.bytes == FAR {
+            return self.place(number as u32);
+        }
+        Place {
+            number,
+            at: near.at + gap.bytes as usize,
+        }
+    }
+
+    /// The payload of the entry at a place of this day, borrowed and not copied.
+    pub fn payload_at(&self, place: Place) -> &[u8]
+        requires place { IsPlace self.now.payloads place }
+        requires entry { entries_before place < length self.now.payloads }
+        ensures { result.now ≡ slice_index_or self.now.payloads (entries_before place) result.now }
+    {
+        let mut next = place;
+        self.next_payload(&mut next)
+    }
+
+    /// The same as [`Day::payload_at`]. The place goes on to the next entry: a caller that passes over the payloads of a
+    /// day has the place of each.
+    pub fn next_payload(&self, place: &mut Place) -> &[u8]
+        requires place { IsPlace self.now.payloads place.old }
+        requires entry { entries_before place.old < length self.now.payloads }
+        ensures payload { result.now
+            ≡ slice_index_or self.now.payloads (entries_before place.old) result.now }
+        ensures place { IsPlace self.now.payloads place.new }
+        ensures next { entries_before place.new ≡ entries_before place.old + 1 }
+    {
+        let (payload, next) = payload_at(&self.bytes, *place);
+        *place = next;
+        payload
     }
 
     /// Reads bytes that stand a little after a place, so that the processor has fetched that memory when a caller comes
@@ -178,21 +230,12 @@ impl<A: Allocator> Day<A> {
         sum
     }
 
-    /// Reads bytes where the payload of this number is looked for, from the nearest place before it that the day has
-    /// kept, in the same way. A number that no payload has may read other bytes or none.
-    pub fn touch_near(&self, number: u32) -> u64 {
-        let Some(start) = self
-            .starts
-            .get((number as usize).saturating_sub(1) / STRIDE)
-        else {
-            return 0;
-        };
+    /// Reads the first bytes of the entry at a place, and those that stand a line of memory after them, in the same
+    /// way: an entry of a message lies in the lines of both.
+    pub fn touch_at(&self, place: &Place) -> u64 {
         let mut sum: u64 = 0;
         for line in 0..LINES {
-            if let Some(byte) = self
-                .bytes
-                .get((*start as usize).saturating_add(line * LINE))
-            {
+            if let Some(byte) = self.bytes.get(place.at.saturating_add(line * LINE)) {
                 sum = sum.wrapping_add(u64::from(*byte));
             }
         }

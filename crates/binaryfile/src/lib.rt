@@ -26,6 +26,7 @@
 ghost use Rattle.binaryfile.specs.Entries.{EachHasOneSplitting};
 
 mod day;
+mod entry_list;
 mod feed;
 mod load;
 mod payloads;
@@ -33,6 +34,7 @@ mod scan;
 mod sink;
 
 pub use crate::day::{Day, Limits};
+pub use crate::entry_list::{EntryList, ListedPayloads, NumberedPayload};
 pub use crate::feed::Feed;
 pub use crate::load::{LoadFault, read_to_end};
 pub use crate::payloads::Payloads;

@@ -1,8 +1,8 @@
 // The entries of a byte string, from the first on.
-ghost use Rattle.std.specs.Prelude.{◌≡◌, ◌≢◌, ◌<◌, ◌≤◌, ◌*◌, List, ℕ, [], ◌∷◌, length, drop, Err, MatchOption, IfOk, IsErrOf, slice_index_or};
+ghost use Rattle.std.specs.Prelude.{◌≡◌, ◌≢◌, ◌<◌, ◌≤◌, ◌+◌, ◌*◌, ◌^◌, List, ℕ, [], ◌∷◌, length, drop, Err, MatchOption, IfOk, IsErrOf, slice_index_or};
 ghost use Rattle.byte_strings.specs.Bytes.{AreBytes};
 ghost use Rattle.binaryfile.specs.Entries.{marker};
-ghost use Rattle.binaryfile.specs.Index.{offset, payloads_of, IsIndex, IsPlace};
+ghost use Rattle.binaryfile.specs.Index.{entries_before, offset, payloads_of, IsIndex, IsPlace};
 ghost use Rattle.binaryfile.specs.Scanned.{contents_of};
 
 use crate::{LoadFault, STRIDE};
@@ -16,8 +16,7 @@ pub(crate) struct IndexedEntries<A: Allocator> {
     pub(crate) starts: Vec<u64, A>,
 }
 
-/// Where an entry of a day begins, or where the entries end. From there one of the next payloads is found sooner than
-/// by its number alone.
+/// Where an entry of a day begins, or where the entries end. From there a payload is read sooner than by its number.
 #[derive(Clone, Copy)]
 pub struct Place {
     // How many entries stand before it.
@@ -85,8 +84,8 @@ fn place_from(bytes: &[u8], from: usize, place: usize, number: usize) -> usize
     at
 }
 
-// The place of the entry of this number, counted from 0, by the index.
-fn entry_place(bytes: &[u8], starts: &[u64], number: usize) -> usize
+/// The place of the entry of this number, counted from 0, by the index.
+pub(crate) fn entry_place(bytes: &[u8], starts: &[u64], number: usize) -> usize
     requires index { IsIndex starts.now bytes.now }
     requires number { number < length (payloads_of bytes.now) }
     ensures place { result ≡ offset (payloads_of bytes.now) number }
@@ -162,41 +161,22 @@ pub(crate) fn nth_payload<'a>(bytes: &'a [u8], starts: &[u64], number: usize) ->
     first_payload(&bytes[at..]).unwrap()
 }
 
-// The place of the entry of this number, counted from 0: by a place before it, where no entry between has its place in
-// the index, or else by the index.
-fn place_near(bytes: &[u8], starts: &[u64], near: Place, number: usize) -> usize
-    requires index { IsIndex starts.now bytes.now }
-    requires number { number < length (payloads_of bytes.now) }
-    requires near { IsPlace (payloads_of bytes.now) near }
-    ensures place { result ≡ offset (payloads_of bytes.now) number }
-    ensures within { result ≤ length bytes.now }
+/// The payload at a place, and where the entry after it begins.
+pub(crate) fn payload_at(bytes: &[u8], place: Place) -> (&[u8], Place)
+    requires place { IsPlace (payloads_of bytes.now) place }
+    requires entry { entries_before place < length (payloads_of bytes.now) }
+    requires few { length (payloads_of bytes.now) < 2 ^ 32 }
+    ensures payload { result.0.now
+        ≡ slice_index_or (payloads_of bytes.entry.now) (entries_before place) result.0.now }
+    ensures place { IsPlace (payloads_of bytes.entry.now) result.1 }
+    ensures next { entries_before result.1 ≡ entries_before place + 1 }
 {
-    if near.number <= number && near.number / STRIDE == number / STRIDE {
-        place_from(bytes, near.number, near.at, number)
-    } else {
-        entry_place(bytes, starts, number)
-    }
-}
-
-/// The payload of this number, counted from 0, which is looked for from a place on where that is before it and nearer
-/// than what the index has. The place of the next entry is left there.
-pub(crate) fn payload_near<'a>(
-    bytes: &'a [u8],
-    starts: &[u64],
-    near: &mut Place,
-    number: u32,
-) -> &'a [u8]
-    requires index { IsIndex starts.now bytes.now }
-    requires number { number < length (payloads_of bytes.now) }
-    requires near { IsPlace (payloads_of bytes.now) near.old }
-    ensures payload { result.now ≡ slice_index_or (payloads_of bytes.entry.now) number result.now }
-    ensures near { IsPlace (payloads_of bytes.entry.now) near.new }
-{
-    let at = place_near(bytes, starts, *near, number as usize);
-    let payload = first_payload(&bytes[at..]).unwrap();
-    near.number = number as usize + 1;
-    near.at = at + 2 + payload.len();
-    payload
+    let payload = first_payload(&bytes[place.at..]).unwrap();
+    let next = Place {
+        number: place.number + 1,
+        at: place.at + 2 + payload.len(),
+    };
+    (payload, next)
 }
 
 /// Whether the bytes, which begin with no entry, begin with an end marker.

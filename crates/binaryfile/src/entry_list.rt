@@ -1,0 +1,238 @@
+// Lists of a day's entries, in four bytes each.
+ghost use Rattle.std.specs.Prelude.{◌≡◌, ◌<◌, ◌≤◌, ◌+◌, ◌-◌, ◌++◌, ◌∷◌, [], IfOk, OnErr, OnOk, cond, length, nat_lt};
+ghost use Rattle.std.specs.Iterator.{YieldsFirstBy, item_count};
+ghost use Rattle.binaryfile.specs.EntryLists.{numbered_payloads};
+ghost use Rattle.binaryfile.specs.Index.{IsPlace, entries_before};
+
+use crate::day::Day;
+use crate::scan::Place;
+use std::alloc::{AllocError, Allocator};
+use std::marker::Model;
+use std::snapshot::Snapshot;
+
+// The widest gap, in entries and in bytes.
+pub(crate) const FAR: u16 = u16::MAX;
+
+// How far an entry of a day lies after another one.
+#[derive(Clone, Copy)]
+pub(crate) struct Gap {
+    // How many entries it is after the other one. A gap of FAR leads to no entry of a list: the next gap goes on there.
+    pub(crate) entries: u16,
+    // How many bytes; FAR where they are as many or more.
+    pub(crate) bytes: u16,
+}
+
+/// Entries of a day, rising, in four bytes each where they don't lie far apart: a caller that passes over a day keeps
+/// those that it comes back to. Their payloads are read without the day's index.
+///
+/// It is seen as the payloads of its day, how many of these stand before its last entry, and the numbers of its
+/// payloads, counted from 1.
+#[derive(Drop)]
+pub struct EntryList<A: Allocator> {
+    day: Snapshot<Day<A>>,
+    // Where the list begins, and its last entry.
+    first: Place,
+    last: Place,
+    count: usize,
+    gaps: Vec<Gap, A>,
+}
+
+impl<A: Allocator> Model for EntryList<A> {
+    ghost use Rattle.binaryfile.specs.EntryLists.{IsEntryList, Listed, numbers_after};
+
+    ghost Value = { Listed };
+
+    ghost view = { λ list. record {
+      payloads = list.day.value.payloads;
+      reached = list.last.number;
+      numbers = numbers_after list.first.number list.gaps.items;
+    } };
+
+    ghost invariant = { λ list.
+        IsEntryList list.day.value.payloads list.first list.last list.count list.gaps.items };
+}
+
+impl<A: Allocator> EntryList<A> {
+    /// A list without entries, of those from a place of a day on, with room for so many at first. Its memory is that of
+    /// `alloc`.
+    pub fn new(
+        alloc: A,
+        day: &Day<A>,
+        first: Place,
+        room: usize,
+    ) -> Result<EntryList<A>, AllocError>
+        requires { IsPlace day.now.payloads first }
+        ensures { IfOk result (λ list. list ≡ record {
+          payloads = day.now.payloads;
+          reached = entries_before first;
+          numbers = [];
+        }) }
+    {
+        Ok(EntryList {
+            day: Snapshot::of(day),
+            first,
+            last: first,
+            count: 0,
+            gaps: Vec::with_capacity(alloc, room)?,
+        })
+    }
+
+    // How many entries of the day stand before the last one of the list.
+    fn reached(&self) -> usize
+        ensures { result ≡ self.now.reached }
+    {
+        self.last.number
+    }
+
+    // Adds the gap from the last entry to the one at a place, which is an entry of the list where the gap isn't FAR.
+    fn push_gap(&mut self, place: Place) -> Result<(), AllocError>
+        requires place { IsPlace self.old.payloads place }
+        requires entry { entries_before place < length self.old.payloads }
+        requires order { self.old.reached ≤ entries_before place }
+        requires near { entries_before place ≤ self.old.reached + FAR }
+        ensures pushed { OnOk result (self.new ≡ record self.old {
+          reached = entries_before place;
+          numbers = self.old.numbers ++ cond (nat_lt (entries_before place - self.old.reached) FAR)
+              ((entries_before place + 1) ∷ []) [];
+        }) }
+        ensures err { OnErr result (self.new ≡ self.old) }
+    {
+        let entries = (place.number - self.last.number) as u16;
+        let bytes = place.at.saturating_sub(self.last.at).min(FAR as usize) as u16;
+        self.gaps.push(Gap { entries, bytes })?;
+        self.last = place;
+        if entries < FAR {
+            self.count += 1;
+        }
+        Ok(())
+    }
+
+    /// Adds the entry at a place, which is at or after the last one of the list, of the day that the list is of.
+    ///
+    /// After an error the list has the entries that it had, and takes the same one again.
+    pub fn push(&mut self, day: &Day<A>, place: Place) -> Result<(), AllocError>
+        requires day { day.now.payloads ≡ self.old.payloads }
+        requires place { IsPlace self.old.payloads place }
+        requires entry { entries_before place < length self.old.payloads }
+        requires order { self.old.reached ≤ entries_before place }
+        ensures pushed { OnOk result (self.new ≡ record self.old {
+          reached = entries_before place;
+          numbers = self.old.numbers ++ (entries_before place + 1) ∷ [];
+        }) }
+        ensures day { self.new.payloads ≡ self.old.payloads }
+        ensures err { OnErr result (self.new.numbers ≡ self.old.numbers) }
+        ensures order { OnErr result (self.new.reached ≤ entries_before place) }
+    {
+        // The numbers of the day's payloads fit 32 bits.
+        let _count = day.len();
+        while place.number - self.reached() >= FAR as usize {
+            self.push_gap(day.place((self.reached() + FAR as usize) as u32))?;
+        }
+        self.push_gap(place)
+    }
+
+    /// How many entries there are.
+    pub fn len(&self) -> usize
+        ensures { result ≡ length self.now.numbers }
+    {
+        self.count
+    }
+
+    /// The payloads of the entries, in their order, borrowed from the day that the list is of.
+    pub fn payloads<'d>(&'d self, day: &'d Day<A>) -> ListedPayloads<'d, A>
+        requires { day.now.payloads ≡ self.now.payloads }
+        ensures { result ≡ numbered_payloads day.entry.now.payloads self.entry.now.numbers }
+    {
+        ListedPayloads {
+            day,
+            near: self.first,
+            gaps: &self.gaps,
+        }
+    }
+}
+
+/// A payload of a day.
+#[derive(Debug, Clone, Copy)]
+pub struct NumberedPayload<'d> {
+    /// Its number in the day, counted from 1.
+    pub number: u32,
+    /// Its bytes, borrowed from the day.
+    pub payload: &'d [u8],
+}
+
+/// The payloads of a list of entries in their order, seen as the list of those that are left, each by its number and
+/// its bytes.
+#[derive(Drop)]
+pub struct ListedPayloads<'d, A: Allocator> {
+    day: &'d Day<A>,
+    // The last entry that was taken, or where the list begins.
+    near: Place,
+    // Those to the entries that are left.
+    gaps: &'d [Gap],
+}
+
+impl<'d, A: Allocator> Model for ListedPayloads<'d, A> {
+    ghost use Rattle.std.specs.Prelude.{ℕ, List};
+    ghost use Rattle.binaryfile.specs.EntryLists.{AreGaps, numbered_payloads, numbers_after};
+    ghost use Rattle.binaryfile.specs.Index.{IsPlace};
+
+    ghost Value = { List (ℕ × List ℕ) };
+
+    ghost view = { λ it. numbered_payloads it.day.now.payloads (numbers_after it.near.number it.gaps.now) };
+
+    ghost invariant = { λ it. IsPlace it.day.now.payloads it.near
+        × AreGaps it.day.now.payloads it.near.number it.gaps.now };
+}
+
+impl<'d, A: Allocator> ListedPayloads<'d, A> {
+    /// No payloads.
+    pub fn none(day: &'d Day<A>) -> ListedPayloads<'d, A>
+        ensures { result ≡ [] }
+    {
+        ListedPayloads {
+            day,
+            near: Place::first(),
+            gaps: &[],
+        }
+    }
+
+    /// Reads bytes of the day a little after the last payload that was taken, as [`Day::touch_after`] does.
+    pub fn touch(&self) -> u64 {
+        self.day.touch_after(&self.near)
+    }
+
+    /// Reads bytes of the next payloads, so many of them at most, as [`Day::touch_at`] does.
+    pub fn touch_next(&self, count: usize) -> u64 {
+        let mut sum: u64 = 0;
+        let mut place = self.near;
+        for gap in self.gaps.iter().take(count) {
+            place.at = place.at.saturating_add(gap.bytes as usize);
+            sum = sum.wrapping_add(self.day.touch_at(&place));
+        }
+        sum
+    }
+}
+
+impl<'d, A: Allocator> Iterator for ListedPayloads<'d, A> {
+    type Item = NumberedPayload<'d>;
+
+    ghost next_gives = { YieldsFirstBy (λ p. (p.number, p.payload.now)) (λ left. left) };
+
+    ghost remaining = { item_count (λ left. left) };
+
+    #[inline(always)]
+    fn next(&mut self) -> Option<NumberedPayload<'d>> {
+        loop {
+            let (gap, rest) = self.gaps.split_first()?;
+            self.gaps = rest;
+            self.near = self.day.place_after(self.near, *gap);
+            if gap.entries < FAR {
+                let payload = self.day.payload_at(self.near);
+                return Some(NumberedPayload {
+                    number: self.near.number as u32 + 1,
+                    payload,
+                });
+            }
+        }
+    }
+}
