@@ -5,15 +5,12 @@ use Rattle.std.specs.List.{flat_map}
 use Rattle.std.proofs.lemmas.Bool.{cases_Bool, le-ltb, lt-ltb}
 use Rattle.std.proofs.lemmas.List.{get_or_default, length-append}
 use Rattle.binaryfile.specs.Entries.{entry}
-use Rattle.binaryfile.specs.EntryLists.{AreGaps, IsEntryList, IsGap, Listed, end_after, led_to, numbered_payloads, numbers_after}
+use Rattle.binaryfile.specs.EntryLists.{AreGaps, IsGap, IsListOf, end_after, led_to, numbered_payloads, numbers_after, numbers_of}
 use Rattle.binaryfile.specs.Index.{IsPlace, offset}
+use Rattle.binaryfile.specs.declared.entry_list.EntryList.{EntryList}
 use Rattle.binaryfile.specs.declared.entry_list.Gap.{Gap}
 use Rattle.binaryfile.specs.declared.entry_list.TheConstants.{FAR}
 use Rattle.binaryfile.specs.declared.scan.Place.{Place}
-
--- a list as its callers see it
-abbrev listed : List (List ℕ) → ℕ → List ℕ → Listed
-listed payloads reached numbers = record { payloads = payloads; reached = reached; numbers = numbers }
 
 -- a later entry begins no earlier
 offset_rises : (payloads : List (List ℕ)) (a b : ℕ) → a ≤ b → offset payloads a ≤ offset payloads b
@@ -51,67 +48,61 @@ numbers_few n [] = omega arith
 numbers_few n (gap ∷ gaps) =
     omega (arith, length-append (led_to n gap) (numbers_after (n + gap.entries) gaps), led_few n gap, numbers_few (n + gap.entries) gaps)
 
-module _ (payloads : List (List ℕ)) (first last place : Place) (count : ℕ) (gaps more : List Gap) (bytes : ℕ) (old : Listed)
-    (has : IsEntryList payloads first last count gaps)
-    (seen : listed payloads last.number (numbers_after first.number gaps) ≡ old)
-    (is : IsPlace old.payloads place) (within : place.number < length old.payloads) (order : old.reached ≤ place.number)
-    (bytes_are : bytes ≡ min (place.at - last.at) FAR) (pushed : more ≡ gaps ++ record { entries = place.number - last.number; bytes = bytes } ∷ []) where
+module _ {D : Type 0} (payloads : List (List ℕ)) (old new : EntryList D) (place : Place) (bytes : ℕ) (has : IsListOf payloads old)
+    (is : IsPlace payloads place) (within : place.number < length payloads) (order : old.last.number ≤ place.number)
+    (bytes_are : bytes ≡ min (place.at - old.last.at) FAR) (pushed : new.gaps.items ≡ old.gaps.items ++ record { entries = place.number - old.last.number; bytes = bytes } ∷ [])
+    (begins : new.first ≡ old.first) (ends : new.last ≡ place) where
   abbrev gap : Gap
-  gap = record { entries = place.number - last.number; bytes = bytes }
+  gap = record { entries = place.number - old.last.number; bytes = bytes }
 
-  abbrev led : ℕ → List ℕ
-  led reached = cond (nat_lt (place.number - reached) FAR) ((place.number + 1) ∷ []) []
+  abbrev led : List ℕ
+  led = cond (nat_lt gap.entries FAR) ((place.number + 1) ∷ []) []
 
-  there : end_after first.number gaps + gap.entries ≡ place.number
-  there = omega (arith, has.last_at, order, ap (λ (s : Listed). s.reached) seen)
+  there : end_after old.first.number old.gaps.items + gap.entries ≡ place.number
+  there = omega (arith, has.last_at, order)
 
-  place_is : IsPlace payloads place
-  place_is = subst (λ (s : Listed). IsPlace s.payloads place) (sym seen) is
-
-  is_gap : IsGap payloads (end_after first.number gaps) gap
+  is_gap : IsGap payloads (end_after old.first.number old.gaps.items) gap
   unfolding IsPlace
   is_gap = record {
-    within = omega (arith, there, within, ap (λ (s : Listed). length s.payloads) seen);
+    within = omega (arith, there, within);
     bytes_are = λ lt.
-        let rises = offset_rises payloads last.number place.number (omega (arith, order, ap (λ (s : Listed). s.reached) seen)) in
-        let begin : offset payloads (end_after first.number gaps) ≡ last.at = ap (offset payloads) (sym has.last_at) ∙ sym has.last_is.1 in
-        let stands : offset payloads (end_after first.number gaps + gap.entries) ≡ place.at = ap (offset payloads) there ∙ sym place_is.1 in
-        omega (arith, rises, begin, stands, bytes_are, lt, has.last_is.1, place_is.1);
+        let rises = offset_rises payloads old.last.number place.number order in
+        let begin : offset payloads (end_after old.first.number old.gaps.items) ≡ old.last.at = ap (offset payloads) (sym has.last_at) ∙ sym has.last_is.1 in
+        let stands : offset payloads (end_after old.first.number old.gaps.items + gap.entries) ≡ place.at = ap (offset payloads) there ∙ sym is.1 in
+        omega (arith, rises, begin, stands, bytes_are, lt, has.last_is.1, is.1);
   }
 
-  numbers_more : numbers_after first.number more ≡ numbers_after first.number gaps ++ led last.number
+  -- its entries
+  pub numbers_more : numbers_of new ≡ numbers_of old ++ led
   numbers_more =
-      ap (numbers_after first.number) pushed ∙ numbers-append first.number gaps (gap ∷ [])
-      ∙ ap (λ (ns : List ℕ). numbers_after first.number gaps ++ ns)
-      (append-nil (led_to (end_after first.number gaps) gap) ∙ ap (λ (k : ℕ). cond (nat_lt gap.entries FAR) ((k + 1) ∷ []) []) there)
+      ap (λ (p : Place). numbers_after p.number new.gaps.items) begins ∙ ap (numbers_after old.first.number) pushed
+      ∙ numbers-append old.first.number old.gaps.items (gap ∷ [])
+      ∙ ap (λ (ns : List ℕ). numbers_of old ++ ns)
+      (append-nil (led_to (end_after old.first.number old.gaps.items) gap) ∙ ap (λ (k : ℕ). cond (nat_lt gap.entries FAR) ((k + 1) ∷ []) []) there)
 
-  long_more : length (numbers_after first.number more) ≡ count + length (led last.number)
-  long_more = ap length numbers_more ∙ length-append (numbers_after first.number gaps) (led last.number) ∙ ap (λ (k : ℕ). k + length (led last.number)) (sym has.count_is)
+  long_more : length (numbers_of new) ≡ old.count + length led
+  long_more = ap length numbers_more ∙ length-append (numbers_of old) led ∙ ap (λ (k : ℕ). k + length led) (sym has.count_is)
 
-  list_with : (n : ℕ) → n ≡ count + length (led last.number) → IsEntryList payloads first place n more
-  list_with n all = record {
-    first_is = has.first_is;
-    last_is = place_is;
-    last_at = sym (ap (end_after first.number) pushed ∙ end-append first.number gaps gap ∙ there);
+  list_with : new.count ≡ old.count + length led → IsListOf payloads new
+  list_with all = record {
+    first_is = rw begins has.first_is;
+    last_is = rw ends is;
+    last_at = ap (λ (p : Place). p.number) ends ∙ sym (ap (λ (p : Place). end_after p.number new.gaps.items) begins ∙ ap (end_after old.first.number) pushed ∙ end-append old.first.number old.gaps.items gap ∙ there);
     count_is = all ∙ sym long_more;
-    gaps_are = rw pushed (gaps-append payloads first.number gaps gap has.gaps_are is_gap);
+    gaps_are = rw (begins, pushed) (gaps-append payloads old.first.number old.gaps.items gap has.gaps_are is_gap);
   }
 
   -- an entry of the list
-  pub list_longer : place.number - last.number < FAR → IsEntryList payloads first place (count + 1) more
-  list_longer near = list_with (count + 1) (rw (lt-ltb _ _ near) refl)
+  pub list_longer : gap.entries < FAR → new.count ≡ old.count + 1 → IsListOf payloads new
+  list_longer near more = list_with (more ∙ rw (lt-ltb _ _ near) refl)
 
   -- one that isn't
-  pub list_as_long : FAR ≤ place.number - last.number → IsEntryList payloads first place count more
-  list_as_long far = list_with count (rw (le-ltb _ _ far) (omega arith))
+  pub list_as_long : FAR ≤ gap.entries → new.count ≡ old.count → IsListOf payloads new
+  list_as_long far same = list_with (same ∙ rw (le-ltb _ _ far) (omega arith))
 
-  pub room_for_count : length more < 2 ^ 64 → place.number - last.number < FAR → count + 1 < 2 ^ 64
+  pub room_for_count : length new.gaps.items < 2 ^ 64 → gap.entries < FAR → old.count + 1 < 2 ^ 64
   room_for_count few near =
-      omega (arith, few, numbers_few first.number more, rw (lt-ltb _ _ near) at long_more)
-
-  -- what callers see of it
-  pub seen_more : listed payloads place.number (numbers_after first.number more) ≡ listed old.payloads place.number (old.numbers ++ led old.reached)
-  seen_more = ap (listed payloads place.number) numbers_more ∙ ap (λ (s : Listed). listed s.payloads place.number (s.numbers ++ led s.reached)) seen
+      omega (arith, few, numbers_few new.first.number new.gaps.items, rw (lt-ltb _ _ near) at long_more)
 
 -- ---- the first of those that are left
 

@@ -1,16 +1,9 @@
 -- Lists of a day's entries, each by how far it lies after the one before it. All is of this project.
 use Rattle.std.specs.Prelude.{◌≡◌, ◌+◌, ◌-◌, ◌<◌, ◌++◌, ℕ, List, [], ◌∷◌, cond, nat_lt, length, map, slice_index_or}
 use Rattle.binaryfile.specs.Index.{IsPlace, offset}
+use Rattle.binaryfile.specs.declared.entry_list.EntryList.{EntryList}
 use Rattle.binaryfile.specs.declared.entry_list.Gap.{Gap}
 use Rattle.binaryfile.specs.declared.entry_list.TheConstants.{FAR}
-use Rattle.binaryfile.specs.declared.scan.Place.{Place}
-
--- a list of entries as its callers see it: the payloads of its day, how many of them stand before its last entry or,
--- where it has none, before it begins, and the numbers of its payloads, counted from 1
-pub record Listed : Type 0 where
-  pub payloads : List (List ℕ)
-  pub reached : ℕ
-  pub numbers : List ℕ
 
 -- payloads of a day, each by its number, counted from 1, and its bytes
 abbrev pub numbered_payloads : List (List ℕ) → List ℕ → List (ℕ × List ℕ)
@@ -41,10 +34,18 @@ abbrev pub AreGaps : List (List ℕ) → ℕ → List Gap → Type 0
 AreGaps payloads n [] = Unit {0}
 AreGaps payloads n (gap ∷ gaps) = IsGap payloads n gap × AreGaps payloads (n + gap.entries) gaps
 
--- what a list keeps: the places of its beginning and of its last entry, how many entries it has, and the gaps between
-pub record IsEntryList (payloads : List (List ℕ)) (first last : Place) (count : ℕ) (gaps : List Gap) : Type 0 where
-  pub first_is : IsPlace payloads first
-  pub last_is : IsPlace payloads last
-  pub last_at : last.number ≡ end_after first.number gaps
-  pub count_is : count ≡ length (numbers_after first.number gaps)
-  pub gaps_are : AreGaps payloads first.number gaps
+-- the payloads of a list's entries, by their numbers, counted from 1
+abbrev pub numbers_of : {D : Type 0} → EntryList D → List ℕ
+numbers_of list = numbers_after list.first.number list.gaps.items
+
+-- how many entries of the day stand before its last one or, where it has none, before it begins
+abbrev pub reached_by : {D : Type 0} → EntryList D → ℕ
+reached_by list = list.last.number
+
+-- a list is one of entries of this day
+pub record IsListOf {D : Type 0} (payloads : List (List ℕ)) (list : EntryList D) : Type 0 where
+  pub first_is : IsPlace payloads list.first
+  pub last_is : IsPlace payloads list.last
+  pub last_at : list.last.number ≡ end_after list.first.number list.gaps.items
+  pub count_is : list.count ≡ length (numbers_of list)
+  pub gaps_are : AreGaps payloads list.first.number list.gaps.items

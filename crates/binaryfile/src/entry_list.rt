@@ -1,14 +1,13 @@
 // Lists of a day's entries, in four bytes each.
-ghost use Rattle.std.specs.Prelude.{◌≡◌, ◌<◌, ◌≤◌, ◌+◌, ◌-◌, ◌++◌, ◌∷◌, [], IfOk, OnErr, OnOk, cond, length, nat_lt};
+ghost use Rattle.std.specs.Prelude.{ℕ, ◌≡◌, ◌<◌, ◌≤◌, ◌+◌, ◌-◌, ◌++◌, ◌∷◌, [], List, IfOk, OnErr, OnOk, cond, length, nat_lt};
 ghost use Rattle.std.specs.Iterator.{YieldsFirstBy, item_count};
-ghost use Rattle.binaryfile.specs.EntryLists.{numbered_payloads};
+ghost use Rattle.binaryfile.specs.EntryLists.{IsListOf, numbered_payloads, numbers_of, reached_by};
 ghost use Rattle.binaryfile.specs.Index.{IsPlace, entries_before};
 
 use crate::day::Day;
 use crate::scan::Place;
 use std::alloc::{AllocError, Allocator};
 use std::marker::Model;
-use std::snapshot::Snapshot;
 
 // The widest gap, in entries and in bytes.
 pub(crate) const FAR: u16 = u16::MAX;
@@ -24,12 +23,8 @@ pub(crate) struct Gap {
 
 /// Entries of a day, rising, in four bytes each where they don't lie far apart: a caller that passes over a day keeps
 /// those that it comes back to. Their payloads are read without the day's index.
-///
-/// It is seen as the payloads of its day, how many of these stand before its last entry, and the numbers of its
-/// payloads, counted from 1.
 #[derive(Drop)]
 pub struct EntryList<A: Allocator> {
-    day: Snapshot<Day<A>>,
     // Where the list begins, and its last entry.
     first: Place,
     last: Place,
@@ -37,39 +32,16 @@ pub struct EntryList<A: Allocator> {
     gaps: Vec<Gap, A>,
 }
 
-impl<A: Allocator> Model for EntryList<A> {
-    ghost use Rattle.binaryfile.specs.EntryLists.{IsEntryList, Listed, numbers_after};
-
-    ghost Value = { Listed };
-
-    ghost view = { λ list. record {
-      payloads = list.day.value.payloads;
-      reached = list.last.number;
-      numbers = numbers_after list.first.number list.gaps.items;
-    } };
-
-    ghost invariant = { λ list.
-        IsEntryList list.day.value.payloads list.first list.last list.count list.gaps.items };
-}
-
 impl<A: Allocator> EntryList<A> {
     /// A list without entries, of those from a place of a day on, with room for so many at first. Its memory is that of
     /// `alloc`.
-    pub fn new(
-        alloc: A,
-        day: &Day<A>,
-        first: Place,
-        room: usize,
-    ) -> Result<EntryList<A>, AllocError>
-        requires { IsPlace day.now.payloads first }
-        ensures { IfOk result (λ list. list ≡ record {
-          payloads = day.now.payloads;
-          reached = entries_before first;
-          numbers = [];
-        }) }
+    pub fn new(alloc: A, first: Place, room: usize) -> Result<EntryList<A>, AllocError>
+        ensures list { IfOk result (λ list. (payloads : List (List ℕ)) → IsPlace payloads first
+            → IsListOf payloads list) }
+        ensures none { IfOk result (λ list. numbers_of list ≡ []) }
+        ensures reached { IfOk result (λ list. reached_by list ≡ entries_before first) }
     {
         Ok(EntryList {
-            day: Snapshot::of(day),
             first,
             last: first,
             count: 0,
@@ -77,25 +49,19 @@ impl<A: Allocator> EntryList<A> {
         })
     }
 
-    // How many entries of the day stand before the last one of the list.
-    fn reached(&self) -> usize
-        ensures { result ≡ self.now.reached }
-    {
-        self.last.number
-    }
-
     // Adds the gap from the last entry to the one at a place, which is an entry of the list where the gap isn't FAR.
-    fn push_gap(&mut self, place: Place) -> Result<(), AllocError>
-        requires place { IsPlace self.old.payloads place }
-        requires entry { entries_before place < length self.old.payloads }
-        requires order { self.old.reached ≤ entries_before place }
-        requires near { entries_before place ≤ self.old.reached + FAR }
-        ensures pushed { OnOk result (self.new ≡ record self.old {
-          reached = entries_before place;
-          numbers = self.old.numbers ++ cond (nat_lt (entries_before place - self.old.reached) FAR)
-              ((entries_before place + 1) ∷ []) [];
-        }) }
-        ensures err { OnErr result (self.new ≡ self.old) }
+    fn push_gap(&mut self, day: &Day<A>, place: Place) -> Result<(), AllocError>
+        requires list { IsListOf day.now.payloads self.old }
+        requires place { IsPlace day.now.payloads place }
+        requires entry { entries_before place < length day.now.payloads }
+        requires order { reached_by self.old ≤ entries_before place }
+        requires near { entries_before place ≤ reached_by self.old + FAR }
+        ensures list { IsListOf day.now.payloads self.new }
+        ensures pushed { OnOk result (numbers_of self.new ≡ numbers_of self.old
+            ++ cond (nat_lt (entries_before place - reached_by self.old) FAR) ((entries_before place + 1) ∷ []) []) }
+        ensures reached { OnOk result (reached_by self.new ≡ entries_before place) }
+        ensures err { OnErr result (numbers_of self.new ≡ numbers_of self.old) }
+        ensures stays { OnErr result (reached_by self.new ≡ reached_by self.old) }
     {
         let entries = (place.number - self.last.number) as u16;
         let bytes = place.at.saturating_sub(self.last.at).min(FAR as usize) as u16;
@@ -111,37 +77,34 @@ impl<A: Allocator> EntryList<A> {
     ///
     /// After an error the list has the entries that it had, and takes the same one again.
     pub fn push(&mut self, day: &Day<A>, place: Place) -> Result<(), AllocError>
-        requires day { day.now.payloads ≡ self.old.payloads }
-        requires place { IsPlace self.old.payloads place }
-        requires entry { entries_before place < length self.old.payloads }
-        requires order { self.old.reached ≤ entries_before place }
-        ensures pushed { OnOk result (self.new ≡ record self.old {
-          reached = entries_before place;
-          numbers = self.old.numbers ++ (entries_before place + 1) ∷ [];
-        }) }
-        ensures day { self.new.payloads ≡ self.old.payloads }
-        ensures err { OnErr result (self.new.numbers ≡ self.old.numbers) }
-        ensures order { OnErr result (self.new.reached ≤ entries_before place) }
+        requires list { IsListOf day.now.payloads self.old }
+        requires place { IsPlace day.now.payloads place }
+        requires entry { entries_before place < length day.now.payloads }
+        requires order { reached_by self.old ≤ entries_before place }
+        ensures list { IsListOf day.now.payloads self.new }
+        ensures pushed { OnOk result (numbers_of self.new ≡ numbers_of self.old ++ (entries_before place + 1) ∷ []) }
+        ensures err { OnErr result (numbers_of self.new ≡ numbers_of self.old) }
+        ensures order { reached_by self.new ≤ entries_before place }
     {
         // The numbers of the day's payloads fit 32 bits.
         let _count = day.len();
-        while place.number - self.reached() >= FAR as usize {
-            self.push_gap(day.place((self.reached() + FAR as usize) as u32))?;
+        while place.number - self.last.number >= FAR as usize {
+            self.push_gap(day, day.place((self.last.number + FAR as usize) as u32))?;
         }
-        self.push_gap(place)
+        self.push_gap(day, place)
     }
 
     /// How many entries there are.
     pub fn len(&self) -> usize
-        ensures { result ≡ length self.now.numbers }
+        ensures { (payloads : List (List ℕ)) → IsListOf payloads self.now → result ≡ length (numbers_of self.now) }
     {
         self.count
     }
 
     /// The payloads of the entries, in their order, borrowed from the day that the list is of.
     pub fn payloads<'d>(&'d self, day: &'d Day<A>) -> ListedPayloads<'d, A>
-        requires { day.now.payloads ≡ self.now.payloads }
-        ensures { result ≡ numbered_payloads day.entry.now.payloads self.entry.now.numbers }
+        requires { IsListOf day.now.payloads self.now }
+        ensures { result ≡ numbered_payloads day.entry.now.payloads (numbers_of self.entry.now) }
     {
         ListedPayloads {
             day,

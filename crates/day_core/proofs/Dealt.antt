@@ -1,5 +1,5 @@
 -- A stretch of a day that is being dealt to its workers: one message more, and the stretch after it.
-use Rattle.std.proofs.Common.{◌≡◌, ℕ, zero, suc, ◌+◌, ◌-◌, ◌%◌, ◌<◌, ◌≤◌, List, [], ◌∷◌, ◌++◌, length, drop, get_or, set, map, filter, replicate, cond, Bool, true, false, ◌||◌, Option, Some, None, refl, ap, sym, ◌∙◌, arith, inl, inr, append-nil}
+use Rattle.std.proofs.Common.{◌≡◌, ℕ, zero, suc, ◌+◌, ◌-◌, ◌%◌, ◌<◌, ◌≤◌, List, [], ◌∷◌, ◌++◌, length, get_or, set, map, filter, replicate, cond, Bool, true, false, ◌||◌, Option, Some, None, refl, ap, sym, ◌∙◌, arith, inl, inr, append-nil}
 use Rattle.std.specs.List.{range_with_len}
 use Rattle.std.proofs.lemmas.Bool.{cases_eq, eq-eqb, ne_eqb}
 use Rattle.std.proofs.lemmas.Nat.{mod_below}
@@ -23,8 +23,9 @@ use Rattle.itch_table.proofs.NoStock.{system_sets_event}
 use Rattle.itch_table.proofs.StockDays.{outcomes_stay_fixed}
 use Rattle.day_core.specs.declared.merging.Piece.{Piece}
 use Rattle.day_core.specs.Splitting.{AreDealt}
-use Rattle.day_core.specs.Stretches.{AreSeen, IsStretch, own_among, own_in_all}
-use Rattle.day_core.proofs.StocksSeen.{next_of, seen_both, seen_nowhere, seen_own}
+use Rattle.binaryfile.specs.declared.entry_list.EntryList.{EntryList}
+use Rattle.day_core.specs.Stretches.{AreSeen, AreUpTo, IsStretch, numbers_in, own_among, own_in_all}
+use Rattle.day_core.proofs.StocksSeen.{seen_both, seen_nowhere, seen_own}
 use Rattle.std.specs.Option.{option_or}
 use Rattle.day_core.proofs.Kept.{kept_more}
 use Rattle.day_core.specs.Owners.{fixed_until, is_nowhere, is_own, own_of, own_until, part_at, piece_of}
@@ -48,10 +49,9 @@ or_none : (event : Option ℕ) → option_or event None ≡ event
 or_none (Some e) = refl
 or_none None = refl
 
--- the messages after the first ones up to message n are dealt, and these payloads are left
-pub record IsDealing (day left : List (List ℕ)) (workers from n : ℕ) (seen : List Bool) (own : List (List ℕ)) (fixed : List Piece) (event : Option ℕ) : Type 0 where
+-- the messages after the first ones up to message n are dealt
+pub record IsDealing (day : List (List ℕ)) (workers from n : ℕ) (seen : List Bool) (own : List (List ℕ)) (fixed : List Piece) (event : Option ℕ) : Type 0 where
   pub within : n ≤ length day
-  pub rest : left ≡ drop n day
   pub dealt : IsStretch day workers from n seen own fixed event
 
 -- a stretch without messages
@@ -68,23 +68,24 @@ dealt_none day workers from seen own fixed event none empty nothing never = reco
 }
 
 -- before the first message
-pub begun : (day left : List (List ℕ)) (workers from : ℕ) (seen : List Bool) (own : List (List ℕ)) (fixed : List Piece) (event : Option ℕ) → left ≡ drop from day → from ≤ length day
-    → AreSeen day from from seen → own ≡ replicate workers [] → fixed ≡ [] → event ≡ None → IsDealing day left workers from from seen own fixed event
-begun day left workers from seen own fixed event is within none empty nothing never =
-    record { within = within; rest = is; dealt = dealt_none day workers from seen own fixed event none empty nothing never }
+pub begun : (day : List (List ℕ)) (workers from : ℕ) (seen : List Bool) (own : List (List ℕ)) (fixed : List Piece) (event : Option ℕ) → from ≤ length day
+    → AreSeen day from from seen → own ≡ replicate workers [] → fixed ≡ [] → event ≡ None → IsDealing day workers from from seen own fixed event
+begun day workers from seen own fixed event within none empty nothing never =
+    record { within = within; dealt = dealt_none day workers from seen own fixed event none empty nothing never }
+
+-- lists that end among the first entries of a day end among more of them
+pub up_to_more : {D : Type 0} (day : List (List ℕ)) (n m : ℕ) (lists : List (EntryList D)) → n ≤ m → AreUpTo day n lists → AreUpTo day m lists
+up_to_more day n m lists le are = λ k d lt. let at = are k d lt in (at.0, omega (arith, at.1, le))
 
 -- ---- one message more
 
-module _ (day left rest : List (List ℕ)) (workers from n : ℕ) (seen : List Bool) (own : List (List ℕ)) (fixed : List Piece) (event : Option ℕ)
-    (before : IsDealing day left workers from n seen own fixed event) (payload : List ℕ) (goes_on : left ≡ payload ∷ rest) where
-  next : (n + 1 ≤ length day) × (rest ≡ drop (n + 1) day) × (get_or day n [] ≡ payload)
-  next = next_of day left rest n payload before.rest goes_on
-
+module _ (day : List (List ℕ)) (workers from n : ℕ) (seen : List Bool) (own : List (List ℕ)) (fixed : List Piece) (event : Option ℕ)
+    (before : IsDealing day workers from n seen own fixed event) (payload : List ℕ) (more : n < length day) (read : payload ≡ get_or day n payload) where
   one_more : n + 1 ≤ length day
-  one_more = next.0
+  one_more = omega (arith, more)
 
   at : get_or day n [] ≡ payload
-  at = next.2
+  at = get_or_default day n [] payload more ∙ sym read
 
   here : part_at day (n + 1) ≡ part payload
   here =
@@ -109,7 +110,7 @@ module _ (day left rest : List (List ℕ)) (workers from n : ℕ) (seen : List B
       ∙ sym (ap (λ (w : World). w.event) (after-next day n ∙ ap (λ (p : List ℕ). (step (after day n) p).1) at))
 
   pub dealt_own : (locate : ℕ) → Locate locate ≡ part payload → 0 < workers
-      → IsDealing day rest workers from (n + 1) (set seen locate true)
+      → IsDealing day workers from (n + 1) (set seen locate true)
       (set own (locate % workers) (get_or own (locate % workers) [] ++ (n + 1) ∷ [])) fixed event
   dealt_own locate is some =
       let owner = locate % workers in
@@ -118,7 +119,6 @@ module _ (day left rest : List (List ℕ)) (workers from n : ℕ) (seen : List B
       let kept = before.dealt.own_are in
       record {
         within = one_more;
-        rest = next.1;
         dealt = record {
           seen_are = seen_own day from n seen before.dealt.seen_are (omega (arith, one_more)) payload at locate is;
           own_long = length-set own owner pushed ∙ before.dealt.own_long;
@@ -140,13 +140,12 @@ module _ (day left rest : List (List ℕ)) (workers from n : ℕ) (seen : List B
       }
 
   pub dealt_fixed : (outcome : Outcome) → Nowhere outcome ≡ part payload
-      → IsDealing day rest workers from (n + 1) seen own (fixed ++ record { message = n + 1; outcome = outcome } ∷ []) (event_with (shape_of payload) event)
+      → IsDealing day workers from (n + 1) seen own (fixed ++ record { message = n + 1; outcome = outcome } ∷ []) (event_with (shape_of payload) event)
   dealt_fixed outcome is =
       let known = outcomes_stay_fixed day (n + 1) outcome (here ∙ sym is) in
       let piece : Piece = record { message = n + 1; outcome = outcome } in
       record {
         within = one_more;
-        rest = next.1;
         dealt = record {
           seen_are = seen_nowhere day from n seen before.dealt.seen_are (omega (arith, one_more)) payload at outcome is;
           own_long = before.dealt.own_long;
@@ -201,31 +200,31 @@ dealt_all day workers seen own fixed event all = record {
 -- ---- several stretches
 
 -- none
-pub none_in_all : (workers : ℕ) (stretches : List (List (List ℕ))) → stretches ≡ [] → own_in_all workers stretches ≡ replicate workers []
-none_in_all workers stretches none = ap (own_in_all workers) none ∙ empty 0 workers
+pub none_in_all : {D : Type 0} (workers : ℕ) (stretches : List (List (EntryList D))) → stretches ≡ [] → own_in_all workers stretches ≡ replicate workers []
+none_in_all {D = D} workers stretches none = ap (own_in_all workers) none ∙ empty 0 workers
   where
-    empty : (first n : ℕ) → map (λ worker. own_among worker []) (range_with_len first n) ≡ replicate n []
+    empty : (first n : ℕ) → map (λ worker. own_among {D = D} worker []) (range_with_len first n) ≡ replicate n []
     empty first zero = refl
     empty first (suc n) = ap (λ (ls : List (List ℕ)). [] ∷ ls) (empty (first + 1) n)
 
 -- a worker's messages in all of them
-pub in_all : (workers worker : ℕ) (stretches : List (List (List ℕ))) (d : List ℕ) → worker < workers → get_or (own_in_all workers stretches) worker d ≡ own_among worker stretches
+pub in_all : {D : Type 0} (workers worker : ℕ) (stretches : List (List (EntryList D))) (d : List ℕ) → worker < workers → get_or (own_in_all workers stretches) worker d ≡ own_among worker stretches
 in_all workers worker stretches d lt = get_or-map-range_with_len (λ w. own_among w stretches) 0 workers worker worker d lt (omega arith)
 
 -- of each worker one list
-pub all_long : (workers : ℕ) (stretches : List (List (List ℕ))) → length (own_in_all workers stretches) ≡ workers
+pub all_long : {D : Type 0} (workers : ℕ) (stretches : List (List (EntryList D))) → length (own_in_all workers stretches) ≡ workers
 all_long workers stretches = length-map-range_with_len (λ w. own_among w stretches) 0 workers
 
 -- one more
-pub one_stretch : (workers worker : ℕ) (stretches more : List (List (List ℕ))) (own : List (List ℕ)) → more ≡ stretches ++ own ∷ [] → worker < workers
-    → get_or (own_in_all workers more) worker [] ≡ get_or (own_in_all workers stretches) worker [] ++ get_or own worker []
+pub one_stretch : {D : Type 0} (workers worker : ℕ) (stretches more : List (List (EntryList D))) (own : List (EntryList D)) → more ≡ stretches ++ own ∷ [] → worker < workers
+    → get_or (own_in_all workers more) worker [] ≡ get_or (own_in_all workers stretches) worker [] ++ get_or (numbers_in own) worker []
 one_stretch workers worker stretches more own is lt =
-    in_all workers worker more [] lt ∙ ap (own_among worker) is ∙ flat_map-append (λ (o : List (List ℕ)). get_or o worker []) stretches (own ∷ [])
-    ∙ ap (λ (l : List ℕ). own_among worker stretches ++ l) (append-nil (get_or own worker []))
-    ∙ ap (λ (l : List ℕ). l ++ get_or own worker []) (sym (in_all workers worker stretches [] lt))
+    in_all workers worker more [] lt ∙ ap (own_among worker) is ∙ flat_map-append (λ o. get_or (numbers_in o) worker []) stretches (own ∷ [])
+    ∙ ap (λ (l : List ℕ). own_among worker stretches ++ l) (append-nil (get_or (numbers_in own) worker []))
+    ∙ ap (λ (l : List ℕ). l ++ get_or (numbers_in own) worker []) (sym (in_all workers worker stretches [] lt))
 
 -- those of a whole day are a worker's
-pub own_of_all : (day : List (List ℕ)) (workers worker : ℕ) (stretches : List (List (List ℕ))) (fixed : List Piece) (event : Option ℕ)
+pub own_of_all : {D : Type 0} (day : List (List ℕ)) (workers worker : ℕ) (stretches : List (List (EntryList D))) (fixed : List Piece) (event : Option ℕ)
     → AreDealt day workers (length day) (own_in_all workers stretches) fixed event → worker < workers → own_among worker stretches ≡ own_of workers worker day
 unfolding own_of
 own_of_all day workers worker stretches fixed event dealt lt = sym (in_all workers worker stretches [] lt) ∙ dealt.own_are worker [] lt

@@ -1,21 +1,24 @@
 -- A worker's messages of a day, each with its payload: those that are left, and those that were found ahead.
-use Rattle.std.proofs.Common.{◌≡◌, ℕ, zero, suc, ◌+◌, ◌-◌, ◌<◌, ◌≤◌, List, [], ◌∷◌, ◌++◌, length, drop, take, get_or, eqb, map, true, false, Option, Some, None, IfNone, IfSome, MatchOption, refl, append-nil, append_assoc, ap, sym, subst, ◌∙◌, arith}
+use Rattle.std.proofs.Common.{◌≡◌, ℕ, zero, suc, ◌+◌, ◌<◌, ◌≤◌, List, [], ◌∷◌, ◌++◌, length, drop, get_or, map, true, Option, Some, None, IfNone, IfSome, MatchOption, refl, append-nil, append_assoc, ap, sym, subst, ◌∙◌, arith}
 use Rattle.std.specs.List.{All, Contains, range_with_len, slice_get}
 use Rattle.std.specs.Option.{option_map, option_to_list}
-use Rattle.std.proofs.lemmas.List.{length-drop, length-map, map-append, take_all}
+use Rattle.std.proofs.lemmas.List.{get_or-map, length-drop, length-map, map-append}
 use Rattle.std.proofs.lemmas.List.Elements.{All-map}
 use Rattle.std.proofs.lemmas.List.Kept.{IsStrictlyIncreasing-filter}
 use Rattle.std.proofs.lemmas.Option.{slice_get-get_or, slice_get_past}
+use Rattle.binaryfile.specs.EntryLists.{numbered_payloads}
+use Rattle.binaryfile.specs.declared.entry_list.EntryList.{EntryList}
 use Rattle.itch_table.proofs.DayLocates.{range_rises}
 use Rattle.itch_table.specs.declared.outcome.Part.TheVariants.{Locate}
 use Rattle.itch_table.specs.Parts.{part}
 use Rattle.itch_table.specs.Projection.{payload_at}
 use Rattle.day_core.specs.Owners.{is_own, own_locates, own_messages, own_of, part_at}
+use Rattle.day_core.specs.Stretches.{AreAllOf, AreOf, numbers_in, own_among}
 use Rattle.day_core.specs.Workers.{AreAhead, AreOfStocks, IsFound, WorkerState, numbered, worker_messages}
 use Rattle.day_core.specs.declared.runner.FoundMessage.{FoundMessage}
 use Rattle.day_core.proofs.Placing.{place_below}
 use Rattle.day_core.proofs.Progress.{own_passes, own_within}
-use Rattle.day_core.proofs.Running.{code_there, own_code, payload_is}
+use Rattle.day_core.proofs.Running.{code_there, own_code}
 
 -- the message of a day with this number
 abbrev message : List (List ℕ) → ℕ → ℕ × List ℕ
@@ -33,33 +36,6 @@ all_of_own workers worker day =
     (code.0, code.1, λ fits. code_there workers worker day n code.0 within.0 within.1 fits code.1 own))
 
 -- ---- those that are left
-
--- the first number of a list that has some, and those after it
-pub has_some : (numbers : List ℕ) → false ≡ eqb (length numbers) 0 → 0 < length numbers
-has_some [] none = let never : ⊥ = cc in absurd never
-has_some (n ∷ numbers) some = omega arith
-
-split_first : (numbers more : List ℕ) → 0 < length numbers → numbers ++ more ≡ get_or numbers 0 0 ∷ (take (length numbers - 1) (drop 1 numbers) ++ more)
-split_first [] more some = absurd (omega arith)
-split_first (n ∷ numbers) more some = ap (λ (ns : List ℕ). n ∷ (ns ++ more)) (sym (take_all (length (n ∷ numbers) - 1) numbers (omega arith)))
-
-module _ (day last : List (List ℕ)) (numbers more all : List ℕ) (same_day : day ≡ last) (same : numbers ++ more ≡ all) (some : 0 < length numbers)
-    (within : All (λ n. (1 ≤ n) × (n ≤ length last)) all) where
-  first_and_rest : all ≡ get_or numbers 0 0 ∷ (take (length numbers - 1) (drop 1 numbers) ++ more)
-  first_and_rest = sym same ∙ split_first numbers more some
-
-  within_day : All (λ n. (1 ≤ n) × (n ≤ length day)) (get_or numbers 0 0 ∷ (take (length numbers - 1) (drop 1 numbers) ++ more))
-  within_day = λ k d lt. let at = (subst (All (λ n. (1 ≤ n) × (n ≤ length last))) first_and_rest within) k d lt in (at.0, omega (arith, at.1, ap length same_day))
-
-  pub rest_within : All (λ n. (1 ≤ n) × (n ≤ length day)) (take (length numbers - 1) (drop 1 numbers) ++ more)
-  rest_within = λ k d lt. within_day (suc k) d (omega (arith, lt))
-
-  pub first_with_payload : (payload : List ℕ) → payload ≡ get_or day (get_or numbers 0 0 - 1) payload
-      → map (message last) all ≡ (get_or numbers 0 0, payload) ∷ map (message day) (take (length numbers - 1) (drop 1 numbers) ++ more)
-  first_with_payload payload is =
-      let at = within_day 0 0 (omega arith) in
-      ap (λ (d : List (List ℕ)). map (message d) all) (sym same_day) ∙ ap (map (message day)) first_and_rest
-      ∙ ap (λ (p : List ℕ). (get_or numbers 0 0, p) ∷ map (message day) (take (length numbers - 1) (drop 1 numbers) ++ more)) (sym (payload_is day (get_or numbers 0 0) payload at.0 at.1 is))
 
 -- the first of those that are left
 pub first_left : {Y : Type 0} (f : ℕ → Y) (own : List ℕ) (i : ℕ) (y : Y) (ys : List Y) → y ∷ ys ≡ drop i (map f own)
@@ -231,3 +207,26 @@ pub done_below : (workers worker : ℕ) (day : List (List ℕ)) (i : ℕ) → i 
 unfolding own_of
 done_below workers worker day i lt =
     place_below (own_of workers worker day) (IsStrictlyIncreasing-filter (λ n. is_own workers worker (part_at day n)) (range_with_len 1 (length day)) (range_rises 1 (length day))) i lt
+
+-- the lists of one of some stretches
+pub lists_at : {X D : Type 0} (f : X → List (EntryList D)) (day : List (List ℕ)) (stretches : List X) (i : ℕ) (x : X) → i < length stretches → x ≡ get_or stretches i x → AreAllOf day (map f stretches)
+    → AreOf day (f x)
+lists_at f day stretches i x lt is are =
+    subst (AreOf day) (get_or-map f stretches i x (f x) lt ∙ ap f (sym is)) (are i (f x) (omega (arith, lt, length-map stretches f)))
+
+-- the lists of the first of some stretches, and those of the others
+module _ {X D : Type 0} (f : X → List (EntryList D)) (day : List (List ℕ)) (later rest : List X) (first : X) (is : later ≡ first ∷ rest) (are : AreAllOf day (map f later)) where
+  pub first_of : AreOf day (f first)
+  first_of = (subst (λ ls. AreAllOf day (map f ls)) is are) 0 (f first) (omega arith)
+
+  pub rest_of : AreAllOf day (map f rest)
+  rest_of = λ k d lt. (subst (λ ls. AreAllOf day (map f ls)) is are) (suc k) d (omega (arith, lt))
+
+  -- a worker's messages in the first, before those in the others
+  pub first_and_rest : (worker : ℕ) (left payloads : List (ℕ × List ℕ)) → left ≡ [] → payloads ≡ numbered_payloads day (get_or (numbers_in (f first)) worker [])
+      → payloads ++ numbered_payloads day (own_among worker (map f rest)) ≡ left ++ numbered_payloads day (own_among worker (map f later))
+  first_and_rest worker left payloads none read =
+      ap (λ ps. ps ++ numbered_payloads day (own_among worker (map f rest))) read
+      ∙ sym (map-append (message day) (get_or (numbers_in (f first)) worker []) (own_among worker (map f rest)))
+      ∙ ap (λ ls. numbered_payloads day (own_among worker (map f ls))) (sym is)
+      ∙ ap (λ ps. ps ++ numbered_payloads day (own_among worker (map f later))) (sym none)

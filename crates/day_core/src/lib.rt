@@ -42,7 +42,7 @@ pub use dealing::event_after;
 pub use laws::{days_come_to_their_end, looks_never_go_back, looks_show_their_stock};
 pub use merging::{MergeFault, Piece, merge};
 pub use ordering::{by_worker, in_order};
-pub use own_messages::{OwnMessage, OwnMessages};
+pub use own_messages::OwnMessages;
 pub use parts::Parts;
 pub use playing::{Event, Seen, play};
 pub use refusals::{all_refused, note_refused, outcomes_with};

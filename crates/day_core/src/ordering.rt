@@ -7,8 +7,8 @@ use crate::parts::Parts;
 use std::alloc::{AllocError, Allocator};
 use std::collections::VecDeque;
 
-/// Adds a value to the list of a worker.
-pub(crate) fn give<T: Drop, A: Allocator + Copy>(
+// Adds a value to the list of a worker.
+fn give<T: Drop, A: Allocator + Copy>(
     lists: &mut Vec<Vec<T, A>, A>,
     worker: u32,
     value: T,
@@ -22,17 +22,16 @@ pub(crate) fn give<T: Drop, A: Allocator + Copy>(
     Ok(())
 }
 
-/// An empty list for each worker, each with room for so many values.
-pub(crate) fn empty_lists<T: Drop, A: Allocator + Copy>(
+// An empty list for each worker.
+fn empty_lists<T: Drop, A: Allocator + Copy>(
     alloc: A,
     workers: u32,
-    room: usize,
 ) -> Result<Vec<Vec<T, A>, A>, AllocError>
     ensures { IfOk result (λ lists. map (λ list. list.items) lists.items ≡ replicate workers []) }
 {
     let mut lists = Vec::with_capacity(alloc, workers as usize)?;
     for _ in 0..workers {
-        lists.push(Vec::with_capacity(alloc, room)?)?;
+        lists.push(Vec::new(alloc))?;
     }
     Ok(lists)
 }
@@ -54,7 +53,7 @@ pub fn by_worker<T: Drop, A: Allocator + Copy>(
 {
     let workers = parts.workers();
     let locates = parts.locates();
-    let mut lists = empty_lists(alloc, workers, 0)?;
+    let mut lists = empty_lists(alloc, workers)?;
     for (index, value) in values.into_iter().enumerate() {
         give(&mut lists, u32::from(locates[index]) % workers, value)?;
     }

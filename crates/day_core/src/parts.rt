@@ -7,7 +7,7 @@ ghost use Rattle.day_core.specs.Owners.{fixed_pieces, own_messages};
 use crate::merging::Piece;
 use crate::own_messages::{OwnMessages, count_of};
 use crate::worker_count::WorkerCount;
-use binaryfile::Day;
+use binaryfile::{Day, EntryList};
 use std::alloc::{AllocError, Allocator};
 use std::marker::Model;
 
@@ -18,8 +18,8 @@ use std::marker::Model;
 pub struct Parts<'d, A: Allocator> {
     pub(crate) workers: WorkerCount,
     pub(crate) locates: Vec<u16, A>,
-    // For each stretch of the day each worker's messages, by their numbers, rising.
-    pub(crate) own: Vec<Vec<Vec<u32, A>, A>, A>,
+    // For each stretch of the day each worker's messages, rising.
+    pub(crate) own: Vec<Vec<EntryList<A>, A>, A>,
     pub(crate) fixed: Vec<Piece, A>,
     pub(crate) event: Option<u8>,
     pub(crate) day: &'d Day<A>,
@@ -28,15 +28,15 @@ pub struct Parts<'d, A: Allocator> {
 impl<'d, A: Allocator> Model for Parts<'d, A> {
     ghost use Rattle.std.specs.Prelude.{map};
     ghost use Rattle.day_core.specs.Splitting.{AreParts, Split};
-    ghost use Rattle.day_core.specs.Stretches.{own_in_all};
+    ghost use Rattle.day_core.specs.Stretches.{AreAllOf, own_in_all};
 
     ghost Value = { Split };
 
     ghost view = { λ p. record { day = p.day.now.payloads; workers = p.workers } };
 
     ghost invariant = { λ p. AreParts p.day.now.payloads p.workers p.locates.items
-        (own_in_all p.workers (map (λ own. map (λ list. list.items) own.items) p.own.items))
-        p.fixed.items p.event };
+        (own_in_all p.workers (map (λ lists. lists.items) p.own.items)) p.fixed.items p.event
+        × AreAllOf p.day.now.payloads (map (λ lists. lists.items) p.own.items) };
 }
 
 impl<'d, A: Allocator> Parts<'d, A> {

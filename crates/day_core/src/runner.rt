@@ -262,8 +262,8 @@ impl<'p, A: Allocator + Copy> Runner<'p, A> {
         sum
     }
 
-    /// Reads the day's bytes where the messages after those that were found are looked for, in the same way: one of
-    /// many workers walks to each of its messages from a place before it, and these lie far apart.
+    /// Reads the day's bytes of the messages after those that were found, in the same way: those of one of many workers
+    /// lie far apart.
     pub fn touch_messages_ahead(&self) -> u64 {
         self.left.touch_next(TURNS_AHEAD)
     }

@@ -1,4 +1,4 @@
-use Rattle.std.proofs.Common.{◌<◌, ◌∙◌, map}
+use Rattle.std.proofs.Common.{◌<◌, ◌∙◌}
 use Rattle.rayon.specs.Numbers.{nat_range}
 use Rattle.rayon.proofs.ListFacts.{IfOk-then}
 use Rattle.rayon.proofs.ToStd.{nat_range-All}
@@ -17,6 +17,8 @@ pub returns : goal.returns
 returns g c =
     let ends = c.into_par_iter.ensures in
     IfOk-then c.collect.result _ _ c.collect.ensures (λ v h.
-    let chain = rw (c.map.ensures.base, c.map.ensures.f, c.with_min_len.ensures.base) at h.1 in
+    let mapped = rw c.map.ensures.base at h.1 in
+    let called = rw c.map.ensures.f at mapped in
+    let chain = rw c.with_min_len.ensures.base at called in
     let places = chain.1 ∙ (λ i. nat_range (ends.0 i) (ends.1 i)) in
-    found_from (λ chunk v. IsChunk c.args.day.now.payloads c.args.workers chunk v.seen.items (map (λ list. list.items) v.own.items) v.fixed.items v.event) v.items h.0 chain.0 chain.2 places h.2)
+    found_from (λ chunk v. IsChunk c.args.day.now.payloads c.args.workers chunk v.seen.items v.own.items v.fixed.items v.event) v.items h.0 chain.0 chain.2 places h.2)

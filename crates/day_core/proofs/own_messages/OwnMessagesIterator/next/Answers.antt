@@ -1,16 +1,18 @@
-use Rattle.std.proofs.Common.{ap, sym, ◌∙◌}
-use Rattle.day_core.proofs.OwnLeft.{first_with_payload, has_some, rest_within}
+use Rattle.std.proofs.Common.{[], ap, get_or, sym, subst, ◌∙◌}
+use Rattle.binaryfile.specs.EntryLists.{numbered_payloads}
+use Rattle.day_core.specs.Stretches.{AreOf, numbers_in}
+use Rattle.day_core.proofs.OwnLeft.{first_and_rest, first_of, rest_of}
 use Rattle.day_core.proofs.own_messages.OwnMessagesIterator.next.Goals as goal
 
-pub invariant_of-self-2 : goal.invariant_of-self-2
-invariant_of-self-2 g c =
-    let loop = c.loop-self.invariant in
-    let some = has_some c.loop-self.self-inside.numbers.now (c.loop-self-test.ensures {u = tt}) in
-    (c.payload_near-payload.ensures.near, rest_within _ _ _ _ _ (ap (λ d. d.now.payloads) loop.day) loop.same some c.self.invariant.1)
+pub payloads_of-self-inside-requires : goal.payloads_of-self-inside-requires
+payloads_of-self-inside-requires g c =
+    subst (AreOf c.loop-message.self-inside.day.now.payloads) (sym c.deref.ensures.value)
+    (first_of (λ lists. lists.items) _ _ _ _ (c.in_ok-lists.ensures {u = tt}).cases.0 c.loop-message.invariant.lists)
 
-pub returns-clause-steps : goal.returns-clause-steps
-returns-clause-steps g c =
-    let loop = c.loop-self.invariant in
-    let some = has_some c.loop-self.self-inside.numbers.now (c.loop-self-test.ensures {u = tt}) in
-    sym c.self.view_is
-    ∙ first_with_payload _ _ _ _ _ (ap (λ d. d.now.payloads) loop.day) loop.same some c.self.invariant.1 _ c.payload_near-payload.ensures.payload
+pub loop-message-preserved : goal.loop-message-preserved
+loop-message-preserved g c = record {
+  lists = rest_of (λ lists. lists.items) _ _ _ _ (c.in_ok-lists.ensures {u = tt}).cases.0 c.loop-message.invariant.lists;
+  same = first_and_rest (λ lists. lists.items) _ _ _ _ (c.in_ok-lists.ensures {u = tt}).cases.0 c.loop-message.invariant.lists _ _ _ c.in_default.ensures.steps.0
+      (c.payloads_of-self-inside.ensures ∙ ap (λ ls. numbered_payloads c.loop-message.self-inside.day.now.payloads (get_or (numbers_in ls) c.loop-message.self-inside.worker [])) c.deref.ensures.value)
+      ∙ c.loop-message.invariant.same;
+}

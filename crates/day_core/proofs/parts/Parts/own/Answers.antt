@@ -1,11 +1,10 @@
-use Rattle.std.proofs.Common.{◌≡◌, ◌<◌, ◌≤◌, ℕ, List, length, map, ap, sym, subst, ◌∙◌, arith}
-use Rattle.std.specs.List.{All}
+use Rattle.std.proofs.Common.{◌≡◌, ◌<◌, map, ap, sym, subst, ◌∙◌, arith}
 use Rattle.itch_table.specs.Projection.{payload_at}
 use Rattle.day_core.specs.Owners.{own_messages, own_of}
 use Rattle.day_core.specs.Splitting.{Split}
-use Rattle.day_core.specs.Stretches.{own_among}
+use Rattle.day_core.specs.Stretches.{AreAllOf, own_among}
 use Rattle.day_core.proofs.Dealt.{own_of_all}
-use Rattle.day_core.proofs.Progress.{own_none, own_within}
+use Rattle.day_core.proofs.Progress.{own_none}
 use Rattle.day_core.proofs.parts.Parts.own.Goals as goal
 
 pub new-requires : goal.new-requires
@@ -16,24 +15,20 @@ returns-then-worker-get-clause-messages g c =
     let split = c.self.inside in
     let day = split.day.now.payloads in
     c.new.ensures
-    ∙ sym (ap (map (λ n. (n, payload_at day n))) (own_none split.workers c.args.worker day c.self.invariant.some (omega (arith, c.if-worker-get.true, c.get.ensures.value))))
+    ∙ sym (ap (map (λ n. (n, payload_at day n))) (own_none split.workers c.args.worker day c.self.invariant.0.some (omega (arith, c.if-worker-get.true, c.get.ensures.value))))
     ∙ ap (λ (s : Split). own_messages s.workers c.args.worker s.day) c.self.view_is
 
 pub new-requires-2 : goal.new-requires-2
 new-requires-2 g c =
-    let split = c.self.inside in
-    let day = split.day.now.payloads in
-    let mine : c.args.worker < split.workers = omega (arith, c.if-worker-get.false, c.get.ensures.value) in
-    let numbers : own_among c.args.worker (map (λ own. map (λ list. list.items) own.items) c.deref.result.now) ≡ own_of split.workers c.args.worker day =
-    ap (λ ls. own_among c.args.worker (map (λ own. map (λ list. list.items) own.items) ls)) c.deref.ensures.value ∙ own_of_all day split.workers c.args.worker (map (λ own. map (λ list. list.items) own.items) split.own.items) _ _ c.self.invariant.dealt mine in
-    subst (λ (ns : List ℕ). All (λ n. (1 ≤ n) × (n ≤ length day)) ns) (sym numbers) (λ k d lt. own_within split.workers c.args.worker day k d lt)
+    let day = c.self.inside.day.now.payloads in
+    subst (λ ls. AreAllOf day (map (λ lists. lists.items) ls)) (sym c.deref.ensures.value) c.self.invariant.1
 
 pub returns-clause-messages : goal.returns-clause-messages
 returns-clause-messages g c =
     let split = c.self.inside in
     let day = split.day.now.payloads in
     let mine : c.args.worker < split.workers = omega (arith, c.if-worker-get.false, c.get.ensures.value) in
-    let numbers : own_among c.args.worker (map (λ own. map (λ list. list.items) own.items) c.deref.result.now) ≡ own_of split.workers c.args.worker day =
-    ap (λ ls. own_among c.args.worker (map (λ own. map (λ list. list.items) own.items) ls)) c.deref.ensures.value ∙ own_of_all day split.workers c.args.worker (map (λ own. map (λ list. list.items) own.items) split.own.items) _ _ c.self.invariant.dealt mine in
+    let numbers : own_among c.args.worker (map (λ lists. lists.items) c.deref.result.now) ≡ own_of split.workers c.args.worker day =
+    ap (λ ls. own_among c.args.worker (map (λ lists. lists.items) ls)) c.deref.ensures.value ∙ own_of_all day split.workers c.args.worker (map (λ lists. lists.items) split.own.items) _ _ c.self.invariant.0.dealt mine in
     c.new-2.ensures ∙ ap (map (λ n. (n, payload_at day n))) numbers
     ∙ ap (λ (s : Split). own_messages s.workers c.args.worker s.day) c.self.view_is
