@@ -2,43 +2,45 @@
 use Rattle.std.specs.Prelude.{◌≡◌, ◌+◌, ◌-◌, ◌<◌, ◌++◌, ℕ, List, [], ◌∷◌, cond, nat_lt, length, map, slice_index_or}
 use Rattle.binaryfile.specs.Index.{IsPlace, offset}
 use Rattle.binaryfile.specs.declared.entry_list.EntryList.{EntryList}
-use Rattle.binaryfile.specs.declared.entry_list.Gap.{Gap}
+use Rattle.binaryfile.specs.declared.entry_list.Distance.{Distance}
 use Rattle.binaryfile.specs.declared.entry_list.TheConstants.{FAR}
 
 -- payloads of a day, each by its number, counted from 1, and its bytes
 abbrev pub numbered_payloads : List (List ℕ) → List ℕ → List (ℕ × List ℕ)
 numbered_payloads payloads numbers = map (λ n. (n, slice_index_or payloads (n - 1) [])) numbers
 
--- the payload to which a gap leads from the entry after the first n, by its number; none where the gap is as wide as a
--- gap may be, since such a gap leads to no entry of the list
-abbrev pub led_to : ℕ → Gap → List ℕ
-led_to n gap = cond (nat_lt gap.entries FAR) ((n + gap.entries + 1) ∷ []) []
+-- the payload to which a distance leads from the entry after the first n, by its number; none where the distance is the
+-- greatest that there is, since no entry of a list is there
+abbrev pub led_to : ℕ → Distance → List ℕ
+led_to n distance = cond (nat_lt distance.entries FAR) ((n + distance.entries + 1) ∷ []) []
 
--- the payloads to which gaps lead one after another, by their numbers
-abbrev pub numbers_after : ℕ → List Gap → List ℕ
+-- the payloads to which distances lead one after another, by their numbers
+abbrev pub numbers_after : ℕ → List Distance → List ℕ
 numbers_after n [] = []
-numbers_after n (gap ∷ gaps) = led_to n gap ++ numbers_after (n + gap.entries) gaps
+numbers_after n (distance ∷ distances) = led_to n distance ++ numbers_after (n + distance.entries) distances
 
--- how many entries stand before the last one to which they lead
-abbrev pub end_after : ℕ → List Gap → ℕ
+-- how many entries stand before the one at which distances one after another end
+abbrev pub end_after : ℕ → List Distance → ℕ
 end_after n [] = n
-end_after n (gap ∷ gaps) = end_after (n + gap.entries) gaps
+end_after n (distance ∷ distances) = end_after (n + distance.entries) distances
 
--- a gap is true of a day: an entry stands where it leads, and where the distance in bytes has room, it is that
-pub record IsGap (payloads : List (List ℕ)) (n : ℕ) (gap : Gap) : Type 0 where
-  pub within : n + gap.entries < length payloads
-  pub bytes_are : gap.bytes < FAR → offset payloads (n + gap.entries) ≡ offset payloads n + gap.bytes
+-- a distance from the entry after the first n is true of a day: an entry stands at its end, of the list or not, and bytes
+-- below FAR are the bytes to it
+pub record IsDistance (payloads : List (List ℕ)) (n : ℕ) (distance : Distance) : Type 0 where
+  pub within : n + distance.entries < length payloads
+  pub bytes_are : distance.bytes < FAR → offset payloads (n + distance.entries) ≡ offset payloads n + distance.bytes
 
--- gaps are, one after another
-abbrev pub AreGaps : List (List ℕ) → ℕ → List Gap → Type 0
-AreGaps payloads n [] = Unit {0}
-AreGaps payloads n (gap ∷ gaps) = IsGap payloads n gap × AreGaps payloads (n + gap.entries) gaps
+-- distances one after another, from the entry after the first n on, are true of a day
+abbrev pub AreDistances : List (List ℕ) → ℕ → List Distance → Type 0
+AreDistances payloads n [] = Unit {0}
+AreDistances payloads n (distance ∷ distances) =
+    IsDistance payloads n distance × AreDistances payloads (n + distance.entries) distances
 
 -- the payloads of a list's entries, by their numbers, counted from 1
-abbrev pub numbers_of : {D : Type 0} → EntryList D → List ℕ
-numbers_of list = numbers_after list.first.number list.gaps.items
+abbrev pub listed_numbers : {D : Type 0} → EntryList D → List ℕ
+listed_numbers list = numbers_after list.first.number list.distances.items
 
--- how many entries of the day stand before its last one or, where it has none, before it begins
+-- how many entries of the day stand before the place where its last distance leads or, without one, where it begins
 abbrev pub reached_by : {D : Type 0} → EntryList D → ℕ
 reached_by list = list.last.number
 
@@ -46,6 +48,6 @@ reached_by list = list.last.number
 pub record IsListOf {D : Type 0} (payloads : List (List ℕ)) (list : EntryList D) : Type 0 where
   pub first_is : IsPlace payloads list.first
   pub last_is : IsPlace payloads list.last
-  pub last_at : list.last.number ≡ end_after list.first.number list.gaps.items
-  pub count_is : list.count ≡ length (numbers_of list)
-  pub gaps_are : AreGaps payloads list.first.number list.gaps.items
+  pub last_at : list.last.number ≡ end_after list.first.number list.distances.items
+  pub count_is : list.count ≡ length (listed_numbers list)
+  pub distances_are : AreDistances payloads list.first.number list.distances.items

@@ -1,19 +1,19 @@
 //! A whole file in memory, with the places of its entries.
-ghost use Rattle.std.specs.Prelude.{◌≡◌, ◌≢◌, ◌+◌, ◌-◌, ◌<◌, ◌≤◌, ◌^◌, ◌↔◌, drop, length, slice_index_or, Err, IfOk, IfErr, IsOk, IsErr, IsErrOf};
+ghost use Rattle.std.specs.Prelude.{◌≡◌, ◌≢◌, ◌+◌, ◌-◌, ◌<◌, ◌≤◌, ◌^◌, ◌↔◌, length, slice_index_or, Err, IfOk, IfErr, IsOk, IsErr, IsErrOf};
 ghost use Rattle.byte_strings.specs.Bytes.{AreBytes};
 ghost use Rattle.binaryfile.specs.Devices.{HasFailed, GaveMore, GaveUpTo, Sends};
 ghost use Rattle.binaryfile.specs.Entries.{bytes_of, Splits};
-ghost use Rattle.binaryfile.specs.EntryLists.{IsGap};
+ghost use Rattle.binaryfile.specs.EntryLists.{IsDistance};
 ghost use Rattle.binaryfile.specs.Index.{IsPlace, entries_before};
 ghost use Rattle.binaryfile.specs.Loading.{Loads, ExceedsMessages, HasMoreMessages};
 
-use crate::entry_list::{FAR, Gap};
+use crate::entry_list::{Distance, FAR};
 use crate::load::read_to_end;
 use crate::scan::{
-    IndexedEntries, Place, begins_with_marker, bytes_after, bytes_from, entries_within,
-    entry_place, nth_payload, payload_at,
+    IndexedEntries, Place, begins_with_marker, bytes_after, entries_within, entry_place,
+    nth_payload, payload_from,
 };
-use crate::{Feed, LoadFault, Payloads, STRIDE, Sink, WriteFault, send};
+use crate::{Feed, LoadFault, Payloads, Sink, WriteFault, send};
 use std::alloc::Allocator;
 use std::io::{Read, Write};
 use std::marker::Model;
@@ -27,7 +27,7 @@ pub struct Limits {
     pub messages: u32,
 }
 
-// How many lines of memory, of so many bytes, are read ahead of an entry.
+// How many lines of memory, of so many bytes, are read of an entry that comes later.
 const LINES: usize = 2;
 
 const LINE: usize = 64;
@@ -154,7 +154,7 @@ impl<A: Allocator> Day<A> {
         )
     }
 
-    /// Where the entry after this many begins, or where the entries end.
+    /// Where the entry after the first `count` begins, or where the entries end. It is found by the day's index.
     pub fn place(&self, count: u32) -> Place
         requires { count ≤ length self.now.payloads }
         ensures place { IsPlace self.now.payloads result }
@@ -169,30 +169,30 @@ impl<A: Allocator> Day<A> {
         Place { number, at }
     }
 
-    /// The place to which a gap leads.
+    /// The place to which a distance leads from another one.
     #[inline(always)]
-    pub(crate) fn place_after(&self, near: Place, gap: Gap) -> Place
+    pub(crate) fn place_after(&self, near: Place, distance: Distance) -> Place
         requires near { IsPlace self.now.payloads near }
-        requires gap { IsGap self.now.payloads (entries_before near) gap }
+        requires distance { IsDistance self.now.payloads (entries_before near) distance }
         ensures place { IsPlace self.now.payloads result }
-        ensures number { entries_before result ≡ entries_before near + gap.entries }
+        ensures number { entries_before result ≡ entries_before near + distance.entries }
         // The numbers of the day's payloads fit 32 bits.
         ensures few { length self.now.payloads < 2 ^ 32 }
     {
         // The place lies within the day's bytes, so no sum wraps.
         let _length = self.bytes.len();
-        let number = near.number + gap.entries as usize;
-        if gap.bytes == FAR {
+        let number = near.number + distance.entries as usize;
+        if distance.bytes == FAR {
             return self.place(number as u32);
         }
         Place {
             number,
-            at: near.at + gap.bytes as usize,
+            at: near.at + distance.bytes as usize,
         }
     }
 
     /// The payload of the entry at a place of this day, borrowed and not copied.
-    pub fn payload_at(&self, place: Place) -> &[u8]
+    pub fn payload_from(&self, place: Place) -> &[u8]
         requires place { IsPlace self.now.payloads place }
         requires entry { entries_before place < length self.now.payloads }
         ensures { result.now ≡ slice_index_or self.now.payloads (entries_before place) result.now }
@@ -201,7 +201,7 @@ impl<A: Allocator> Day<A> {
         self.next_payload(&mut next)
     }
 
-    /// The same as [`Day::payload_at`]. The place goes on to the next entry: a caller that passes over the payloads of a
+    /// The same as [`Day::payload_from`]. The place goes on to the next entry: a caller that passes over the payloads of a
     /// day has the place of each.
     pub fn next_payload(&self, place: &mut Place) -> &[u8]
         requires place { IsPlace self.now.payloads place.old }
@@ -211,7 +211,7 @@ impl<A: Allocator> Day<A> {
         ensures place { IsPlace self.now.payloads place.new }
         ensures next { entries_before place.new ≡ entries_before place.old + 1 }
     {
-        let (payload, next) = payload_at(&self.bytes, *place);
+        let (payload, next) = payload_from(&self.bytes, *place);
         *place = next;
         payload
     }
@@ -230,7 +230,7 @@ impl<A: Allocator> Day<A> {
         sum
     }
 
-    /// Reads the first bytes of the entry at a place, and those that stand a line of memory after them, in the same
+    /// Reads the first byte of the entry at a place and the one a line of memory after it, where they are, in the same
     /// way: an entry of a message lies in the lines of both.
     pub fn touch_at(&self, place: &Place) -> u64 {
         let mut sum: u64 = 0;
@@ -249,18 +249,6 @@ impl<A: Allocator> Day<A> {
         ensures few { length self.now.payloads < 2 ^ 32 }
     {
         Payloads::new(self.bytes.as_slice())
-    }
-
-    /// The payloads after this number of them, in their order, borrowed and not copied: for a pass over a stretch of a
-    /// day.
-    pub fn payloads_after(&self, count: u32) -> Payloads<'_>
-        requires { count ≤ length self.now.payloads }
-        ensures { result ≡ drop count self.now.payloads }
-    {
-        if count == self.count {
-            return Payloads::new(&[]);
-        }
-        Payloads::new(bytes_from(&self.bytes, &self.starts, count as usize))
     }
 
     /// Whether an end marker follows the payloads.

@@ -1,7 +1,7 @@
 // Lists of a day's entries, in four bytes each.
 ghost use Rattle.std.specs.Prelude.{ℕ, ◌≡◌, ◌<◌, ◌≤◌, ◌+◌, ◌-◌, ◌++◌, ◌∷◌, [], List, IfOk, OnErr, OnOk, cond, length, nat_lt};
 ghost use Rattle.std.specs.Iterator.{YieldsFirstBy, item_count};
-ghost use Rattle.binaryfile.specs.EntryLists.{IsListOf, numbered_payloads, numbers_of, reached_by};
+ghost use Rattle.binaryfile.specs.EntryLists.{IsListOf, numbered_payloads, listed_numbers, reached_by};
 ghost use Rattle.binaryfile.specs.Index.{IsPlace, entries_before};
 
 use crate::day::Day;
@@ -9,63 +9,65 @@ use crate::scan::Place;
 use std::alloc::{AllocError, Allocator};
 use std::marker::Model;
 
-// The widest gap, in entries and in bytes.
+// The greatest distance, in entries and in bytes.
 pub(crate) const FAR: u16 = u16::MAX;
 
 // How far an entry of a day lies after another one.
 #[derive(Clone, Copy)]
-pub(crate) struct Gap {
-    // How many entries it is after the other one. A gap of FAR leads to no entry of a list: the next gap goes on there.
+pub(crate) struct Distance {
+    // How many entries it is after the other one. Where this is FAR, no entry of the list is there, and the next distance
+    // goes on from there.
     pub(crate) entries: u16,
     // How many bytes; FAR where they are as many or more.
     pub(crate) bytes: u16,
 }
 
-/// Entries of a day, rising, in four bytes each where they don't lie far apart: a caller that passes over a day keeps
-/// those that it comes back to. Their payloads are read without the day's index.
+/// Entries of a day, in the day's order, in four bytes each where they don't lie far apart: a caller that passes over a
+/// day keeps those that it comes back to. Their payloads are read without the day's index.
 #[derive(Drop)]
 pub struct EntryList<A: Allocator> {
-    // Where the list begins, and its last entry.
+    // Where the list begins, and where its last distance leads.
     first: Place,
     last: Place,
     count: usize,
-    gaps: Vec<Gap, A>,
+    distances: Vec<Distance, A>,
 }
 
 impl<A: Allocator> EntryList<A> {
-    /// A list without entries, of those from a place of a day on, with room for so many at first. Its memory is that of
-    /// `alloc`.
+    /// A list without entries, of those from a place of a day on, with room for `room` of them at first. Its memory is
+    /// that of `alloc`.
     pub fn new(alloc: A, first: Place, room: usize) -> Result<EntryList<A>, AllocError>
         ensures list { IfOk result (λ list. (payloads : List (List ℕ)) → IsPlace payloads first
             → IsListOf payloads list) }
-        ensures none { IfOk result (λ list. numbers_of list ≡ []) }
+        ensures none { IfOk result (λ list. listed_numbers list ≡ []) }
         ensures reached { IfOk result (λ list. reached_by list ≡ entries_before first) }
     {
         Ok(EntryList {
             first,
             last: first,
             count: 0,
-            gaps: Vec::with_capacity(alloc, room)?,
+            distances: Vec::with_capacity(alloc, room)?,
         })
     }
 
-    // Adds the gap from the last entry to the one at a place, which is an entry of the list where the gap isn't FAR.
-    fn push_gap(&mut self, day: &Day<A>, place: Place) -> Result<(), AllocError>
+    // Adds the distance to a place, whose entry is one of the list where there are fewer than FAR entries to it.
+    fn push_distance(&mut self, day: &Day<A>, place: Place) -> Result<(), AllocError>
         requires list { IsListOf day.now.payloads self.old }
         requires place { IsPlace day.now.payloads place }
         requires entry { entries_before place < length day.now.payloads }
         requires order { reached_by self.old ≤ entries_before place }
         requires near { entries_before place ≤ reached_by self.old + FAR }
         ensures list { IsListOf day.now.payloads self.new }
-        ensures pushed { OnOk result (numbers_of self.new ≡ numbers_of self.old
-            ++ cond (nat_lt (entries_before place - reached_by self.old) FAR) ((entries_before place + 1) ∷ []) []) }
+        ensures pushed { OnOk result (listed_numbers self.new ≡ listed_numbers self.old
+            ++ cond (nat_lt (entries_before place - reached_by self.old) FAR)
+            ((entries_before place + 1) ∷ []) []) }
         ensures reached { OnOk result (reached_by self.new ≡ entries_before place) }
-        ensures err { OnErr result (numbers_of self.new ≡ numbers_of self.old) }
+        ensures err { OnErr result (listed_numbers self.new ≡ listed_numbers self.old) }
         ensures stays { OnErr result (reached_by self.new ≡ reached_by self.old) }
     {
         let entries = (place.number - self.last.number) as u16;
         let bytes = place.at.saturating_sub(self.last.at).min(FAR as usize) as u16;
-        self.gaps.push(Gap { entries, bytes })?;
+        self.distances.push(Distance { entries, bytes })?;
         self.last = place;
         if entries < FAR {
             self.count += 1;
@@ -73,30 +75,33 @@ impl<A: Allocator> EntryList<A> {
         Ok(())
     }
 
-    /// Adds the entry at a place, which is at or after the last one of the list, of the day that the list is of.
+    /// Adds the entry at a place of the day that the list is of, at or after the last one that was added.
     ///
-    /// After an error the list has the entries that it had, and takes the same one again.
+    /// After an error the list has the entries that it had, and takes this entry, or a later one; it may take none before
+    /// it.
     pub fn push(&mut self, day: &Day<A>, place: Place) -> Result<(), AllocError>
         requires list { IsListOf day.now.payloads self.old }
         requires place { IsPlace day.now.payloads place }
         requires entry { entries_before place < length day.now.payloads }
         requires order { reached_by self.old ≤ entries_before place }
         ensures list { IsListOf day.now.payloads self.new }
-        ensures pushed { OnOk result (numbers_of self.new ≡ numbers_of self.old ++ (entries_before place + 1) ∷ []) }
-        ensures err { OnErr result (numbers_of self.new ≡ numbers_of self.old) }
+        ensures pushed { OnOk result (listed_numbers self.new
+            ≡ listed_numbers self.old ++ (entries_before place + 1) ∷ []) }
+        ensures err { OnErr result (listed_numbers self.new ≡ listed_numbers self.old) }
         ensures order { reached_by self.new ≤ entries_before place }
     {
         // The numbers of the day's payloads fit 32 bits.
         let _count = day.len();
         while place.number - self.last.number >= FAR as usize {
-            self.push_gap(day, day.place((self.last.number + FAR as usize) as u32))?;
+            self.push_distance(day, day.place((self.last.number + FAR as usize) as u32))?;
         }
-        self.push_gap(day, place)
+        self.push_distance(day, place)
     }
 
     /// How many entries there are.
     pub fn len(&self) -> usize
-        ensures { (payloads : List (List ℕ)) → IsListOf payloads self.now → result ≡ length (numbers_of self.now) }
+        ensures { (payloads : List (List ℕ)) → IsListOf payloads self.now
+            → result ≡ length (listed_numbers self.now) }
     {
         self.count
     }
@@ -104,12 +109,12 @@ impl<A: Allocator> EntryList<A> {
     /// The payloads of the entries, in their order, borrowed from the day that the list is of.
     pub fn payloads<'d>(&'d self, day: &'d Day<A>) -> ListedPayloads<'d, A>
         requires { IsListOf day.now.payloads self.now }
-        ensures { result ≡ numbered_payloads day.entry.now.payloads (numbers_of self.entry.now) }
+        ensures { result ≡ numbered_payloads day.entry.now.payloads (listed_numbers self.entry.now) }
     {
         ListedPayloads {
             day,
             near: self.first,
-            gaps: &self.gaps,
+            distances: &self.distances,
         }
     }
 }
@@ -131,20 +136,20 @@ pub struct ListedPayloads<'d, A: Allocator> {
     // The last entry that was taken, or where the list begins.
     near: Place,
     // Those to the entries that are left.
-    gaps: &'d [Gap],
+    distances: &'d [Distance],
 }
 
 impl<'d, A: Allocator> Model for ListedPayloads<'d, A> {
     ghost use Rattle.std.specs.Prelude.{ℕ, List};
-    ghost use Rattle.binaryfile.specs.EntryLists.{AreGaps, numbered_payloads, numbers_after};
+    ghost use Rattle.binaryfile.specs.EntryLists.{AreDistances, numbered_payloads, numbers_after};
     ghost use Rattle.binaryfile.specs.Index.{IsPlace};
 
     ghost Value = { List (ℕ × List ℕ) };
 
-    ghost view = { λ it. numbered_payloads it.day.now.payloads (numbers_after it.near.number it.gaps.now) };
+    ghost view = { λ it. numbered_payloads it.day.now.payloads (numbers_after it.near.number it.distances.now) };
 
     ghost invariant = { λ it. IsPlace it.day.now.payloads it.near
-        × AreGaps it.day.now.payloads it.near.number it.gaps.now };
+        × AreDistances it.day.now.payloads it.near.number it.distances.now };
 }
 
 impl<'d, A: Allocator> ListedPayloads<'d, A> {
@@ -155,7 +160,7 @@ impl<'d, A: Allocator> ListedPayloads<'d, A> {
         ListedPayloads {
             day,
             near: Place::first(),
-            gaps: &[],
+            distances: &[],
         }
     }
 
@@ -164,12 +169,13 @@ impl<'d, A: Allocator> ListedPayloads<'d, A> {
         self.day.touch_after(&self.near)
     }
 
-    /// Reads bytes of the next payloads, so many of them at most, as [`Day::touch_at`] does.
+    /// Reads bytes where the next distances lead, `count` of them at most, as [`Day::touch_at`] does; after one whose
+    /// bytes don't fit it reads elsewhere.
     pub fn touch_next(&self, count: usize) -> u64 {
         let mut sum: u64 = 0;
         let mut place = self.near;
-        for gap in self.gaps.iter().take(count) {
-            place.at = place.at.saturating_add(gap.bytes as usize);
+        for distance in self.distances.iter().take(count) {
+            place.at = place.at.saturating_add(distance.bytes as usize);
             sum = sum.wrapping_add(self.day.touch_at(&place));
         }
         sum
@@ -186,11 +192,11 @@ impl<'d, A: Allocator> Iterator for ListedPayloads<'d, A> {
     #[inline(always)]
     fn next(&mut self) -> Option<NumberedPayload<'d>> {
         loop {
-            let (gap, rest) = self.gaps.split_first()?;
-            self.gaps = rest;
-            self.near = self.day.place_after(self.near, *gap);
-            if gap.entries < FAR {
-                let payload = self.day.payload_at(self.near);
+            let (distance, rest) = self.distances.split_first()?;
+            self.distances = rest;
+            self.near = self.day.place_after(self.near, *distance);
+            if distance.entries < FAR {
+                let payload = self.day.payload_from(self.near);
                 return Some(NumberedPayload {
                     number: self.near.number as u32 + 1,
                     payload,

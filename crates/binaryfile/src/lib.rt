@@ -17,7 +17,8 @@
 //! ```
 //!
 //! [`Day::payload`] lends the payload with a number, counted from 1; [`Day::marked`] and [`Day::tail`] say how the file
-//! ended. [`Day::from_bytes`] is a day of bytes that are in memory already.
+//! ended. [`Day::next_payload`] passes over a day by a [`Place`], and an [`EntryList`] keeps entries to come back to.
+//! [`Day::from_bytes`] is a day of bytes that are in memory already.
 //!
 //! Entries are those of Nasdaq BinaryFILE. Limits, the end marker, what stands after it or in the place of a whole
 //! entry, and what a failed device does are of this project.

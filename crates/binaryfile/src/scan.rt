@@ -141,16 +141,6 @@ pub(crate) fn entries_within<A: Allocator>(
     Ok(index_entries(alloc, bytes)?)
 }
 
-/// The bytes from the entry of this number on, counted from 0.
-pub(crate) fn bytes_from<'a>(bytes: &'a [u8], starts: &[u64], number: usize) -> &'a [u8]
-    requires index { IsIndex starts.now bytes.now }
-    requires number { number < length (payloads_of bytes.now) }
-    ensures { payloads_of result.now ≡ drop number (payloads_of bytes.entry.now) }
-{
-    let at = entry_place(bytes, starts, number);
-    &bytes[at..]
-}
-
 /// The payload of this number, counted from 0.
 pub(crate) fn nth_payload<'a>(bytes: &'a [u8], starts: &[u64], number: usize) -> &'a [u8]
     requires index { IsIndex starts.now bytes.now }
@@ -162,7 +152,7 @@ pub(crate) fn nth_payload<'a>(bytes: &'a [u8], starts: &[u64], number: usize) ->
 }
 
 /// The payload at a place, and where the entry after it begins.
-pub(crate) fn payload_at(bytes: &[u8], place: Place) -> (&[u8], Place)
+pub(crate) fn payload_from(bytes: &[u8], place: Place) -> (&[u8], Place)
     requires place { IsPlace (payloads_of bytes.now) place }
     requires entry { entries_before place < length (payloads_of bytes.now) }
     requires few { length (payloads_of bytes.now) < 2 ^ 32 }

@@ -57,7 +57,7 @@ module _ (day : List (List ℕ)) (from n : ℕ) (seen : List Bool) (before : Are
 -- ---- one payload of a pass more
 
 -- the payload that comes next, in a day of which the first n have come
-pub next_of : (day left rest : List (List ℕ)) (n : ℕ) (payload : List ℕ) → left ≡ drop n day → left ≡ payload ∷ rest
+next_of : (day left rest : List (List ℕ)) (n : ℕ) (payload : List ℕ) → left ≡ drop n day → left ≡ payload ∷ rest
     → (n + 1 ≤ length day) × (rest ≡ drop (n + 1) day) × (get_or day n [] ≡ payload)
 next_of day left rest n payload is goes_on =
     let within : n < length day = omega (arith, ap length (sym is ∙ goes_on), length-drop n day) in

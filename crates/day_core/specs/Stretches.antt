@@ -2,7 +2,7 @@
 use Rattle.std.specs.Prelude.{◌≡◌, ◌+◌, ◌*◌, ◌/◌, ◌<◌, ◌≤◌, ◌++◌, ◌||◌, ℕ, All, Bool, false, List, [], Option, length, map, min, slice_index_or, take}
 use Rattle.std.specs.List.{flat_map, list_any, range_with_len}
 use Rattle.std.specs.Option.{option_or}
-use Rattle.binaryfile.specs.EntryLists.{IsListOf, numbers_of, reached_by}
+use Rattle.binaryfile.specs.EntryLists.{IsListOf, listed_numbers, reached_by}
 use Rattle.binaryfile.specs.declared.entry_list.EntryList.{EntryList}
 use Rattle.itch_table.specs.After.{after}
 use Rattle.itch_table.specs.Projection.{is_of_stock}
@@ -34,19 +34,19 @@ pub record IsStretch (day : List (List ℕ)) (workers from to : ℕ) (seen : Lis
 
 -- the messages of lists of entries, by their numbers
 abbrev pub numbers_in : {D : Type 0} → List (EntryList D) → List (List ℕ)
-numbers_in lists = map numbers_of lists
+numbers_in lists = map listed_numbers lists
 
 -- lists of entries are of this day
 abbrev pub AreOf : {D : Type 0} → List (List ℕ) → List (EntryList D) → Type 0
 AreOf day lists = All (IsListOf day) lists
 
--- and have none of its entries after the first n but one
+-- lists of entries of this day, to each of which the entry after the first n may be added
 abbrev pub AreUpTo : {D : Type 0} → List (List ℕ) → ℕ → List (EntryList D) → Type 0
 AreUpTo day n lists = All (λ list. IsListOf day list × (reached_by list ≤ n)) lists
 
 -- a stretch of a day is dealt to lists of its entries
-unfoldable pub IsListed : {D : Type 0} → List (List ℕ) → ℕ → ℕ → ℕ → List Bool → List (EntryList D) → List Piece
-    → Option ℕ → Type 0
+unfoldable pub IsListed : {D : Type 0} → List (List ℕ) → ℕ → ℕ → ℕ → List Bool → List (EntryList D)
+    → List Piece → Option ℕ → Type 0
 IsListed day workers from to seen own fixed event =
     IsStretch day workers from to seen (numbers_in own) fixed event × AreOf day own
 
@@ -73,7 +73,7 @@ abbrev pub cut : ℕ → ℕ → ℕ
 cut messages chunk = min (chunk * (messages / CHUNKS + 1)) messages
 
 -- the chunk of a day with this number is dealt
-abbrev pub IsChunk : {D : Type 0} → List (List ℕ) → ℕ → ℕ → List Bool → List (EntryList D) → List Piece → Option ℕ
-    → Type 0
+abbrev pub IsChunk : {D : Type 0} → List (List ℕ) → ℕ → ℕ → List Bool → List (EntryList D) → List Piece
+    → Option ℕ → Type 0
 IsChunk day workers chunk seen own fixed event =
     IsListed day workers (cut (length day) chunk) (cut (length day) (chunk + 1)) seen own fixed event

@@ -48,7 +48,7 @@ fn payloads_of<'d, A: Allocator>(
     }
 }
 
-// How many they are.
+// How many messages a worker has in a stretch; none for a number that is no worker's.
 fn len_of<A: Allocator>(lists: &[EntryList<A>], worker: u32) -> usize
     ensures { (day : List (List ℕ)) → AreOf day lists.now
         → result ≡ length (slice_index_or (numbers_in lists.now) worker []) }
@@ -96,8 +96,8 @@ impl<'d, A: Allocator> OwnMessages<'d, A> {
         self.payloads.touch()
     }
 
-    /// Reads bytes of the next messages, so many of them at most and as far as they are in the same stretch, as
-    /// [`Day::touch_at`] does.
+    /// Reads bytes of the next messages, `count` of them at most and as far as they are in the same stretch, as
+    /// [`ListedPayloads::touch_next`] does.
     pub(crate) fn touch_next(&self, count: usize) -> u64 {
         self.payloads.touch_next(count)
     }

@@ -152,7 +152,7 @@ impl<'p, A: Allocator + Copy> Worker<'p, A> {
         }
     }
 
-    // Reads the day's bytes where the messages to be found next are looked for, where many workers share the day.
+    // Reads the day's bytes of the messages to be found next, where many workers share the day.
     fn touch_messages(&self) -> u64 {
         if self.runner.workers() < MANY_WORKERS {
             return 0;
