@@ -5,9 +5,8 @@ use Rattle.std.specs.List.{flat_map}
 use Rattle.std.proofs.lemmas.Bool.{cases_Bool, le-ltb, lt-ltb}
 use Rattle.std.proofs.lemmas.List.{get_or_default, length-append}
 use Rattle.binaryfile.specs.Entries.{entry}
-use Rattle.binaryfile.specs.EntryLists.{AreDistances, IsDistance, IsListOf, end_after, led_to, numbered_payloads, numbers_after, listed_numbers}
+use Rattle.binaryfile.specs.EntryLists.{AreDistances, Entries, IsDistance, IsListOf, end_after, led_to, numbered_payloads, numbers_after, listed_numbers}
 use Rattle.binaryfile.specs.Index.{IsPlace, offset}
-use Rattle.binaryfile.specs.declared.entry_list.EntryList.{EntryList}
 use Rattle.binaryfile.specs.declared.entry_list.Distance.{Distance}
 use Rattle.binaryfile.specs.declared.entry_list.TheConstants.{FAR}
 use Rattle.binaryfile.specs.declared.scan.Place.{Place}
@@ -48,61 +47,72 @@ numbers_few n [] = omega arith
 numbers_few n (distance ∷ distances) =
     omega (arith, length-append (led_to n distance) (numbers_after (n + distance.entries) distances), led_few n distance, numbers_few (n + distance.entries) distances)
 
-module _ {D : Type 0} (payloads : List (List ℕ)) (old new : EntryList D) (place : Place) (bytes : ℕ) (has : IsListOf payloads old)
-    (is : IsPlace payloads place) (within : place.number < length payloads) (order : old.last.number ≤ place.number)
-    (bytes_are : bytes ≡ min (place.at - old.last.at) FAR) (pushed : new.distances.items ≡ old.distances.items ++ record { entries = place.number - old.last.number; bytes = bytes } ∷ [])
-    (begins : new.first ≡ old.first) (ends : new.last ≡ place) where
+-- `list` is what a function finds in its list of entries, and `seen` is that list as the clauses of the function name it
+module _ (payloads : List (List ℕ)) (list seen : Entries) (view_is : list ≡ seen) (has : IsListOf payloads seen)
+    (led_by : list.last.number ≡ end_after list.first.number list.distances) (place : Place) (is : IsPlace payloads place)
+    (within : place.number < length payloads) (order : seen.last.number ≤ place.number)
+    (bytes : ℕ) (bytes_are : bytes ≡ min (place.at - list.last.at) FAR) (distances : List Distance)
+    (pushed : distances ≡ list.distances ++ record { entries = place.number - list.last.number; bytes = bytes } ∷ []) where
+  abbrev longer : Entries
+  longer = record { first = list.first; last = place; distances = distances }
+
   abbrev distance : Distance
-  distance = record { entries = place.number - old.last.number; bytes = bytes }
+  distance = record { entries = place.number - list.last.number; bytes = bytes }
 
   abbrev led : List ℕ
   led = cond (nat_lt distance.entries FAR) ((place.number + 1) ∷ []) []
 
-  there : end_after old.first.number old.distances.items + distance.entries ≡ place.number
-  there = omega (arith, has.last_at, order)
+  has_list : IsListOf payloads list
+  has_list = subst (IsListOf payloads) (sym view_is) has
 
-  is_distance : IsDistance payloads (end_after old.first.number old.distances.items) distance
+  there : end_after list.first.number list.distances + distance.entries ≡ place.number
+  there = omega (arith, led_by, order, ap (λ (l : Entries). l.last.number) view_is)
+
+  is_distance : IsDistance payloads (end_after list.first.number list.distances) distance
   unfolding IsPlace
   is_distance = record {
     within = omega (arith, there, within);
     bytes_are = λ lt.
-        let rises = offset_rises payloads old.last.number place.number order in
-        let begin : offset payloads (end_after old.first.number old.distances.items) ≡ old.last.at = ap (offset payloads) (sym has.last_at) ∙ sym has.last_is.1 in
-        let stands : offset payloads (end_after old.first.number old.distances.items + distance.entries) ≡ place.at = ap (offset payloads) there ∙ sym is.1 in
-        omega (arith, rises, begin, stands, bytes_are, lt, has.last_is.1, is.1);
+        let rises = offset_rises payloads list.last.number place.number (omega (arith, order, ap (λ (l : Entries). l.last.number) view_is)) in
+        let begin : offset payloads (end_after list.first.number list.distances) ≡ list.last.at = ap (offset payloads) (sym led_by) ∙ sym has_list.last_is.1 in
+        let stands : offset payloads (end_after list.first.number list.distances + distance.entries) ≡ place.at = ap (offset payloads) there ∙ sym is.1 in
+        omega (arith, rises, begin, stands, bytes_are, lt, has_list.last_is.1, is.1);
   }
+
+  pub list_longer : IsListOf payloads longer
+  list_longer = record {
+    first_is = has_list.first_is;
+    last_is = is;
+    distances_are = rw pushed (distances-append payloads list.first.number list.distances distance has_list.distances_are is_distance);
+  }
+
+  leads : place.number ≡ end_after list.first.number distances
+  leads = sym (ap (end_after list.first.number) pushed ∙ end-append list.first.number list.distances distance ∙ there)
 
   -- its entries
-  pub numbers_more : listed_numbers new ≡ listed_numbers old ++ led
-  numbers_more =
-      ap (λ (p : Place). numbers_after p.number new.distances.items) begins ∙ ap (numbers_after old.first.number) pushed
-      ∙ numbers-append old.first.number old.distances.items (distance ∷ [])
-      ∙ ap (λ (ns : List ℕ). listed_numbers old ++ ns)
-      (append-nil (led_to (end_after old.first.number old.distances.items) distance) ∙ ap (λ (k : ℕ). cond (nat_lt distance.entries FAR) ((k + 1) ∷ []) []) there)
+  numbers_are : listed_numbers longer ≡ listed_numbers list ++ led
+  numbers_are =
+      ap (numbers_after list.first.number) pushed ∙ numbers-append list.first.number list.distances (distance ∷ [])
+      ∙ ap (λ (ns : List ℕ). listed_numbers list ++ ns)
+      (append-nil (led_to (end_after list.first.number list.distances) distance) ∙ ap (λ (k : ℕ). cond (nat_lt distance.entries FAR) ((k + 1) ∷ []) []) there)
 
-  long_more : length (listed_numbers new) ≡ old.count + length led
-  long_more = ap length numbers_more ∙ length-append (listed_numbers old) led ∙ ap (λ (k : ℕ). k + length led) (sym has.count_is)
+  pub numbers_more : listed_numbers longer ≡ listed_numbers seen ++ cond (nat_lt (place.number - seen.last.number) FAR) ((place.number + 1) ∷ []) []
+  numbers_more = numbers_are ∙ ap (λ (l : Entries). listed_numbers l ++ cond (nat_lt (place.number - l.last.number) FAR) ((place.number + 1) ∷ []) []) view_is
 
-  list_with : new.count ≡ old.count + length led → IsListOf payloads new
-  list_with all = record {
-    first_is = rw begins has.first_is;
-    last_is = rw ends is;
-    last_at = ap (λ (p : Place). p.number) ends ∙ sym (ap (λ (p : Place). end_after p.number new.distances.items) begins ∙ ap (end_after old.first.number) pushed ∙ end-append old.first.number old.distances.items distance ∙ there);
-    count_is = all ∙ sym long_more;
-    distances_are = rw (begins, pushed) (distances-append payloads old.first.number old.distances.items distance has.distances_are is_distance);
-  }
+  long_more : length (listed_numbers longer) ≡ length (listed_numbers list) + length led
+  long_more = ap length numbers_are ∙ length-append (listed_numbers list) led
 
-  -- an entry of the list
-  pub list_longer : distance.entries < FAR → new.count ≡ old.count + 1 → IsListOf payloads new
-  list_longer near more = list_with (more ∙ rw (lt-ltb _ _ near) refl)
+  -- where the distance leads, and how many entries there are: one more
+  pub counts_one : distance.entries < FAR → (count : ℕ) → count ≡ length (listed_numbers list) → (place.number ≡ end_after list.first.number distances) × (count + 1 ≡ length (listed_numbers longer))
+  counts_one near count is_count = (leads, omega (arith, is_count, rw (lt-ltb _ _ near) at long_more))
 
-  -- one that isn't
-  pub list_as_long : FAR ≤ distance.entries → new.count ≡ old.count → IsListOf payloads new
-  list_as_long far same = list_with (same ∙ rw (le-ltb _ _ far) (omega arith))
+  -- or as many
+  pub counts_none : FAR ≤ distance.entries → (count : ℕ) → count ≡ length (listed_numbers list) → (place.number ≡ end_after list.first.number distances) × (count ≡ length (listed_numbers longer))
+  counts_none far count is_count = (leads, omega (arith, is_count, rw (le-ltb _ _ far) at long_more))
 
-  pub room_for_count : length new.distances.items < 2 ^ 64 → distance.entries < FAR → old.count + 1 < 2 ^ 64
-  room_for_count few near =
-      omega (arith, few, numbers_few new.first.number new.distances.items, rw (lt-ltb _ _ near) at long_more)
+  pub room_for_count : length distances < 2 ^ 64 → distance.entries < FAR → (count : ℕ) → count ≡ length (listed_numbers list) → count + 1 < 2 ^ 64
+  room_for_count few near count is_count =
+      omega (arith, few, numbers_few list.first.number distances, (counts_one near count is_count).1)
 
 -- ---- the first of those that are left
 

@@ -1,9 +1,9 @@
 -- Lists of a day's entries, each by how far it lies after the one before it. All is of this project.
 use Rattle.std.specs.Prelude.{◌≡◌, ◌+◌, ◌-◌, ◌<◌, ◌++◌, ℕ, List, [], ◌∷◌, cond, nat_lt, length, map, slice_index_or}
 use Rattle.binaryfile.specs.Index.{IsPlace, offset}
-use Rattle.binaryfile.specs.declared.entry_list.EntryList.{EntryList}
 use Rattle.binaryfile.specs.declared.entry_list.Distance.{Distance}
 use Rattle.binaryfile.specs.declared.entry_list.TheConstants.{FAR}
+use Rattle.binaryfile.specs.declared.scan.Place.{Place}
 
 -- payloads of a day, each by its number, counted from 1, and its bytes
 abbrev pub numbered_payloads : List (List ℕ) → List ℕ → List (ℕ × List ℕ)
@@ -36,18 +36,22 @@ AreDistances payloads n [] = Unit {0}
 AreDistances payloads n (distance ∷ distances) =
     IsDistance payloads n distance × AreDistances payloads (n + distance.entries) distances
 
+-- a list of entries: where it begins, where its last distance leads or, without one, where it begins, and its distances
+pub record Entries : Type 0 where
+  pub first : Place
+  pub last : Place
+  pub distances : List Distance
+
 -- the payloads of a list's entries, by their numbers, counted from 1
-abbrev pub listed_numbers : {D : Type 0} → EntryList D → List ℕ
-listed_numbers list = numbers_after list.first.number list.distances.items
+abbrev pub listed_numbers : Entries → List ℕ
+listed_numbers list = numbers_after list.first.number list.distances
 
 -- how many entries of the day stand before the place where its last distance leads or, without one, where it begins
-abbrev pub reached_by : {D : Type 0} → EntryList D → ℕ
+abbrev pub reached_by : Entries → ℕ
 reached_by list = list.last.number
 
 -- a list is one of entries of this day
-pub record IsListOf {D : Type 0} (payloads : List (List ℕ)) (list : EntryList D) : Type 0 where
+pub record IsListOf (payloads : List (List ℕ)) (list : Entries) : Type 0 where
   pub first_is : IsPlace payloads list.first
   pub last_is : IsPlace payloads list.last
-  pub last_at : list.last.number ≡ end_after list.first.number list.distances.items
-  pub count_is : list.count ≡ length (listed_numbers list)
-  pub distances_are : AreDistances payloads list.first.number list.distances.items
+  pub distances_are : AreDistances payloads list.first.number list.distances

@@ -23,14 +23,28 @@ pub(crate) struct Distance {
 }
 
 /// Entries of a day, in the day's order, in four bytes each where they don't lie far apart: a caller that passes over a
-/// day keeps those that it comes back to. Their payloads are read without the day's index.
+/// day keeps those that it comes back to. Their payloads are read without the day's index. It is seen as its distances,
+/// from one entry to the next, and the places where they begin and end.
 #[derive(Drop)]
 pub struct EntryList<A: Allocator> {
     // Where the list begins, and where its last distance leads.
     first: Place,
     last: Place,
+    // How many entries there are, which are fewer than the distances where some lie far apart.
     count: usize,
     distances: Vec<Distance, A>,
+}
+
+impl<A: Allocator> Model for EntryList<A> {
+    ghost use Rattle.std.specs.Prelude.{◌≡◌, length};
+    ghost use Rattle.binaryfile.specs.EntryLists.{Entries, end_after, numbers_after};
+
+    ghost Value = { Entries };
+
+    ghost view = { λ list. record { first = list.first; last = list.last; distances = list.distances.items } };
+
+    ghost invariant = { λ list. (list.last.number ≡ end_after list.first.number list.distances.items)
+        × (list.count ≡ length (numbers_after list.first.number list.distances.items)) };
 }
 
 impl<A: Allocator> EntryList<A> {
@@ -100,8 +114,7 @@ impl<A: Allocator> EntryList<A> {
 
     /// How many entries there are.
     pub fn len(&self) -> usize
-        ensures { (payloads : List (List ℕ)) → IsListOf payloads self.now
-            → result ≡ length (listed_numbers self.now) }
+        ensures { result ≡ length (listed_numbers self.now) }
     {
         self.count
     }

@@ -2,12 +2,11 @@
 use Rattle.std.proofs.Common.{◌≡◌, ℕ, zero, suc, ◌+◌, ◌<◌, ◌≤◌, List, [], ◌∷◌, ◌++◌, length, drop, get_or, map, true, Option, Some, None, IfNone, IfSome, MatchOption, refl, append-nil, append_assoc, ap, sym, subst, ◌∙◌, arith}
 use Rattle.std.specs.List.{All, Contains, range_with_len, slice_get}
 use Rattle.std.specs.Option.{option_map, option_to_list}
-use Rattle.std.proofs.lemmas.List.{get_or-map, length-drop, length-map, map-append}
+use Rattle.std.proofs.lemmas.List.{length-drop, length-map, map-append}
 use Rattle.std.proofs.lemmas.List.Elements.{All-map}
 use Rattle.std.proofs.lemmas.List.Kept.{IsStrictlyIncreasing-filter}
 use Rattle.std.proofs.lemmas.Option.{slice_get-get_or, slice_get_past}
-use Rattle.binaryfile.specs.EntryLists.{numbered_payloads}
-use Rattle.binaryfile.specs.declared.entry_list.EntryList.{EntryList}
+use Rattle.binaryfile.specs.EntryLists.{Entries, numbered_payloads}
 use Rattle.itch_table.proofs.DayLocates.{range_rises}
 use Rattle.itch_table.specs.declared.outcome.Part.TheVariants.{Locate}
 use Rattle.itch_table.specs.Parts.{part}
@@ -208,14 +207,8 @@ unfolding own_of
 done_below workers worker day i lt =
     place_below (own_of workers worker day) (IsStrictlyIncreasing-filter (λ n. is_own workers worker (part_at day n)) (range_with_len 1 (length day)) (range_rises 1 (length day))) i lt
 
--- the lists of one of some stretches
-pub lists_at : {X D : Type 0} (f : X → List (EntryList D)) (day : List (List ℕ)) (stretches : List X) (i : ℕ) (x : X) → i < length stretches → x ≡ get_or stretches i x → AreAllOf day (map f stretches)
-    → AreOf day (f x)
-lists_at f day stretches i x lt is are =
-    subst (AreOf day) (get_or-map f stretches i x (f x) lt ∙ ap f (sym is)) (are i (f x) (omega (arith, lt, length-map stretches f)))
-
 -- the lists of the first of some stretches, and those of the others
-module _ {X D : Type 0} (f : X → List (EntryList D)) (day : List (List ℕ)) (later rest : List X) (first : X) (is : later ≡ first ∷ rest) (are : AreAllOf day (map f later)) where
+module _ {X : Type 0} (f : X → List Entries) (day : List (List ℕ)) (later rest : List X) (first : X) (is : later ≡ first ∷ rest) (are : AreAllOf day (map f later)) where
   pub first_of : AreOf day (f first)
   first_of = (subst (λ ls. AreAllOf day (map f ls)) is are) 0 (f first) (omega arith)
 

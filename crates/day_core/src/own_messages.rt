@@ -50,8 +50,7 @@ fn payloads_of<'d, A: Allocator>(
 
 // How many messages a worker has in a stretch; none for a number that is no worker's.
 fn len_of<A: Allocator>(lists: &[EntryList<A>], worker: u32) -> usize
-    ensures { (day : List (List ℕ)) → AreOf day lists.now
-        → result ≡ length (slice_index_or (numbers_in lists.now) worker []) }
+    ensures { result ≡ length (slice_index_or (numbers_in lists.now) worker []) }
 {
     match lists.get(worker as usize) {
         Some(list) => list.len(),
@@ -61,8 +60,7 @@ fn len_of<A: Allocator>(lists: &[EntryList<A>], worker: u32) -> usize
 
 /// How many messages a worker has in stretches that come one after another.
 pub(crate) fn count_of<A: Allocator>(stretches: &[Vec<EntryList<A>, A>], worker: u32) -> usize
-    requires few { length (own_among worker (map (λ lists. lists.items) stretches.now)) < 2 ^ 32 }
-    requires lists { (day : List (List ℕ)) × AreAllOf day (map (λ lists. lists.items) stretches.now) }
+    requires { length (own_among worker (map (λ lists. lists.items) stretches.now)) < 2 ^ 32 }
     ensures { result ≡ length (own_among worker (map (λ lists. lists.items) stretches.now)) }
 {
     let mut count = 0;

@@ -3,8 +3,7 @@ use Rattle.std.specs.List.{flat_map}
 use Rattle.std.proofs.lemmas.Grind.{flat_map-append}
 use Rattle.std.proofs.lemmas.List.{length-append, take_all, take_more}
 use Rattle.std.proofs.lemmas.List.Folds.{flat_map-map, length-flat_map-take}
-use Rattle.day_core.specs.Stretches.{AreOf, numbers_in}
-use Rattle.day_core.proofs.OwnLeft.{lists_at}
+use Rattle.day_core.specs.Stretches.{numbers_in}
 use Rattle.day_core.proofs.own_messages.count_of.Goals as goal
 
 -- how many there are with one item more
@@ -25,15 +24,13 @@ pub overflow_add-count : goal.overflow_add-count
 overflow_add-count g c =
     let all = c.args.stretches.now in
     let item = c.lists-item.result in
-    let are = subst (AreOf c.requires.lists.0) (sym c.deref.ensures.value) (lists_at (λ lists. lists.items) c.requires.lists.0 c.args.stretches.now c.loop-lists.lists-index c.lists-item.result c.loop-lists-test.true c.lists-item.is c.requires.lists.1) in
-    let long = c.len_of-count.ensures c.requires.lists.0 are ∙ ap (λ ls. length (get_or (numbers_in ls) c.args.worker [])) c.deref.ensures.value in
+    let long = c.len_of-count.ensures ∙ ap (λ ls. length (get_or (numbers_in ls) c.args.worker [])) c.deref.ensures.value in
     let few = within (λ lists. get_or (numbers_in lists.items) c.args.worker []) all c.loop-lists.lists-index item c.loop-lists-test.true c.lists-item.is in
-    omega (arith, c.loop-lists.invariant, long, few, c.requires.few, ap length (flat_map-map (λ lists. get_or (numbers_in lists) c.args.worker []) (λ lists. lists.items) all))
+    omega (arith, c.loop-lists.invariant, long, few, c.requires, ap length (flat_map-map (λ lists. get_or (numbers_in lists) c.args.worker []) (λ lists. lists.items) all))
 
 pub loop-lists-preserved : goal.loop-lists-preserved
 loop-lists-preserved g c =
-    let are = subst (AreOf c.requires.lists.0) (sym c.deref.ensures.value) (lists_at (λ lists. lists.items) c.requires.lists.0 c.args.stretches.now c.loop-lists.lists-index c.lists-item.result c.loop-lists-test.true c.lists-item.is c.requires.lists.1) in
-    let long = c.len_of-count.ensures c.requires.lists.0 are ∙ ap (λ ls. length (get_or (numbers_in ls) c.args.worker [])) c.deref.ensures.value in
+    let long = c.len_of-count.ensures ∙ ap (λ ls. length (get_or (numbers_in ls) c.args.worker [])) c.deref.ensures.value in
     let one = more (λ lists. get_or (numbers_in lists.items) c.args.worker []) c.args.stretches.now c.loop-lists.lists-index c.lists-item.result c.loop-lists-test.true c.lists-item.is in
     omega (arith, c.loop-lists.invariant, long, one)
 

@@ -1,24 +1,27 @@
-use Rattle.std.proofs.Common.{◌+◌, refl, arith}
-use Rattle.binaryfile.proofs.Distances.{list_as_long, list_longer, numbers_more, room_for_count}
+use Rattle.std.proofs.Common.{arith}
+use Rattle.binaryfile.proofs.Distances.{counts_none, counts_one, list_longer, numbers_more, room_for_count}
 use Rattle.binaryfile.proofs.entry_list.EntryList.push_distance.Goals as goal
 
 pub overflow_add-self : goal.overflow_add-self
 overflow_add-self g c =
-    let new = record c.args.self.now { last = c.args.place; count = c.args.self.now.count + 1; distances = c.push.new.self } in
-    record { fits = room_for_count c.args.day.now.payloads c.args.self.now new c.args.place c.min-bytes.result c.requires.list c.requires.place c.requires.entry c.requires.order (omega (arith, c.min-bytes.ensures, c.saturating_sub.ensures)) (c.in_ok-push.ensures {u = tt}).items refl refl (omega (arith, c.push.new.self.ok, (c.in_ok-push.ensures {u = tt}).len)) c.if-entries-lt-FAR.true }
+    record { fits = room_for_count c.args.day.now.payloads _ _ c.self.view_is c.requires.list c.self.invariant.0 c.args.place c.requires.place c.requires.entry c.requires.order c.min-bytes.result (omega (arith, c.min-bytes.ensures, c.saturating_sub.ensures)) _ (c.in_ok-push.ensures {u = tt}).items (omega (arith, c.push.new.self.ok, (c.in_ok-push.ensures {u = tt}).len)) c.if-entries-lt-FAR.true _ c.self.invariant.1 }
+
+pub invariant_of-self-then-entries-lt-FAR : goal.invariant_of-self-then-entries-lt-FAR
+invariant_of-self-then-entries-lt-FAR g c =
+    counts_one c.args.day.now.payloads _ _ c.self.view_is c.requires.list c.self.invariant.0 c.args.place c.requires.place c.requires.entry c.requires.order c.min-bytes.result (omega (arith, c.min-bytes.ensures, c.saturating_sub.ensures)) _ (c.in_ok-push.ensures {u = tt}).items c.if-entries-lt-FAR.true _ c.self.invariant.1
+
+pub invariant_of-self-else-entries-lt-FAR : goal.invariant_of-self-else-entries-lt-FAR
+invariant_of-self-else-entries-lt-FAR g c =
+    counts_none c.args.day.now.payloads _ _ c.self.view_is c.requires.list c.self.invariant.0 c.args.place c.requires.place c.requires.entry c.requires.order c.min-bytes.result (omega (arith, c.min-bytes.ensures, c.saturating_sub.ensures)) _ (c.in_ok-push.ensures {u = tt}).items c.if-entries-lt-FAR.false _ c.self.invariant.1
 
 pub returns-then-entries-lt-FAR-clause-list : goal.returns-then-entries-lt-FAR-clause-list
-returns-then-entries-lt-FAR-clause-list g c =
-    list_longer _ _ _ _ _ c.requires.list c.requires.place c.requires.entry c.requires.order (omega (arith, c.min-bytes.ensures, c.saturating_sub.ensures)) (c.in_ok-push.ensures {u = tt}).items refl refl c.if-entries-lt-FAR.true refl
+returns-then-entries-lt-FAR-clause-list g c = list_longer c.args.day.now.payloads _ _ c.self.view_is c.requires.list c.self.invariant.0 c.args.place c.requires.place c.requires.entry c.requires.order c.min-bytes.result (omega (arith, c.min-bytes.ensures, c.saturating_sub.ensures)) _ (c.in_ok-push.ensures {u = tt}).items
 
 pub returns-then-entries-lt-FAR-clause-pushed : goal.returns-then-entries-lt-FAR-clause-pushed
-returns-then-entries-lt-FAR-clause-pushed g c =
-    numbers_more _ _ (record c.args.self.now { last = c.args.place; count = c.args.self.now.count + 1; distances = c.push.new.self }) _ _ c.requires.list c.requires.place c.requires.entry c.requires.order (omega (arith, c.min-bytes.ensures, c.saturating_sub.ensures)) (c.in_ok-push.ensures {u = tt}).items refl refl
+returns-then-entries-lt-FAR-clause-pushed g c = numbers_more c.args.day.now.payloads _ _ c.self.view_is c.requires.list c.self.invariant.0 c.args.place c.requires.place c.requires.entry c.requires.order c.min-bytes.result (omega (arith, c.min-bytes.ensures, c.saturating_sub.ensures)) _ (c.in_ok-push.ensures {u = tt}).items
 
 pub returns-else-entries-lt-FAR-clause-list : goal.returns-else-entries-lt-FAR-clause-list
-returns-else-entries-lt-FAR-clause-list g c =
-    list_as_long _ _ _ _ _ c.requires.list c.requires.place c.requires.entry c.requires.order (omega (arith, c.min-bytes.ensures, c.saturating_sub.ensures)) (c.in_ok-push.ensures {u = tt}).items refl refl c.if-entries-lt-FAR.false refl
+returns-else-entries-lt-FAR-clause-list g c = list_longer c.args.day.now.payloads _ _ c.self.view_is c.requires.list c.self.invariant.0 c.args.place c.requires.place c.requires.entry c.requires.order c.min-bytes.result (omega (arith, c.min-bytes.ensures, c.saturating_sub.ensures)) _ (c.in_ok-push.ensures {u = tt}).items
 
 pub returns-else-entries-lt-FAR-clause-pushed : goal.returns-else-entries-lt-FAR-clause-pushed
-returns-else-entries-lt-FAR-clause-pushed g c =
-    numbers_more _ _ (record c.args.self.now { last = c.args.place; distances = c.push.new.self }) _ _ c.requires.list c.requires.place c.requires.entry c.requires.order (omega (arith, c.min-bytes.ensures, c.saturating_sub.ensures)) (c.in_ok-push.ensures {u = tt}).items refl refl
+returns-else-entries-lt-FAR-clause-pushed g c = numbers_more c.args.day.now.payloads _ _ c.self.view_is c.requires.list c.self.invariant.0 c.args.place c.requires.place c.requires.entry c.requires.order c.min-bytes.result (omega (arith, c.min-bytes.ensures, c.saturating_sub.ensures)) _ (c.in_ok-push.ensures {u = tt}).items
