@@ -2,6 +2,7 @@
 -- messages. All is of this project.
 use Rattle.std.specs.Prelude.{◌==◌, ◌%◌, ℕ, Bool, true, false, List, [], ◌∷◌, length, map, filter, take}
 use Rattle.std.specs.List.{range_with_len}
+use Rattle.binaryfile.specs.EntryLists.{numbered_payloads}
 use Rattle.itch_table.specs.declared.outcome.Part.{Part}
 use Rattle.itch_table.specs.declared.outcome.Part.TheVariants.{Locate, Nowhere}
 use Rattle.itch_table.specs.After.{after, outcome}
@@ -35,7 +36,7 @@ own_of workers worker day = own_until workers worker day (length day)
 
 -- a worker's messages, each by its number and its payload
 abbrev pub own_messages : ℕ → ℕ → List (List ℕ) → List (ℕ × List ℕ)
-own_messages workers worker day = map (λ n. (n, payload_at day n)) (own_of workers worker day)
+own_messages workers worker day = numbered_payloads day (own_of workers worker day)
 
 -- those of some locate codes that belong to a worker
 abbrev pub locates_by : ℕ → ℕ → List ℕ → List ℕ
