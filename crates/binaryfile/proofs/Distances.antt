@@ -5,7 +5,7 @@ use Rattle.std.specs.List.{flat_map}
 use Rattle.std.proofs.lemmas.Bool.{cases_Bool, le-ltb, lt-ltb}
 use Rattle.std.proofs.lemmas.List.{get_or_default, length-append}
 use Rattle.binaryfile.specs.Entries.{entry}
-use Rattle.binaryfile.specs.EntryLists.{AreDistances, Entries, IsDistance, IsListOf, end_after, led_to, numbered_payloads, numbers_after, listed_numbers}
+use Rattle.binaryfile.specs.EntryLists.{AreDistances, ListedEntries, IsDistance, IsListOf, end_after, led_to, numbered_payloads, numbers_after, listed_numbers}
 use Rattle.binaryfile.specs.Index.{IsPlace, offset}
 use Rattle.binaryfile.specs.declared.entry_list.Distance.{Distance}
 use Rattle.binaryfile.specs.declared.entry_list.TheConstants.{FAR}
@@ -48,12 +48,12 @@ numbers_few n (distance ∷ distances) =
     omega (arith, length-append (led_to n distance) (numbers_after (n + distance.entries) distances), led_few n distance, numbers_few (n + distance.entries) distances)
 
 -- `list` is what a function finds in its list of entries, and `seen` is that list as the clauses of the function name it
-module _ (payloads : List (List ℕ)) (list seen : Entries) (view_is : list ≡ seen) (has : IsListOf payloads seen)
+module _ (payloads : List (List ℕ)) (list seen : ListedEntries) (view_is : list ≡ seen) (has : IsListOf payloads seen)
     (led_by : list.last.number ≡ end_after list.first.number list.distances) (place : Place) (is : IsPlace payloads place)
     (within : place.number < length payloads) (order : seen.last.number ≤ place.number)
     (bytes : ℕ) (bytes_are : bytes ≡ min (place.at - list.last.at) FAR) (distances : List Distance)
     (pushed : distances ≡ list.distances ++ record { entries = place.number - list.last.number; bytes = bytes } ∷ []) where
-  abbrev longer : Entries
+  abbrev longer : ListedEntries
   longer = record { first = list.first; last = place; distances = distances }
 
   abbrev distance : Distance
@@ -66,14 +66,14 @@ module _ (payloads : List (List ℕ)) (list seen : Entries) (view_is : list ≡ 
   has_list = subst (IsListOf payloads) (sym view_is) has
 
   there : end_after list.first.number list.distances + distance.entries ≡ place.number
-  there = omega (arith, led_by, order, ap (λ (l : Entries). l.last.number) view_is)
+  there = omega (arith, led_by, order, ap (λ (l : ListedEntries). l.last.number) view_is)
 
   is_distance : IsDistance payloads (end_after list.first.number list.distances) distance
   unfolding IsPlace
   is_distance = record {
     within = omega (arith, there, within);
     bytes_are = λ lt.
-        let rises = offset_rises payloads list.last.number place.number (omega (arith, order, ap (λ (l : Entries). l.last.number) view_is)) in
+        let rises = offset_rises payloads list.last.number place.number (omega (arith, order, ap (λ (l : ListedEntries). l.last.number) view_is)) in
         let begin : offset payloads (end_after list.first.number list.distances) ≡ list.last.at = ap (offset payloads) (sym led_by) ∙ sym has_list.last_is.1 in
         let stands : offset payloads (end_after list.first.number list.distances + distance.entries) ≡ place.at = ap (offset payloads) there ∙ sym is.1 in
         omega (arith, rises, begin, stands, bytes_are, lt, has_list.last_is.1, is.1);
@@ -97,7 +97,7 @@ module _ (payloads : List (List ℕ)) (list seen : Entries) (view_is : list ≡ 
       (append-nil (led_to (end_after list.first.number list.distances) distance) ∙ ap (λ (k : ℕ). cond (nat_lt distance.entries FAR) ((k + 1) ∷ []) []) there)
 
   pub numbers_more : listed_numbers longer ≡ listed_numbers seen ++ cond (nat_lt (place.number - seen.last.number) FAR) ((place.number + 1) ∷ []) []
-  numbers_more = numbers_are ∙ ap (λ (l : Entries). listed_numbers l ++ cond (nat_lt (place.number - l.last.number) FAR) ((place.number + 1) ∷ []) []) view_is
+  numbers_more = numbers_are ∙ ap (λ (l : ListedEntries). listed_numbers l ++ cond (nat_lt (place.number - l.last.number) FAR) ((place.number + 1) ∷ []) []) view_is
 
   long_more : length (listed_numbers longer) ≡ length (listed_numbers list) + length led
   long_more = ap length numbers_are ∙ length-append (listed_numbers list) led

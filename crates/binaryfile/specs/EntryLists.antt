@@ -28,7 +28,8 @@ end_after n (distance ∷ distances) = end_after (n + distance.entries) distance
 -- below FAR are the bytes to it
 pub record IsDistance (payloads : List (List ℕ)) (n : ℕ) (distance : Distance) : Type 0 where
   pub within : n + distance.entries < length payloads
-  pub bytes_are : distance.bytes < FAR → offset payloads (n + distance.entries) ≡ offset payloads n + distance.bytes
+  pub bytes_are : distance.bytes < FAR
+      → offset payloads (n + distance.entries) ≡ offset payloads n + distance.bytes
 
 -- distances one after another, from the entry after the first n on, are true of a day
 abbrev pub AreDistances : List (List ℕ) → ℕ → List Distance → Type 0
@@ -37,21 +38,21 @@ AreDistances payloads n (distance ∷ distances) =
     IsDistance payloads n distance × AreDistances payloads (n + distance.entries) distances
 
 -- a list of entries: where it begins, where its last distance leads or, without one, where it begins, and its distances
-pub record Entries : Type 0 where
+pub record ListedEntries : Type 0 where
   pub first : Place
   pub last : Place
   pub distances : List Distance
 
 -- the payloads of a list's entries, by their numbers, counted from 1
-abbrev pub listed_numbers : Entries → List ℕ
+abbrev pub listed_numbers : ListedEntries → List ℕ
 listed_numbers list = numbers_after list.first.number list.distances
 
 -- how many entries of the day stand before the place where its last distance leads or, without one, where it begins
-abbrev pub reached_by : Entries → ℕ
+abbrev pub reached_by : ListedEntries → ℕ
 reached_by list = list.last.number
 
 -- a list is one of entries of this day
-pub record IsListOf (payloads : List (List ℕ)) (list : Entries) : Type 0 where
+pub record IsListOf (payloads : List (List ℕ)) (list : ListedEntries) : Type 0 where
   pub first_is : IsPlace payloads list.first
   pub last_is : IsPlace payloads list.last
   pub distances_are : AreDistances payloads list.first.number list.distances

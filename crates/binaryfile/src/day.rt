@@ -11,7 +11,7 @@ use crate::entry_list::{Distance, FAR};
 use crate::load::read_to_end;
 use crate::scan::{
     IndexedEntries, Place, begins_with_marker, bytes_after, entries_within, entry_place,
-    nth_payload, payload_from,
+    nth_payload, payload_and_next,
 };
 use crate::{Feed, LoadFault, Payloads, Sink, WriteFault, send};
 use std::alloc::Allocator;
@@ -192,7 +192,7 @@ impl<A: Allocator> Day<A> {
     }
 
     /// The payload of the entry at a place of this day, borrowed and not copied.
-    pub fn payload_from(&self, place: Place) -> &[u8]
+    pub(crate) fn payload_from(&self, place: Place) -> &[u8]
         requires place { IsPlace self.now.payloads place }
         requires entry { entries_before place < length self.now.payloads }
         ensures { result.now ≡ slice_index_or self.now.payloads (entries_before place) result.now }
@@ -201,8 +201,8 @@ impl<A: Allocator> Day<A> {
         self.next_payload(&mut next)
     }
 
-    /// The same as [`Day::payload_from`]. The place goes on to the next entry: a caller that passes over the payloads of a
-    /// day has the place of each.
+    /// The payload of the entry at a place of this day, borrowed and not copied. The place goes on to the next entry: a
+    /// caller that passes over the payloads of a day has the place of each.
     pub fn next_payload(&self, place: &mut Place) -> &[u8]
         requires place { IsPlace self.now.payloads place.old }
         requires entry { entries_before place.old < length self.now.payloads }
@@ -211,7 +211,7 @@ impl<A: Allocator> Day<A> {
         ensures place { IsPlace self.now.payloads place.new }
         ensures next { entries_before place.new ≡ entries_before place.old + 1 }
     {
-        let (payload, next) = payload_from(&self.bytes, *place);
+        let (payload, next) = payload_and_next(&self.bytes, *place);
         *place = next;
         payload
     }
@@ -219,7 +219,7 @@ impl<A: Allocator> Day<A> {
     /// Reads bytes that stand a little after a place, so that the processor has fetched that memory when a caller comes
     /// there. It changes nothing, and what it returns means nothing: it is there to be used, so that the reads aren't
     /// left out.
-    pub fn touch_after(&self, near: &Place) -> u64 {
+    pub(crate) fn touch_after(&self, near: &Place) -> u64 {
         let start = near.at.saturating_add(TOUCH_FROM);
         let mut sum: u64 = 0;
         for step in 0..TOUCHES {
@@ -232,7 +232,7 @@ impl<A: Allocator> Day<A> {
 
     /// Reads the first byte of the entry at a place and the one a line of memory after it, where they are, in the same
     /// way: an entry of a message lies in the lines of both.
-    pub fn touch_at(&self, place: &Place) -> u64 {
+    pub(crate) fn touch_at(&self, place: &Place) -> u64 {
         let mut sum: u64 = 0;
         for line in 0..LINES {
             if let Some(byte) = self.bytes.get(place.at.saturating_add(line * LINE)) {

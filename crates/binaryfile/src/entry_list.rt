@@ -22,7 +22,7 @@ pub(crate) struct Distance {
     pub(crate) bytes: u16,
 }
 
-/// Entries of a day, in the day's order, in four bytes each where they don't lie far apart: a caller that passes over a
+/// ListedEntries of a day, in the day's order, in four bytes each where they don't lie far apart: a caller that passes over a
 /// day keeps those that it comes back to. Their payloads are read without the day's index. It is seen as its distances,
 /// from one entry to the next, and the places where they begin and end.
 #[derive(Drop)]
@@ -37,11 +37,12 @@ pub struct EntryList<A: Allocator> {
 
 impl<A: Allocator> Model for EntryList<A> {
     ghost use Rattle.std.specs.Prelude.{◌≡◌, length};
-    ghost use Rattle.binaryfile.specs.EntryLists.{Entries, end_after, numbers_after};
+    ghost use Rattle.binaryfile.specs.EntryLists.{ListedEntries, end_after, numbers_after};
 
-    ghost Value = { Entries };
+    ghost Value = { ListedEntries };
 
-    ghost view = { λ list. record { first = list.first; last = list.last; distances = list.distances.items } };
+    ghost view = { λ list.
+        record { first = list.first; last = list.last; distances = list.distances.items } };
 
     ghost invariant = { λ list. (list.last.number ≡ end_after list.first.number list.distances.items)
         × (list.count ≡ length (numbers_after list.first.number list.distances.items)) };
@@ -49,7 +50,7 @@ impl<A: Allocator> Model for EntryList<A> {
 
 impl<A: Allocator> EntryList<A> {
     /// A list without entries, of those from a place of a day on, with room for `room` of them at first. Its memory is
-    /// that of `alloc`.
+    /// that of `alloc`; the error says that it was refused.
     pub fn new(alloc: A, first: Place, room: usize) -> Result<EntryList<A>, AllocError>
         ensures list { IfOk result (λ list. (payloads : List (List ℕ)) → IsPlace payloads first
             → IsListOf payloads list) }
@@ -159,7 +160,8 @@ impl<'d, A: Allocator> Model for ListedPayloads<'d, A> {
 
     ghost Value = { List (ℕ × List ℕ) };
 
-    ghost view = { λ it. numbered_payloads it.day.now.payloads (numbers_after it.near.number it.distances.now) };
+    ghost view = { λ it. numbered_payloads it.day.now.payloads
+        (numbers_after it.near.number it.distances.now) };
 
     ghost invariant = { λ it. IsPlace it.day.now.payloads it.near
         × AreDistances it.day.now.payloads it.near.number it.distances.now };
@@ -177,13 +179,15 @@ impl<'d, A: Allocator> ListedPayloads<'d, A> {
         }
     }
 
-    /// Reads bytes of the day a little after the last payload that was taken, as [`Day::touch_after`] does.
+    /// Reads bytes of the day that stand a little after the last payload that was taken, so that the processor has fetched
+    /// that memory when its caller comes there. It changes nothing, and what it returns means nothing: it is there to be
+    /// used, so that the reads aren't left out.
     pub fn touch(&self) -> u64 {
         self.day.touch_after(&self.near)
     }
 
-    /// Reads bytes where the next distances lead, `count` of them at most, as [`Day::touch_at`] does; after one whose
-    /// bytes don't fit it reads elsewhere.
+    /// Reads the first bytes of the entries to which the next distances lead, `count` of them at most, in the same way;
+    /// after a distance whose bytes don't fit it reads elsewhere.
     pub fn touch_next(&self, count: usize) -> u64 {
         let mut sum: u64 = 0;
         let mut place = self.near;

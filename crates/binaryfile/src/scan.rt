@@ -26,7 +26,7 @@ pub struct Place {
 
 impl Place {
     /// Where the first entry of any day begins.
-    pub fn first() -> Place
+    pub(crate) fn first() -> Place
         ensures { (payloads : List (List ℕ)) → IsPlace payloads result }
     {
         Place { number: 0, at: 0 }
@@ -152,7 +152,7 @@ pub(crate) fn nth_payload<'a>(bytes: &'a [u8], starts: &[u64], number: usize) ->
 }
 
 /// The payload at a place, and where the entry after it begins.
-pub(crate) fn payload_from(bytes: &[u8], place: Place) -> (&[u8], Place)
+pub(crate) fn payload_and_next(bytes: &[u8], place: Place) -> (&[u8], Place)
     requires place { IsPlace (payloads_of bytes.now) place }
     requires entry { entries_before place < length (payloads_of bytes.now) }
     requires few { length (payloads_of bytes.now) < 2 ^ 32 }

@@ -26,7 +26,7 @@ use Rattle.day_core.specs.Splitting.{AreDealt}
 use Rattle.day_core.specs.Stretches.{AreSeen, AreUpTo, IsStretch, numbers_in, own_among, own_in_all}
 use Rattle.day_core.proofs.StocksSeen.{seen_both, seen_nowhere, seen_own}
 use Rattle.std.specs.Option.{option_or}
-use Rattle.binaryfile.specs.EntryLists.{Entries}
+use Rattle.binaryfile.specs.EntryLists.{ListedEntries}
 use Rattle.day_core.proofs.Kept.{kept_more}
 use Rattle.day_core.specs.Owners.{fixed_until, is_nowhere, is_own, own_of, own_until, part_at, piece_of}
 
@@ -74,7 +74,7 @@ begun day workers from seen own fixed event within none empty nothing never =
     record { within = within; dealt = dealt_none day workers from seen own fixed event none empty nothing never }
 
 -- lists that end among the first entries of a day end among more of them
-pub up_to_more : (day : List (List ℕ)) (n m : ℕ) (lists : List Entries) → n ≤ m → AreUpTo day n lists → AreUpTo day m lists
+pub up_to_more : (day : List (List ℕ)) (n m : ℕ) (lists : List ListedEntries) → n ≤ m → AreUpTo day n lists → AreUpTo day m lists
 up_to_more day n m lists le are = λ k d lt. let at = are k d lt in (at.0, omega (arith, at.1, le))
 
 -- ---- one message more
@@ -200,7 +200,7 @@ dealt_all day workers seen own fixed event all = record {
 -- ---- several stretches
 
 -- none
-pub none_in_all : (workers : ℕ) (stretches : List (List Entries)) → stretches ≡ [] → own_in_all workers stretches ≡ replicate workers []
+pub none_in_all : (workers : ℕ) (stretches : List (List ListedEntries)) → stretches ≡ [] → own_in_all workers stretches ≡ replicate workers []
 none_in_all workers stretches none = ap (own_in_all workers) none ∙ empty 0 workers
   where
     empty : (first n : ℕ) → map (λ worker. own_among worker []) (range_with_len first n) ≡ replicate n []
@@ -208,15 +208,15 @@ none_in_all workers stretches none = ap (own_in_all workers) none ∙ empty 0 wo
     empty first (suc n) = ap (λ (ls : List (List ℕ)). [] ∷ ls) (empty (first + 1) n)
 
 -- a worker's messages in all of them
-pub in_all : (workers worker : ℕ) (stretches : List (List Entries)) (d : List ℕ) → worker < workers → get_or (own_in_all workers stretches) worker d ≡ own_among worker stretches
+pub in_all : (workers worker : ℕ) (stretches : List (List ListedEntries)) (d : List ℕ) → worker < workers → get_or (own_in_all workers stretches) worker d ≡ own_among worker stretches
 in_all workers worker stretches d lt = get_or-map-range_with_len (λ w. own_among w stretches) 0 workers worker worker d lt (omega arith)
 
 -- of each worker one list
-pub all_long : (workers : ℕ) (stretches : List (List Entries)) → length (own_in_all workers stretches) ≡ workers
+pub all_long : (workers : ℕ) (stretches : List (List ListedEntries)) → length (own_in_all workers stretches) ≡ workers
 all_long workers stretches = length-map-range_with_len (λ w. own_among w stretches) 0 workers
 
 -- one more
-pub one_stretch : (workers worker : ℕ) (stretches more : List (List Entries)) (own : List Entries) → more ≡ stretches ++ own ∷ [] → worker < workers
+pub one_stretch : (workers worker : ℕ) (stretches more : List (List ListedEntries)) (own : List ListedEntries) → more ≡ stretches ++ own ∷ [] → worker < workers
     → get_or (own_in_all workers more) worker [] ≡ get_or (own_in_all workers stretches) worker [] ++ get_or (numbers_in own) worker []
 one_stretch workers worker stretches more own is lt =
     in_all workers worker more [] lt ∙ ap (own_among worker) is ∙ flat_map-append (λ o. get_or (numbers_in o) worker []) stretches (own ∷ [])
@@ -224,7 +224,7 @@ one_stretch workers worker stretches more own is lt =
     ∙ ap (λ (l : List ℕ). l ++ get_or (numbers_in own) worker []) (sym (in_all workers worker stretches [] lt))
 
 -- those of a whole day are a worker's
-pub own_of_all : (day : List (List ℕ)) (workers worker : ℕ) (stretches : List (List Entries)) (fixed : List Piece) (event : Option ℕ)
+pub own_of_all : (day : List (List ℕ)) (workers worker : ℕ) (stretches : List (List ListedEntries)) (fixed : List Piece) (event : Option ℕ)
     → AreDealt day workers (length day) (own_in_all workers stretches) fixed event → worker < workers → own_among worker stretches ≡ own_of workers worker day
 unfolding own_of
 own_of_all day workers worker stretches fixed event dealt lt = sym (in_all workers worker stretches [] lt) ∙ dealt.own_are worker [] lt

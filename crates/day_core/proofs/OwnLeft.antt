@@ -6,7 +6,7 @@ use Rattle.std.proofs.lemmas.List.{length-drop, length-map, map-append}
 use Rattle.std.proofs.lemmas.List.Elements.{All-map}
 use Rattle.std.proofs.lemmas.List.Kept.{IsStrictlyIncreasing-filter}
 use Rattle.std.proofs.lemmas.Option.{slice_get-get_or, slice_get_past}
-use Rattle.binaryfile.specs.EntryLists.{Entries, numbered_payloads}
+use Rattle.binaryfile.specs.EntryLists.{ListedEntries, numbered_payloads}
 use Rattle.itch_table.proofs.DayLocates.{range_rises}
 use Rattle.itch_table.specs.declared.outcome.Part.TheVariants.{Locate}
 use Rattle.itch_table.specs.Parts.{part}
@@ -208,7 +208,7 @@ done_below workers worker day i lt =
     place_below (own_of workers worker day) (IsStrictlyIncreasing-filter (λ n. is_own workers worker (part_at day n)) (range_with_len 1 (length day)) (range_rises 1 (length day))) i lt
 
 -- the lists of the first of some stretches, and those of the others
-module _ {X : Type 0} (f : X → List Entries) (day : List (List ℕ)) (later rest : List X) (first : X) (is : later ≡ first ∷ rest) (are : AreAllOf day (map f later)) where
+module _ {X : Type 0} (f : X → List ListedEntries) (day : List (List ℕ)) (later rest : List X) (first : X) (is : later ≡ first ∷ rest) (are : AreAllOf day (map f later)) where
   pub first_of : AreOf day (f first)
   first_of = (subst (λ ls. AreAllOf day (map f ls)) is are) 0 (f first) (omega arith)
 

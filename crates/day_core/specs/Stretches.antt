@@ -2,7 +2,7 @@
 use Rattle.std.specs.Prelude.{◌≡◌, ◌+◌, ◌*◌, ◌/◌, ◌<◌, ◌≤◌, ◌++◌, ◌||◌, ℕ, All, Bool, false, List, [], Option, length, map, min, slice_index_or, take}
 use Rattle.std.specs.List.{flat_map, list_any, range_with_len}
 use Rattle.std.specs.Option.{option_or}
-use Rattle.binaryfile.specs.EntryLists.{Entries, IsListOf, listed_numbers, reached_by}
+use Rattle.binaryfile.specs.EntryLists.{ListedEntries, IsListOf, listed_numbers, reached_by}
 use Rattle.itch_table.specs.After.{after}
 use Rattle.itch_table.specs.Projection.{is_of_stock}
 use Rattle.day_core.specs.Owners.{fixed_until, own_until}
@@ -32,37 +32,37 @@ pub record IsStretch (day : List (List ℕ)) (workers from to : ℕ) (seen : Lis
   pub event_is : option_or event (after day from).event ≡ (after day to).event
 
 -- the messages of lists of entries, by their numbers
-abbrev pub numbers_in : List Entries → List (List ℕ)
+abbrev pub numbers_in : List ListedEntries → List (List ℕ)
 numbers_in lists = map listed_numbers lists
 
 -- lists of entries are of this day
-abbrev pub AreOf : List (List ℕ) → List Entries → Type 0
+abbrev pub AreOf : List (List ℕ) → List ListedEntries → Type 0
 AreOf day lists = All (IsListOf day) lists
 
 -- lists of entries of this day, to each of which the entry after the first n may be added
-abbrev pub AreUpTo : List (List ℕ) → ℕ → List Entries → Type 0
+abbrev pub AreUpTo : List (List ℕ) → ℕ → List ListedEntries → Type 0
 AreUpTo day n lists = All (λ list. IsListOf day list × (reached_by list ≤ n)) lists
 
 -- a stretch of a day is dealt to lists of its entries
-unfoldable pub IsListed : List (List ℕ) → ℕ → ℕ → ℕ → List Bool → List Entries
+unfoldable pub IsListed : List (List ℕ) → ℕ → ℕ → ℕ → List Bool → List ListedEntries
     → List Piece → Option ℕ → Type 0
 IsListed day workers from to seen own fixed event =
     IsStretch day workers from to seen (numbers_in own) fixed event × AreOf day own
 
 -- a worker's messages in stretches that come one after another, each of which has the lists of all workers
-abbrev pub own_among : ℕ → List (List Entries) → List ℕ
+abbrev pub own_among : ℕ → List (List ListedEntries) → List ℕ
 own_among worker stretches = flat_map (λ lists. slice_index_or (numbers_in lists) worker []) stretches
 
 -- and those of each worker
-abbrev pub own_in_all : ℕ → List (List Entries) → List (List ℕ)
+abbrev pub own_in_all : ℕ → List (List ListedEntries) → List (List ℕ)
 own_in_all workers stretches = map (λ worker. own_among worker stretches) (range_with_len 0 workers)
 
 -- the lists of all stretches are of this day
-abbrev pub AreAllOf : List (List ℕ) → List (List Entries) → Type 0
+abbrev pub AreAllOf : List (List ℕ) → List (List ListedEntries) → Type 0
 AreAllOf day stretches = All (AreOf day) stretches
 
 -- stretches of a day that come one after another are dealt to lists of its entries
-abbrev pub AreListed : List (List ℕ) → ℕ → ℕ → ℕ → List Bool → List (List Entries)
+abbrev pub AreListed : List (List ℕ) → ℕ → ℕ → ℕ → List Bool → List (List ListedEntries)
     → List Piece → Option ℕ → Type 0
 AreListed day workers from to seen own fixed event =
     IsStretch day workers from to seen (own_in_all workers own) fixed event × AreAllOf day own
@@ -72,7 +72,7 @@ abbrev pub cut : ℕ → ℕ → ℕ
 cut messages chunk = min (chunk * (messages / CHUNKS + 1)) messages
 
 -- the chunk of a day with this number is dealt
-abbrev pub IsChunk : List (List ℕ) → ℕ → ℕ → List Bool → List Entries → List Piece
+abbrev pub IsChunk : List (List ℕ) → ℕ → ℕ → List Bool → List ListedEntries → List Piece
     → Option ℕ → Type 0
 IsChunk day workers chunk seen own fixed event =
     IsListed day workers (cut (length day) chunk) (cut (length day) (chunk + 1)) seen own fixed event

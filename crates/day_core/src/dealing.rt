@@ -62,8 +62,8 @@ pub fn event_after(payload: &[u8], before: Option<u8>) -> Option<u8>
 
 // For how many messages each worker's list has room at first: twice its share of so many, so that few lists grow.
 // What a list doesn't need isn't touched.
-fn room_for(messages: u32, workers: u32) -> usize {
-    2 * messages.checked_div(workers).unwrap_or(0) as usize
+fn room_for(messages: u32, workers: WorkerCount) -> usize {
+    2 * (messages / workers.get()) as usize
 }
 
 // An empty list for each worker, of messages from a place of a day on, each with room for so many.
@@ -119,7 +119,7 @@ fn deal_between<A: Allocator + Copy>(
     let count = workers.get();
     let mut next = day.place(from);
     let mut seen = none_seen(alloc, LOCATES)?;
-    let mut own = new_lists(alloc, count, next, room_for(to - from, count))?;
+    let mut own = new_lists(alloc, count, next, room_for(to - from, workers))?;
     let mut fixed = Vec::new(alloc);
     let mut event = None;
     for before in from..to {

@@ -33,7 +33,7 @@ impl<'d, A: Allocator> Model for OwnMessages<'d, A> {
 }
 
 // A worker's messages among those of all workers of a stretch; none for a number that is no worker's.
-fn payloads_of<'d, A: Allocator>(
+fn payloads_in<'d, A: Allocator>(
     day: &'d Day<A>,
     lists: &'d [EntryList<A>],
     worker: u32,
@@ -89,7 +89,7 @@ impl<'d, A: Allocator> OwnMessages<'d, A> {
         }
     }
 
-    /// Reads bytes of the day a little after the last message that was taken, as [`Day::touch_after`] does.
+    /// Reads bytes of the day a little after the last message that was taken, as [`ListedPayloads::touch`] does.
     pub(crate) fn touch(&self) -> u64 {
         self.payloads.touch()
     }
@@ -115,7 +115,7 @@ impl<'d, A: Allocator> Iterator for OwnMessages<'d, A> {
                 return Some(message);
             }
             let (lists, later) = self.later.split_first()?;
-            self.payloads = payloads_of(self.day, lists, self.worker);
+            self.payloads = payloads_in(self.day, lists, self.worker);
             self.later = later;
         }
     }

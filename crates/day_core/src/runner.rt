@@ -227,9 +227,7 @@ impl<'p, A: Allocator + Copy> Runner<'p, A> {
             index: found.index,
         }))
     }
-}
 
-impl<'p, A: Allocator + Copy> Runner<'p, A> {
     /// Finds the messages that come after the worker's next one, up to twice [`TURNS_AHEAD`] of them, so that no turn
     /// needs to look for one. A caller makes a call before each [`TURNS_AHEAD`] turns; without calls each turn finds
     /// the message after its own. No contract says what was found.

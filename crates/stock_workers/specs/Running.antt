@@ -60,7 +60,8 @@ MayStart split board job = IfSome job.waiting (λ w. IsWaiting split board w.wor
 
 -- jobs on workers of a split day are jobs on them afterwards
 abbrev pub AreStillJobs : {A : Type 0} → Split → List (Job A) → List (Job A) → Type 0
-AreStillJobs split old new = (writer : ℕ → WriterAt) → All (IsJob split writer) old → All (IsJob split writer) new
+AreStillJobs split old new =
+    (writer : ℕ → WriterAt) → All (IsJob split writer) old → All (IsJob split writer) new
 
 -- what workers of a split day have made, each at its number
 abbrev pub AreMade : {A : Type 0} → Split → (ℕ → WriterAt) → List (Result (Finished A) AllocError) → Type 0

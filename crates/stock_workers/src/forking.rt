@@ -111,8 +111,8 @@ fn do_jobs<R: Threads + Wait + Sync, A: Allocator + Copy, G: Gate>(
     }
 }
 
-// The workers with most messages first, and of equal ones that of the lower number, where there are more of them than so
-// many batches: then the last ones that are given to a batch change little.
+// Workers by falling number of their messages, equal ones by rising number of their own, where there are more of them
+// than batches: then the last ones that are given to a batch change little.
 fn heaviest_first<A: Allocator>(
     parts: &Parts<'_, A>,
     count: usize,

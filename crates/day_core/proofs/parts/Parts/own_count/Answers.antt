@@ -1,6 +1,6 @@
 use Rattle.std.proofs.Common.{◌≡◌, ◌<◌, ℕ, List, Option, length, map, ap, sym, ◌∙◌, arith}
 use Rattle.std.proofs.lemmas.List.{length-map}
-use Rattle.binaryfile.specs.EntryLists.{Entries}
+use Rattle.binaryfile.specs.EntryLists.{ListedEntries}
 use Rattle.day_core.specs.declared.merging.Piece.{Piece}
 use Rattle.day_core.specs.Owners.{own_messages, own_of}
 use Rattle.day_core.specs.Splitting.{AreDealt, Split}
@@ -14,7 +14,7 @@ as_many : (workers worker : ℕ) (day : List (List ℕ)) → length (own_message
 as_many workers worker day = length-map (own_of workers worker day) _
 
 -- as many as stand in the stretches
-in_stretches : (day : List (List ℕ)) (workers worker : ℕ) (stretches : List (List Entries)) (fixed : List Piece) (event : Option ℕ) → AreDealt day workers (length day) (own_in_all workers stretches) fixed event
+in_stretches : (day : List (List ℕ)) (workers worker : ℕ) (stretches : List (List ListedEntries)) (fixed : List Piece) (event : Option ℕ) → AreDealt day workers (length day) (own_in_all workers stretches) fixed event
     → worker < workers → length (own_among worker stretches) ≡ length (own_of workers worker day)
 in_stretches day workers worker stretches fixed event dealt mine = ap length (own_of_all day workers worker stretches fixed event dealt mine)
 

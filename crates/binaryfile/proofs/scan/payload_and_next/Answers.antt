@@ -3,7 +3,7 @@ use Rattle.std.proofs.lemmas.List.{get_or_default}
 use Rattle.binaryfile.specs.Index.{IsPlace, payloads_of}
 use Rattle.binaryfile.proofs.ByteRanges.{bytes_are}
 use Rattle.binaryfile.proofs.Offsets.{Steps, first_is_found, offset_within, steps}
-use Rattle.binaryfile.proofs.scan.payload_from.Goals as goal
+use Rattle.binaryfile.proofs.scan.payload_and_next.Goals as goal
 
 pub slice_bounds-first_payload-count : goal.slice_bounds-first_payload-count
 unfolding IsPlace
