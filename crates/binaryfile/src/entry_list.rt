@@ -22,7 +22,7 @@ pub(crate) struct Distance {
     pub(crate) bytes: u16,
 }
 
-/// ListedEntries of a day, in the day's order, in four bytes each where they don't lie far apart: a caller that passes over a
+/// Entries of a day, in the day's order, in four bytes each where they don't lie far apart: a caller that passes over a
 /// day keeps those that it comes back to. Their payloads are read without the day's index. It is seen as its distances,
 /// from one entry to the next, and the places where they begin and end.
 #[derive(Drop)]
