@@ -1,5 +1,6 @@
 # Draws the lines of `itch tops` as a picture (SVG) that any browser shows: the best bid in green and the best ask in
-# red, message by message from left to right, each price as a step that lasts until the next line.
+# red, message by message from left to right, each price as a step that lasts until the next line. Prices stand below zero in
+# the picture, so that greater ones are higher. Numbers may be too great for %d of some awks.
 BEGIN { FS = "," }
 NR > 1 {
     if (NR == 2)
@@ -9,7 +10,7 @@ NR > 1 {
     step("ask", $5)
 }
 END {
-    printf "<svg xmlns=\"http://www.w3.org/2000/svg\" viewBox=\"%d %d %d %d\"",
+    printf "<svg xmlns=\"http://www.w3.org/2000/svg\" viewBox=\"%.0f %.0f %.0f %.0f\"",
         first, top, last + 1 - first, bottom + 1 - top
     print " preserveAspectRatio=\"none\" fill=\"none\">"
     draw("bid", "green")
@@ -17,20 +18,21 @@ END {
     print "</svg>"
 }
 # Goes on with a side's line, which stops where the side is empty.
-function step(side, price) {
+function step(side, price,    height) {
     if (price == "") {
         if (open[side])
             path[side] = path[side] "H" $1
         open[side] = 0
         return
     }
-    path[side] = path[side] (open[side] ? "H" $1 "V" : "M" $1 " ") (-price)
+    height = 0 - price
+    path[side] = path[side] (open[side] ? "H" $1 "V" : "M" $1 " ") sprintf("%.0f", height)
     open[side] = 1
-    top = top == "" || -price < top ? -price : top
-    bottom = bottom == "" || -price > bottom ? -price : bottom
+    top = top == "" || height < top ? height : top
+    bottom = bottom == "" || height > bottom ? height : bottom
 }
 function draw(side, colour) {
     if (open[side])
-        path[side] = path[side] "H" (last + 1)
+        path[side] = path[side] "H" sprintf("%.0f", last + 1)
     printf "<path stroke=\"%s\" vector-effect=\"non-scaling-stroke\" d=\"%s\"/>\n", colour, path[side]
 }

@@ -2,9 +2,10 @@
 #![tactic(auto)]
 
 mod arguments;
-mod output;
 mod progress;
 mod prompt;
+mod stop;
+mod terminals;
 
 use arguments::Task;
 use binaryfile::{Day, Feed, Limits, Sink};
@@ -13,9 +14,9 @@ use day_core::WorkerCount;
 use itch_debug::debug_run;
 use itch_engine::limits::{MOST_FILE_BYTES, MOST_MESSAGES};
 use itch_engine::{ProgFault, asm_run, dis_between_run, dis_run, hex_run, replay_run, status};
-use itch_readings::{Selection, stocks_run, tops_run};
+use itch_readings::{Selection, StockName, stocks_run, tops_run};
 use itch_watch::watch_run;
-use output::Created;
+use named_files::{Failure, Named, Replacement, is_same_file};
 use progress::Progress;
 use prompt::Prompting;
 use std::io::{self, IsTerminal};
@@ -26,6 +27,8 @@ use std::sync::atomic::AtomicU64;
 use std::thread::Threads;
 use std::{env, fs};
 use stock_workers::FreeGate;
+use stop::Stop;
+use terminals::Terminals;
 
 /// The status for invalid arguments.
 const MISUSE: u8 = 2;
@@ -33,21 +36,67 @@ const MISUSE: u8 = 2;
 /// The status where something can't be read or written.
 const DEVICE: u8 = 3;
 
-// Ends with the status for what an engine returned, and says why on standard error where it stopped before its work was
-// done. A line that can't be printed changes no status.
-fn end(rt: &impl Eprint, returned: Result<u32, ProgFault>) -> ExitCode {
-    if let Err(fault) = &returned {
-        let _ = eprintln!(rt; "itch: {fault}");
+// How a run ended: with the number of refused messages, or before its work was done.
+type Ended<'a> = Result<u32, Stop<'a>>;
+
+// Ends with the status for how a run ended, and says why on standard error where it stopped before its work was done. A line
+// that can't be printed changes no status.
+fn end(rt: &impl Eprint, terminals: Terminals, ended: Ended) -> ExitCode {
+    let stop = match ended {
+        Ok(refused) => return ExitCode::from(status(&Ok(refused))),
+        Err(stop) => stop,
+    };
+    match stop {
+        Stop::Misuse(why) => refuse(rt, why),
+        Stop::Fault(fault, failure) => {
+            let _ = eprintln!(rt; "itch: {fault}");
+            if let Some(failure) = failure
+                && terminals.errors
+            {
+                let _ = eprintln!(rt; "itch: {failure}");
+            }
+            ExitCode::from(status(&Err(fault)))
+        }
     }
-    ExitCode::from(status(&returned))
+}
+
+// How a run ended whose input and output are these: they know why they failed.
+fn ended<'a, D, W>(
+    run: Result<u32, ProgFault>,
+    input: &Named<'a, D>,
+    output: &Named<'a, W>,
+) -> Ended<'a> {
+    match run {
+        Ok(refused) => Ok(refused),
+        Err(fault) => Err(Stop::Fault(fault, input.failure().or(output.failure()))),
+    }
 }
 
 // A file, to be read from its start.
-fn open<R: Runtime>(rt: &R, path: &str) -> Result<Feed<R::File>, ProgFault> {
+fn open<'a, R: Runtime>(rt: &R, path: &'a str) -> Result<Named<'a, R::File>, Stop<'a>> {
     match fs::open(rt, path) {
-        Ok(file) => Ok(Feed::new(file)),
-        Err(_) => Err(ProgFault::Read),
+        Ok(file) => Ok(Named::new(path, file)),
+        Err(error) => {
+            let failure = Failure::new(path, error);
+            Err(Stop::Fault(ProgFault::Read, Some(failure)))
+        }
     }
+}
+
+// A day file, to be read from its start. Where it is compressed, that is said at a terminal.
+fn open_day<'a, R: Runtime>(
+    rt: &R,
+    terminals: Terminals,
+    path: &'a str,
+) -> Result<Named<'a, R::File>, Stop<'a>> {
+    let day = open(rt, path)?;
+    terminals.tell_compressed(rt, path);
+    Ok(day)
+}
+
+// Standard output, to be written.
+fn standard_output<R: Print>(rt: &R) -> Named<'static, io::Printer<'_, R>> {
+    Named::new("standard output", io::writer(rt))
 }
 
 // The number of workers that the arguments give, which is in the range of the argument.
@@ -56,138 +105,195 @@ fn worker_count(number: u32) -> WorkerCount {
 }
 
 // Replays a file by this many workers, and writes its report on standard output.
-fn replay<R: Runtime + AllocGlobal + Threads + Wait + Sync>(
+fn replay<'a, R: Runtime + AllocGlobal + Threads + Wait + Sync>(
     rt: &R,
-    path: &str,
+    terminals: Terminals,
+    path: &'a str,
     workers: u32,
     progress: bool,
-) -> Result<u32, ProgFault> {
-    let mut feed = open(rt, path)?;
-    let mut sink = Sink::new(io::writer(rt));
+) -> Ended<'a> {
+    let mut day = open_day(rt, terminals, path)?;
+    let mut output = standard_output(rt);
     let workers = worker_count(workers);
-    if progress {
+    let (mut feed, mut sink) = (Feed::new(&mut day), Sink::new(&mut output));
+    let run = if progress {
         let gate = Progress::new(rt);
         replay_run(rt, rt.alloc(), &mut feed, &mut sink, workers, &gate)
     } else {
         replay_run(rt, rt.alloc(), &mut feed, &mut sink, workers, &FreeGate)
-    }
+    };
+    ended(run, &day, &output)
 }
 
 // Writes the text of a file on standard output.
-fn disassemble<R: Runtime + AllocGlobal>(rt: &R, path: &str) -> Result<u32, ProgFault> {
-    let mut feed = open(rt, path)?;
-    let mut sink = Sink::new(io::writer(rt));
-    dis_run(rt.alloc(), &mut feed, &mut sink)?;
-    Ok(0)
+fn disassemble<'a, R: Runtime + AllocGlobal>(
+    rt: &R,
+    terminals: Terminals,
+    path: &'a str,
+) -> Ended<'a> {
+    let mut day = open_day(rt, terminals, path)?;
+    let mut output = standard_output(rt);
+    let run = dis_run(
+        rt.alloc(),
+        &mut Feed::new(&mut day),
+        &mut Sink::new(&mut output),
+    );
+    ended(run.map(|()| 0), &day, &output)
 }
 
 // Writes the lines of a file's messages from one number to another on standard output.
-fn disassemble_between<R: Runtime + AllocGlobal>(
+fn disassemble_between<'a, R: Runtime + AllocGlobal>(
     rt: &R,
-    path: &str,
+    terminals: Terminals,
+    path: &'a str,
     first: u32,
     last: u32,
-) -> Result<u32, ProgFault> {
-    let mut feed = open(rt, path)?;
-    let mut sink = Sink::new(io::writer(rt));
-    dis_between_run(rt.alloc(), &mut feed, &mut sink, first, last)?;
-    Ok(0)
+) -> Ended<'a> {
+    if last < first {
+        return Err(Stop::Misuse("--to is before --from"));
+    }
+    let mut day = open_day(rt, terminals, path)?;
+    let mut output = standard_output(rt);
+    let (mut feed, mut sink) = (Feed::new(&mut day), Sink::new(&mut output));
+    let run = dis_between_run(rt.alloc(), &mut feed, &mut sink, first, last);
+    ended(run.map(|()| 0), &day, &output)
 }
 
 // Lists a file's stocks on standard output.
-fn list_stocks<R: Runtime + AllocGlobal>(rt: &R, path: &str) -> Result<u32, ProgFault> {
-    let mut feed = open(rt, path)?;
-    let mut sink = Sink::new(io::writer(rt));
-    stocks_run(rt.alloc(), &mut feed, &mut sink)?;
-    Ok(0)
+fn list_stocks<'a, R: Runtime + AllocGlobal>(
+    rt: &R,
+    terminals: Terminals,
+    path: &'a str,
+) -> Ended<'a> {
+    let mut day = open_day(rt, terminals, path)?;
+    let mut output = standard_output(rt);
+    let run = stocks_run(
+        rt.alloc(),
+        &mut Feed::new(&mut day),
+        &mut Sink::new(&mut output),
+    );
+    ended(run.map(|()| 0), &day, &output)
+}
+
+// The stock that a word names.
+fn named_stock<'a>(word: &str) -> Result<StockName, Stop<'a>> {
+    match arguments::stock_name(word) {
+        Some(name) => Ok(name),
+        None => Err(Stop::Fault(ProgFault::NoStock, None)),
+    }
 }
 
 // Writes the best bid and ask of one of a file's stocks along it on standard output.
-fn print_tops<R: Runtime + AllocGlobal>(
+fn print_tops<'a, R: Runtime + AllocGlobal>(
     rt: &R,
-    path: &str,
+    terminals: Terminals,
+    path: &'a str,
     stock: &str,
     selection: Selection,
-) -> Result<u32, ProgFault> {
-    let Some(name) = arguments::stock_name(stock) else {
-        return Err(ProgFault::NoStock);
-    };
-    let mut feed = open(rt, path)?;
-    let mut sink = Sink::new(io::writer(rt));
-    tops_run(rt.alloc(), &mut feed, &mut sink, name, selection)?;
-    Ok(0)
+) -> Ended<'a> {
+    let mut day = open_day(rt, terminals, path)?;
+    let name = named_stock(stock)?;
+    let mut output = standard_output(rt);
+    let (mut feed, mut sink) = (Feed::new(&mut day), Sink::new(&mut output));
+    let run = tops_run(rt.alloc(), &mut feed, &mut sink, name, selection);
+    ended(run.map(|()| 0), &day, &output)
 }
 
 // Replays a file, and writes what a screen of one of its stocks sees meanwhile on standard output.
-fn watch<R: Runtime + AllocGlobal + Threads + Wait + Sync>(
+fn watch<'a, R: Runtime + AllocGlobal + Threads + Wait + Sync>(
     rt: &R,
-    path: &str,
+    terminals: Terminals,
+    path: &'a str,
     stock: &str,
     workers: u32,
-) -> Result<u32, ProgFault> {
-    let Some(name) = arguments::stock_name(stock) else {
-        return Err(ProgFault::NoStock);
-    };
-    let mut feed = open(rt, path)?;
-    let mut sink = Sink::new(io::writer(rt));
-    watch_run(
+) -> Ended<'a> {
+    let mut day = open_day(rt, terminals, path)?;
+    let name = named_stock(stock)?;
+    let mut output = standard_output(rt);
+    let run = watch_run(
         rt,
         rt.alloc(),
-        &mut feed,
-        &mut sink,
+        &mut Feed::new(&mut day),
+        &mut Sink::new(&mut output),
         name,
         worker_count(workers),
         &FreeGate,
         &AtomicU64::new(0),
-    )?;
-    Ok(0)
+    );
+    ended(run.map(|()| 0), &day, &output)
 }
 
 // Makes the file that a text denotes. Where the text is faulty, the path of the output is not touched.
-fn assemble<R: Runtime + AllocGlobal>(rt: &R, text: &str, out: &str) -> Result<u32, ProgFault> {
-    let mut feed = open(rt, text)?;
-    let mut created = Created::new(rt, out);
-    asm_run(rt.alloc(), &mut feed, &mut Sink::new(&mut created))?;
-    match created.make() {
-        Ok(()) => Ok(0),
-        Err(_) => Err(ProgFault::Write),
+fn assemble<'a, R: Runtime + AllocGlobal>(rt: &R, text: &'a str, out: &'a str) -> Ended<'a> {
+    let mut input = open(rt, text)?;
+    if is_same_file(rt, text, out) {
+        return Err(Stop::Misuse("TEXT and OUT are the same file"));
+    }
+    let Ok(replacement) = Replacement::new(rt, rt.alloc(), out) else {
+        return Err(Stop::Fault(ProgFault::Memory, None));
+    };
+    let mut output = Named::new(out, replacement);
+    let run = asm_run(
+        rt.alloc(),
+        &mut Feed::new(&mut input),
+        &mut Sink::new(&mut output),
+    );
+    let assembled = ended(run.map(|()| 0), &input, &output);
+    let replacement = output.into_inner();
+    if assembled.is_err() {
+        replacement.discard();
+        return assembled;
+    }
+    match replacement.finish() {
+        Ok(()) => assembled,
+        Err(error) => Err(Stop::Fault(ProgFault::Write, Some(Failure::new(out, error)))),
     }
 }
 
 // Answers the commands of standard input about a file, on standard output. At a terminal each line is asked for.
-fn debug<R: Runtime + AllocGlobal>(
-    rt: &R,
-    path: &str,
-    at_terminal: bool,
-) -> Result<u32, ProgFault> {
+fn debug<'a, R: Runtime + AllocGlobal>(rt: &R, terminals: Terminals, path: &'a str) -> Ended<'a> {
+    let mut output = standard_output(rt);
+    let mut file = open_day(rt, terminals, path)?;
     let limits = Limits {
         bytes: MOST_FILE_BYTES,
         messages: MOST_MESSAGES,
     };
-    let day = Day::load(rt.alloc(), &mut open(rt, path)?, limits)?;
-    let mut sink = Sink::new(io::writer(rt));
-    if at_terminal {
-        let mut commands = Feed::new(Prompting::new(rt, rt.reader()));
-        debug_run(rt.alloc(), &day, &mut commands, &mut sink)?;
-    } else {
-        debug_run(rt.alloc(), &day, &mut Feed::new(rt.reader()), &mut sink)?;
-    }
-    Ok(0)
+    let day = match Day::load(rt.alloc(), &mut Feed::new(&mut file), limits) {
+        Ok(day) => day,
+        Err(fault) => return ended(Err(ProgFault::from(fault)), &file, &output),
+    };
+    let mut commands = Named::new("standard input", Prompting::new(rt, rt.reader(), terminals));
+    let run = debug_run(
+        rt.alloc(),
+        &day,
+        &mut Feed::new(&mut commands),
+        &mut Sink::new(&mut output),
+    );
+    ended(run.map(|()| 0), &commands, &output)
 }
 
-// Replays the file whose hexadecimal digits are standard input, and writes its report on standard output.
+// Replays the file whose hexadecimal digits are standard input, and writes its report on standard output. At a terminal
+// it is said what is waited for.
 fn replay_digits<R: Runtime + AllocGlobal + Threads + Wait + Sync>(
     rt: &R,
-) -> Result<u32, ProgFault> {
-    let mut feed = Feed::new(rt.reader());
-    let mut sink = Sink::new(io::writer(rt));
-    hex_run(rt, rt.alloc(), &mut feed, &mut sink)
+    terminals: Terminals,
+) -> Ended<'_> {
+    terminals.ask_for_digits(rt);
+    let mut input = Named::new("standard input", rt.reader());
+    let mut output = standard_output(rt);
+    let run = hex_run(
+        rt,
+        rt.alloc(),
+        &mut Feed::new(&mut input),
+        &mut Sink::new(&mut output),
+    );
+    ended(run, &input, &output)
 }
 
 // Prints help, or usage where the arguments are invalid, and ends with the status for that.
 fn explain<R: Runtime>(rt: &R, error: &clap::Error) -> ExitCode {
     if let ErrorKind::OutOfMemory = error.kind() {
-        return end(rt, Err(ProgFault::Memory));
+        return refuse_memory(rt);
     }
     match error.print(rt) {
         Ok(()) => ExitCode::from(arguments::usage_status(error)),
@@ -195,44 +301,42 @@ fn explain<R: Runtime>(rt: &R, error: &clap::Error) -> ExitCode {
     }
 }
 
-// Does what the arguments ask for. Whether standard input and standard error are terminals is known to the caller.
+// Does what the arguments ask for.
 fn run<R: Runtime + AllocGlobal + Threads + Wait + Sync>(
     rt: &R,
     arguments: &[String],
-    at_terminal: bool,
+    terminals: Terminals,
 ) -> ExitCode {
     let matches = match arguments::parse(rt.alloc(), arguments) {
         Ok(matches) => matches,
         Err(error) => return explain(rt, &error),
     };
-    match arguments::chosen_task(&matches) {
+    let ended = match arguments::chosen_task(&matches) {
         Task::Replay {
             file,
             workers,
             progress,
-        } => end(rt, replay(rt, file, workers, progress)),
-        Task::Disassemble { file } => end(rt, disassemble(rt, file)),
-        Task::DisassembleBetween { first, last, .. } if last < first => {
-            refuse(rt, "--to is before --from")
-        }
+        } => replay(rt, terminals, file, workers, progress),
+        Task::Disassemble { file } => disassemble(rt, terminals, file),
         Task::DisassembleBetween { file, first, last } => {
-            end(rt, disassemble_between(rt, file, first, last))
+            disassemble_between(rt, terminals, file, first, last)
         }
-        Task::Stocks { file } => end(rt, list_stocks(rt, file)),
+        Task::Stocks { file } => list_stocks(rt, terminals, file),
         Task::Tops {
             file,
             stock,
             selection,
-        } => end(rt, print_tops(rt, file, stock, selection)),
+        } => print_tops(rt, terminals, file, stock, selection),
         Task::Watch {
             file,
             stock,
             workers,
-        } => end(rt, watch(rt, file, stock, workers)),
-        Task::Assemble { text, out } => end(rt, assemble(rt, text, out)),
-        Task::Debug { file } => end(rt, debug(rt, file, at_terminal)),
-        Task::ReplayDigits => end(rt, replay_digits(rt)),
-    }
+        } => watch(rt, terminals, file, stock, workers),
+        Task::Assemble { text, out } => assemble(rt, text, out),
+        Task::Debug { file } => debug(rt, terminals, file),
+        Task::ReplayDigits => replay_digits(rt, terminals),
+    };
+    end(rt, terminals, ended)
 }
 
 // Ends where the arguments are invalid, and says why on standard error.
@@ -243,10 +347,16 @@ fn refuse(rt: &impl Eprint, why: &str) -> ExitCode {
     }
 }
 
+// Ends where the arguments were refused memory.
+fn refuse_memory(rt: &impl Eprint) -> ExitCode {
+    let terminals = Terminals::default();
+    end(rt, terminals, Err(Stop::Fault(ProgFault::Memory, None)))
+}
+
 // Ends where the arguments can't be taken: one of them isn't UTF-8, or memory was refused.
 fn refuse_arguments(rt: &impl Eprint, error: io::Error) -> ExitCode {
     if error.kind() == io::ErrorKind::OutOfMemory {
-        return end(rt, Err(ProgFault::Memory));
+        return refuse_memory(rt);
     }
     refuse(rt, "a word isn't UTF-8")
 }
@@ -256,9 +366,12 @@ fn main(rt: HostRuntime) -> ExitCode {
         Ok(arguments) => arguments,
         Err(error) => return refuse_arguments(&rt, error),
     };
-    let at_terminal = rt.stdin().is_terminal() && rt.stderr().is_terminal();
+    let terminals = Terminals {
+        input: rt.stdin().is_terminal(),
+        errors: rt.stderr().is_terminal(),
+    };
     match arguments.collect::<Vec<String>>(rt.alloc()) {
-        Ok(arguments) => run(&rt, &arguments, at_terminal),
-        Err(_) => end(&rt, Err(ProgFault::Memory)),
+        Ok(arguments) => run(&rt, &arguments, terminals),
+        Err(_) => refuse_memory(&rt),
     }
 }
