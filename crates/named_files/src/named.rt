@@ -81,7 +81,8 @@ impl<D: Read> Read for Named<'_, D> {
 
     fn read(&mut self, buffer: &mut [u8]) -> io::Result<usize>
         ensures bound { ReadsAtMost result buffer.new }
-        ensures bytes { ReadConsumes (D.remaining self.old.device) (D.remaining self.new.device) result buffer.new }
+        ensures bytes { ReadConsumes (D.remaining self.old.device) (D.remaining self.new.device)
+            result buffer.new }
         ensures noted { NotesError self.old.error self.new.error result }
     {
         let result = self.device.read(buffer);
@@ -97,7 +98,8 @@ impl<D: Write> Write for Named<'_, D> {
 
     fn write(&mut self, bytes: &[u8]) -> io::Result<usize>
         ensures bound { WritesAtMost result bytes.now }
-        ensures bytes { WriteAppends (D.contents self.old.device) (D.contents self.new.device) result bytes.now }
+        ensures bytes { WriteAppends (D.contents self.old.device) (D.contents self.new.device)
+            result bytes.now }
         ensures noted { NotesError self.old.error self.new.error result }
     {
         let result = self.device.write(bytes);
