@@ -127,12 +127,12 @@ plan() {
 }
 
 # schedule WORD : by the plan and what has begun and ended, 'next' prints a crate to begin now, if there is one, and with
-# how many jobs; 'state' which are under way, how many are left, and about how many minutes, as far as that is known: those
+# how many jobs; 'state' which are under way, how many are left, and about how many minutes, once a tenth is done: those
 # of the longest chain, or of all that is left where few jobs run at once. The crate with the longest chain above it goes
 # first, and has two jobs where there are four.
 schedule() {
     awk -v word="$1" -v most="$most_jobs" -v now="$(now)" '
-        FNR == NR { order[++count] = $1; length_of[$1] = $2; chain[$1] = $3; below[$1] = $0; next }
+        FNR == NR { order[++count] = $1; length_of[$1] = $2; whole += $2; chain[$1] = $3; below[$1] = $0; next }
         $1 == "began" { running[$2] = $3; began[$2] = $4; used += $3 }
         $1 == "proved" {
             used -= running[$2]
@@ -153,6 +153,7 @@ schedule() {
             return own > 0 ? own : 0
         }
         END {
+            known = 10 * done > whole
             for (at = 1; at <= count; at++) {
                 crate = order[at]
                 if (crate in proved)
@@ -163,7 +164,7 @@ schedule() {
                     names = names (names == "" ? "" : ", ") crate
                 else if (!(next_crate) && is_ready(crate))
                     next_crate = crate
-                if (done > 0) {
+                if (known) {
                     all += left_of(crate) / most
                     one = left_of(crate) + (chain[crate] - length_of[crate]) * seconds / done
                     longest = one > longest ? one : longest
@@ -174,7 +175,7 @@ schedule() {
                 print next_crate, (next_crate == first && most >= 4 && used + 2 <= most ? 2 : 1)
             if (word == "state" && names != "")
                 printf "proving %s; %d of %d crates left%s\n", names, left, count,
-                    longest ? sprintf(", about %d min", int(longest / 60) + 1) : ""
+                    known ? sprintf(", about %d min", int(longest / 60) + 1) : ""
         }' "$room/plan" "$room/state"
 }
 
@@ -336,7 +337,7 @@ build() {
     : >"$room/state"
     count_jobs
     say "proving and building the program: $count crates, jobs at once: $most_jobs; the logs are in $logs"
-    say 'a first call took about 40 minutes on 4 cores of a busy machine, and 75 minutes of processor time'
+    say 'a first call took 20 or 21 minutes on 4 cores, and 42 minutes of processor time'
     say "for a first look at a small file without proof there is $top/look"
     prove_all
     clear_room
