@@ -86,6 +86,17 @@ payloads_split bytes n are long says positive fits =
 pub ends : (ps : List (List ℕ)) (n : ℕ) → n ≤ length ps → drop n ps ≡ [] → n ≡ length ps
 ends ps n h e = omega (arith, ap length e, length-drop n ps)
 
+-- an entry has two bytes at least
+two_each : (payloads : List (List ℕ)) → 2 * length payloads ≤ length (flat_map entry payloads)
+two_each [] = omega arith
+two_each (p ∷ payloads) = omega (arith, two_each payloads, length-append (entry p) (flat_map entry payloads))
+
+pub few_entries : (bytes : List ℕ) → AreBytes bytes → 2 * length (payloads_of bytes) ≤ length bytes
+few_entries bytes are =
+    let c : Contents = contents_of bytes in
+    let s : Splits bytes c = contents_splits bytes are in
+    omega (arith, two_each c.payloads, ap length s.whole, length-append (flat_map entry c.payloads) (marker c.marked ++ c.tail))
+
 -- the entries reach no further than the bytes
 pub offset_within : (bytes : List ℕ) (n : ℕ) → AreBytes bytes → offset (payloads_of bytes) n ≤ length bytes
 offset_within bytes n are =

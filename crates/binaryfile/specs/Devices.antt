@@ -1,8 +1,8 @@
 -- What a reader gave and what a writer took, and whether they have failed. `old` and `new` are the bytes that the
 -- reader has left, or that the writer has taken, before and after; they are `None` at a device that doesn't report
 -- them.
-use Rattle.std.specs.Prelude.{ℕ, ◌≤◌, ◌<◌, Bool, IsTrue, List, length, take, Option, None, Some, Result, Ok, Err}
-use Rattle.std.specs.Io.KnownBytes.{Consumes, IsAtEnd, Appends, Keeps}
+use Rattle.std.specs.Prelude.{ℕ, ◌≤◌, ◌<◌, Bool, IsTrue, List, length, take, Option, Result, Ok, Err}
+use Rattle.std.specs.Io.KnownBytes.{Consumes, IsAtEnd, Appends}
 use Rattle.binaryfile.specs.declared.sink.WriteFault.{WriteFault}
 
 -- A feed with its reader, or a sink with its writer, as contracts see it: the device, and whether it has failed.
@@ -35,8 +35,3 @@ pub record GaveUpTo (old new : Option (List ℕ)) (most : ℕ) : Type 0 where
 abbrev pub Sends : Option (List ℕ) → Option (List ℕ) → List ℕ → Result (Unit {0}) WriteFault → Type 0
 Sends old new bytes (Ok _) = Appends old new bytes
 Sends old new bytes (Err fault) = (fault.written < length bytes) × Appends old new (take fault.written bytes)
-
--- One write took the first n bytes, and at least one, or it failed and took none.
-abbrev pub TakesSome : Option (List ℕ) → Option (List ℕ) → List ℕ → Option ℕ → Type 0
-TakesSome old new bytes None = Keeps old new
-TakesSome old new bytes (Some n) = (0 < n) × (n ≤ length bytes) × Appends old new (take n bytes)

@@ -4,3 +4,4 @@ pub mod Index
 pub mod EntryLists
 pub mod Devices
 pub mod Loading
+pub mod FaultNumbers

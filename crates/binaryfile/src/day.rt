@@ -73,9 +73,9 @@ impl<A: Allocator + Copy> Day<A> {
     /// No file is refused for its form. In the course of reading the first of these is returned: [`LoadFault::Read`]
     /// where the feed fails (at once, and with no memory, where it had failed before), [`LoadFault::Memory`] where
     /// memory is refused, [`LoadFault::TooManyBytes`] where the reader gave more than `limits.bytes` bytes.
-    /// [`LoadFault::TooManyMessages`] is decided once the whole input was read, before any more memory is asked for,
-    /// which tests show. Whatever the result, at most `limits.bytes + 1` bytes are taken from the reader; there is no
-    /// day after a fault.
+    /// [`LoadFault::TooManyMessages`] is decided once the whole input was read, before any more memory is asked for
+    /// ([`Day::from_bytes`]). Whatever the result, at most `limits.bytes + 1` bytes are taken from the reader; there is
+    /// no day after a fault.
     ///
     /// ```rust
     /// let limits = Limits { bytes: 1 << 40, messages: u32::MAX };
@@ -115,6 +115,7 @@ impl<A: Allocator + Copy> Day<A> {
         ensures within { IfOk result (λ day. length day.payloads ≤ messages) }
         ensures too_many_messages { IsErrOf result LoadFault.TooManyMessages →
             HasMoreMessages bytes.items messages }
+        ensures judged { HasMoreMessages bytes.items messages → result ≡ Err LoadFault.TooManyMessages }
         ensures not_read { result ≢ Err LoadFault.Read }
         ensures not_bytes { result ≢ Err LoadFault.TooManyBytes }
     {

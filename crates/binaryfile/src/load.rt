@@ -1,6 +1,7 @@
 //! Reading the whole of an input into memory.
 ghost use Rattle.std.specs.Prelude.{◌≡◌, ◌≢◌, ◌+◌, ◌<◌, ◌≤◌, ◌^◌, ◌↔◌, length, vec_len, Ok, Err, IfOk, OnOk, IsErrOf, true, false};
 ghost use Rattle.std.specs.Io.KnownBytes.{IsAtEnd};
+ghost use Rattle.binaryfile.specs.FaultNumbers.{number_of};
 ghost use Rattle.binaryfile.specs.Devices.{HasFailed, GaveAll, GaveMore, GaveUpTo};
 ghost use Rattle.binaryfile.specs.Loading.{TookPiece};
 ghost use Rattle.binaryfile.specs.declared.load.LoadFault.TheVariants.{Memory, Read as ReadFailed};
@@ -24,6 +25,20 @@ pub enum LoadFault {
     TooManyBytes,
     /// The bytes split into more payloads than the limit.
     TooManyMessages,
+}
+
+impl LoadFault {
+    /// The fault's fixed number, from 1 to 4.
+    pub fn number(self) -> u8
+        ensures { result ≡ number_of self }
+    {
+        match self {
+            LoadFault::Memory => 1,
+            LoadFault::Read => 2,
+            LoadFault::TooManyBytes => 3,
+            LoadFault::TooManyMessages => 4,
+        }
+    }
 }
 
 impl From<AllocError> for LoadFault {

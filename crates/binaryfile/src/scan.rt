@@ -129,6 +129,7 @@ pub(crate) fn entries_within<A: Allocator>(
     ensures limit { IfOk result (λ made. made.count ≤ messages) }
     ensures index { IfOk result (λ made. IsIndex made.starts.items bytes.now) }
     ensures too_many { IsErrOf result LoadFault.TooManyMessages → messages < length (payloads_of bytes.now) }
+    ensures judged { messages < length (payloads_of bytes.now) → result ≡ Err LoadFault.TooManyMessages }
     ensures not_read { result ≢ Err LoadFault.Read }
     ensures not_bytes { result ≢ Err LoadFault.TooManyBytes }
     ensures are { AreBytes bytes.now }

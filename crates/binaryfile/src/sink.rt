@@ -1,14 +1,19 @@
 //! A writer that remembers its failure.
-ghost use Rattle.std.specs.Prelude.{◌≡◌, ◌<◌, length, IsErr, IsOk, false, is_none, IfSome, IfErr};
-ghost use Rattle.binaryfile.specs.Devices.{HasFailed, Sends, TakesSome};
+ghost use Rattle.std.specs.Prelude.{◌≡◌, ◌<◌, ◌↔◌, length, IsErr, IsOk, false, IfErr, IfOk};
+ghost use Rattle.std.specs.Io.{WritesAtMost};
+ghost use Rattle.std.specs.Io.KnownBytes.{WriteAppends};
+ghost use Rattle.std.specs.IoError.{error_kind};
+ghost use Rattle.binaryfile.specs.Devices.{HasFailed, Sends};
 
-use std::io::Write;
+use std::io;
+use std::io::{ErrorKind, Write};
 use std::marker::Model;
 
 /// A sink: a writer, and whether it has failed. It has failed from the writer's first error on, of whatever
 /// kind, or from its first write of some bytes that takes none of them.
 ///
-/// A failed sink stays as it is: its writer is not asked again. [`send`] writes to it.
+/// A failed sink stays as it is: its writer is not asked again. [`Sink::write`] writes to it once, and [`send`] until
+/// all is taken.
 #[derive(Drop)]
 pub struct Sink<W> {
     writer: W,
@@ -48,24 +53,32 @@ impl<W: Write> Sink<W> {
         self.failed
     }
 
-    // One write, which takes at least one byte where it succeeds.
-    fn write_some(&mut self, bytes: &[u8]) -> Option<usize>
-        requires { 0 < length bytes.now }
-        ensures taken { TakesSome (W.contents self.old.device) (W.contents self.new.device) bytes.now result }
-        ensures failed { self.new.failed ≡ is_none result }
-        ensures working { IfSome result (λ _. self.old.failed ≡ false) }
+    /// Writes a prefix of `bytes`, and returns how many were taken: at least one where there are some.
+    ///
+    /// An error is the writer's own, one of the kind [`ErrorKind::WriteZero`] where it took none of some bytes, or one of
+    /// the kind [`ErrorKind::Other`] where the sink had failed; no byte was taken then. That a sink fails only where its
+    /// writer did, also for no bytes, no clause can say: tests show it.
+    pub fn write(&mut self, bytes: &[u8]) -> io::Result<usize>
+        ensures within { WritesAtMost result bytes.now }
+        ensures bytes { WriteAppends (W.contents self.old.device) (W.contents self.new.device) result bytes.now }
+        ensures some { 0 < length bytes.now → IfOk result (λ count. 0 < count) }
+        // The sink has failed exactly where this write returns an error.
+        ensures failed { IsErr result ↔ HasFailed self.new }
+        // A failed sink stays as it is, and its writer is not asked.
         ensures for_good { HasFailed self.old → self.new ≡ self.old }
+        ensures other { HasFailed self.old → IfErr result (λ error. error_kind error ≡ ErrorKind.Other) }
     {
         if self.failed {
-            return None;
+            return Err(io::Error::from(ErrorKind::Other));
         }
-        match self.writer.write(bytes) {
-            Ok(count) if count > 0 => Some(count),
-            _ => {
-                self.failed = true;
-                None
-            }
+        let mut result = self.writer.write(bytes);
+        if let Ok(0) = result
+            && !bytes.is_empty()
+        {
+            result = Err(io::Error::from(ErrorKind::WriteZero));
         }
+        self.failed = result.is_err();
+        result
     }
 }
 
@@ -92,9 +105,9 @@ pub fn send<W: Write>(sink: &mut Sink<W>, bytes: &[u8]) -> Result<(), WriteFault
 {
     let mut written = 0;
     while written < bytes.len() {
-        match sink.write_some(&bytes[written..]) {
-            Some(count) => written += count,
-            None => {
+        match sink.write(&bytes[written..]) {
+            Ok(count) => written += count,
+            Err(_) => {
                 return Err(WriteFault {
                     written: written as u64,
                 });

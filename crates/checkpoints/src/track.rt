@@ -91,7 +91,7 @@ impl<'d, A: Allocator + Copy> Track<'d, A> {
         alloc: A,
         day: &'d Day<A>,
         locate: u16,
-        every: usize,
+        every: u32,
     ) -> Result<Track<'d, A>, AllocError>
         requires { 0 < every }
         ensures { IfOk result (λ track. track ≡ record {
@@ -101,7 +101,7 @@ impl<'d, A: Allocator + Copy> Track<'d, A> {
         }) }
     {
         let numbers = numbers_of(alloc, day, locate)?;
-        Track::along(alloc, day, locate, every, numbers)
+        Track::along(alloc, day, locate, every as usize, numbers)
     }
 
     /// What [`Track::make`] makes, by an index of the day and without going through the day. `every` is at least 1.

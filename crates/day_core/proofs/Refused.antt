@@ -1,6 +1,6 @@
 -- The refused messages of a day: those of each worker, and those of no stock.
 use Rattle.std.proofs.Common.{◌≡◌, ℕ, suc, ◌+◌, ◌-◌, ◌<◌, List, [], ◌∷◌, ◌++◌, length, Bool, true, false, ◌&&◌, ◌||◌, cond, eqb, ltb, get_or, filter, map, Option, Some, None, refl, sym, ap, ap₂, subst, ◌∙◌, arith, inl, inr}
-use Rattle.std.specs.List.{All, range_with_len, sum_by}
+use Rattle.std.specs.List.{All, Contains, range_with_len, sum_by}
 use Rattle.std.specs.List.Sorted.{IsNonDecreasing, IsNonDecreasingBy, IsPermutation, IsStrictlyIncreasing}
 use Rattle.std.proofs.Math.Bool.{or-false}
 use Rattle.std.proofs.lemmas.Bool.{cases_Bool, cases_eq, cases_lt, eq-eqb, le-ltb, lt-ltb, ne_eqb}
@@ -25,9 +25,9 @@ use Rattle.itch_table.specs.World.{World}
 use Rattle.itch_table.proofs.DayLocates.{range_rises}
 use Rattle.day_core.specs.declared.merging.Piece.{Piece}
 use Rattle.day_core.specs.Owners.{fixed_pieces, is_nowhere, is_own, own_of, owner, part_at, piece_of}
-use Rattle.day_core.specs.Replaying.{is_refused, refused_among, refused_by, refused_of}
+use Rattle.day_core.specs.Replaying.{OthersAreApplied, is_refused, refused_among, refused_by, refused_of}
 use Rattle.day_core.specs.Splitting.{Split}
-use Rattle.day_core.proofs.Kept.{filter-map, kept_none}
+use Rattle.day_core.proofs.Kept.{filter-map, kept_none, kept_there}
 use Rattle.day_core.proofs.Whole.{no_piece}
 
 -- ---- a stock's message is applied or refused
@@ -47,6 +47,21 @@ stock_applied day n locate is not = shape_applied (after day (n - 1)) (shape_of 
 
 abbrev pub refuses : List (List ℕ) → ℕ → Bool
 refuses day n = is_refused (outcome day n)
+
+numbers_back : (day : List (List ℕ)) (numbers : List ℕ) → map (λ (piece : Piece). piece.message) (map (piece_of day) numbers) ≡ numbers
+numbers_back day [] = refl
+numbers_back day (n ∷ numbers) = ap (λ (rest : List ℕ). n ∷ rest) (numbers_back day numbers)
+
+pub others_are_applied : OthersAreApplied
+others_are_applied day n locate some within is absent =
+    let numbers : List ℕ = filter (refuses day) (range_with_len 1 (length day)) in
+    let among : refuses day n ≡ true → Contains (map (λ (piece : Piece). piece.message) (refused_of day)) n =
+    λ on. subst (λ (xs : List ℕ). Contains xs n) (sym (numbers_back day numbers)) (kept_there (refuses day) (length day) n some within on)
+    in
+    elim (cases_Bool (refuses day n)) [
+      | inl on ↦ absurd (absent (among on))
+      | inr off ↦ stock_applied day n locate is off
+    ]
 
 -- ---- one message more
 

@@ -8,3 +8,4 @@ pub mod Replaying
 pub mod Schedules
 pub mod Splitting
 pub mod Workers
+pub mod FaultNumbers

@@ -1,13 +1,14 @@
 -- What the workers of a day make of all of it. Of this project.
 use Rattle.std.specs.Prelude.{◌≡◌, ◌-◌, ◌≤◌, ℕ, Bool, true, false, List, Option, length, map, filter, slice_index_or}
-use Rattle.std.specs.List.{range_with_len}
+use Rattle.std.specs.List.{Contains, range_with_len}
 use Rattle.itch_table.specs.declared.outcome.Outcome.{Outcome}
 use Rattle.itch_table.specs.declared.outcome.Outcome.TheVariants.{Applied, Passed, Refused}
+use Rattle.itch_table.specs.declared.outcome.Part.TheVariants.{Locate}
 use Rattle.itch_table.specs.After.{after, outcome, outcomes}
 use Rattle.itch_table.specs.Shows.{locates_of_day}
 use Rattle.stock_machine.specs.StockRows.{StockMachine}
 use Rattle.day_core.specs.declared.merging.Piece.{Piece}
-use Rattle.day_core.specs.Owners.{machine_of, own_locates, own_of, piece_of}
+use Rattle.day_core.specs.Owners.{machine_of, own_locates, own_of, part_at, piece_of}
 use Rattle.day_core.specs.Splitting.{Split}
 
 -- a stock's machine after the whole day
@@ -53,6 +54,12 @@ refused_among day numbers = map (piece_of day) (filter (λ n. is_refused (outcom
 -- the refused messages of a day, with their outcomes, by rising number
 abbrev pub refused_of : List (List ℕ) → List Piece
 refused_of day = refused_among day (range_with_len 1 (length day))
+
+-- a message of a stock whose number isn't among those of a day's refused messages was applied
+abbrev pub OthersAreApplied : Type 0
+OthersAreApplied =
+    (day : List (List ℕ)) (n locate : ℕ) → 1 ≤ n → n ≤ length day → part_at day n ≡ Locate locate
+    → ¬ Contains (map (λ piece. piece.message) (refused_of day)) n → outcome day n ≡ Applied
 
 -- the refused messages of a worker, with their outcomes, by rising number
 abbrev pub refused_by : Split → ℕ → List Piece

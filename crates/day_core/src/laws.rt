@@ -3,6 +3,7 @@ ghost use Rattle.std.specs.Prelude.{◌≡◌, ◌++◌, ◌≤◌, ℕ, List, l
 ghost use Rattle.itch_table.specs.Shows.{Shows};
 ghost use Rattle.day_core.specs.Cells.{shown};
 ghost use Rattle.day_core.specs.Owners.{machine_of, own_of, owner, progress};
+ghost use Rattle.day_core.specs.Replaying.{OthersAreApplied};
 ghost use Rattle.day_core.specs.Schedules.{SeenNeverGoesBack, done_after};
 ghost use Rattle.day_core.specs.declared.playing.Event.{Event};
 
@@ -33,4 +34,11 @@ pub fn looks_never_go_back()
         progress day workers locate (done_after day workers before (owner workers locate))
         ≤ progress day workers locate (done_after day workers (before ++ more) (owner workers locate)) }
     ensures seen { SeenNeverGoesBack }
+{}
+
+/// A day's refused messages tell what became of every message of a stock: one that isn't among them was applied. None is
+/// passed over.
+#[tactic(auto, using(crate::proofs::Refused::others_are_applied))]
+pub fn others_are_applied()
+    ensures { OthersAreApplied }
 {}

@@ -1,6 +1,7 @@
 //! The outcomes of a day, put together of pieces.
 ghost use Rattle.std.specs.Prelude.{◌≡◌, ◌++◌, ◌∷◌, ◌<◌, ◌≤◌, ◌^◌, List, [], IfErr, IfOk, MatchResult, length, map};
 ghost use Rattle.std.specs.Vec.{vec_capacity};
+ghost use Rattle.day_core.specs.FaultNumbers.{merge_number};
 ghost use Rattle.day_core.specs.Merging.{AreFilled, Found, Holds, IsEmptyAt, IsFaulty, IsMergeFault, IsMerged, joined};
 ghost use Rattle.day_core.specs.declared.merging.MergeFault.TheVariants.{Memory};
 ghost use Rattle.day_core.specs.declared.merging.Piece.{Piece};
@@ -28,6 +29,20 @@ pub enum MergeFault {
     Stranger(u32),
     /// No piece names this message, and each one below it is named.
     Missing(u32),
+}
+
+impl MergeFault {
+    /// The fault's fixed number, from 1 to 4.
+    pub fn number(self) -> u8
+        ensures { result ≡ merge_number self }
+    {
+        match self {
+            MergeFault::Memory => 1,
+            MergeFault::Double(_) => 2,
+            MergeFault::Stranger(_) => 3,
+            MergeFault::Missing(_) => 4,
+        }
+    }
 }
 
 impl From<AllocError> for MergeFault {

@@ -1,5 +1,6 @@
 //! A day, split into the parts of its workers.
 ghost use Rattle.std.specs.Prelude.{◌≡◌, ◌<◌, ◌≤◌, ◌⊎◌, ◌↔◌, IfOk, IsErrOf};
+ghost use Rattle.day_core.specs.FaultNumbers.{split_number};
 ghost use Rattle.day_core.specs.declared.splitting.SplitFault.TheVariants.{Memory};
 
 use crate::dealing::{MANY, deal};
@@ -23,6 +24,18 @@ pub enum SplitFault {
     Memory,
     /// The number of workers isn't from 1 to 64.
     Workers,
+}
+
+impl SplitFault {
+    /// The fault's fixed number, from 1 to 2.
+    pub fn number(self) -> u8
+        ensures { result ≡ split_number self }
+    {
+        match self {
+            SplitFault::Memory => 1,
+            SplitFault::Workers => 2,
+        }
+    }
 }
 
 impl From<AllocError> for SplitFault {

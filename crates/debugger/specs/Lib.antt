@@ -1,3 +1,4 @@
 pub mod Stops
 pub mod Finding
 pub mod Sessions
+pub mod FaultNumbers

@@ -2,6 +2,7 @@
 ghost use Rattle.std.specs.Prelude.{◌≡◌, ◌≢◌, ◌↔◌, ◌+◌, ◌-◌, ◌<◌, ◌≤◌, Contains, Err, IfNone, IfOk, IfSome, IsErrOf, None, OnErr, OnOk, Some, length, slice_get, ℕ};
 ghost use Rattle.itch_table.specs.After.{after};
 ghost use Rattle.day_core.specs.Owners.{machine_of};
+ghost use Rattle.debugger.specs.FaultNumbers.{number_of};
 ghost use Rattle.debugger.specs.Sessions.{moved_to, new_session, next_stop, outcome_at, previous_stop, with_break, without_break};
 ghost use Rattle.debugger.specs.Stops.{hit};
 ghost use Rattle.debugger.specs.declared.debugging.DebugFault.TheVariants.{Memory};
@@ -26,6 +27,19 @@ pub enum DebugFault {
     PastEnd,
     /// The move leads before position 0.
     BeforeStart,
+}
+
+impl DebugFault {
+    /// The fault's fixed number, from 1 to 3.
+    pub fn number(self) -> u8
+        ensures { result ≡ number_of self }
+    {
+        match self {
+            DebugFault::Memory => 1,
+            DebugFault::PastEnd => 2,
+            DebugFault::BeforeStart => 3,
+        }
+    }
 }
 
 impl From<AllocError> for DebugFault {

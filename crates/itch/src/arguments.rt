@@ -5,7 +5,7 @@ ghost use Rattle.clap.specs.declared.error.kind.ErrorKind.TheVariants.{DisplayHe
 
 use clap::{Arg, ArgAction, ArgMatches, Command, Error, value_parser};
 use day_core::WorkerCount;
-use itch_readings::{Selection, StockName};
+use itch_readings::Selection;
 use std::alloc::{AllocError, Global};
 
 /// What FILE is.
@@ -234,32 +234,6 @@ fn disassembling<'a>(dis: &ArgMatches<'a>, file: &'a str) -> Task<'a> {
             last: last.unwrap_or(u32::MAX),
         },
     }
-}
-
-// The symbol of this text, padded with spaces; none where it is longer than eight bytes.
-fn symbol_of(text: &[u8]) -> Option<[u8; 8]> {
-    if text.len() > 8 {
-        return None;
-    }
-    let mut symbol = [b' '; 8];
-    for (index, byte) in text.iter().enumerate() {
-        symbol[index] = *byte;
-    }
-    Some(symbol)
-}
-
-/// The stock that a word names: by a symbol, which may stand between quotes, or by a locate code in digits; none where
-/// the word is neither.
-pub fn stock_name(word: &str) -> Option<StockName> {
-    let text = word.as_bytes();
-    if text.iter().all(|byte| byte.is_ascii_digit()) {
-        return Some(StockName::Locate(word.parse().ok()?));
-    }
-    let symbol = match text {
-        [b'"', symbol @ .., b'"'] => symbol,
-        _ => text,
-    };
-    Some(StockName::Symbol(symbol_of(symbol)?))
 }
 
 // To replay a file, where the arguments ask for it.

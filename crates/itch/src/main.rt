@@ -14,7 +14,7 @@ use day_core::WorkerCount;
 use itch_debug::debug_run;
 use itch_engine::limits::{MOST_FILE_BYTES, MOST_MESSAGES};
 use itch_engine::{ProgFault, asm_run, dis_between_run, dis_run, hex_run, replay_run, status};
-use itch_readings::{Selection, StockName, stocks_run, tops_run};
+use itch_readings::{Selection, StockFault, StockName, stocks_run, tops_run};
 use itch_watch::watch_run;
 use named_files::{Failure, Named, Replacement, is_same_file};
 use progress::Progress;
@@ -55,20 +55,20 @@ fn end(rt: &impl Eprint, terminals: Terminals, ended: Ended) -> ExitCode {
             {
                 let _ = eprintln!(rt; "itch: {failure}");
             }
-            ExitCode::from(status(&Err(fault)))
+            ExitCode::from(fault.status())
         }
     }
 }
 
 // How a run ended whose input and output are these: they know why they failed.
-fn ended<'a, D, W>(
-    run: Result<u32, ProgFault>,
+fn ended<'a, F: Into<StockFault>, D, W>(
+    run: Result<u32, F>,
     input: &Named<'a, D>,
     output: &Named<'a, W>,
 ) -> Ended<'a> {
     match run {
         Ok(refused) => Ok(refused),
-        Err(fault) => Err(Stop::Fault(fault, input.failure().or(output.failure()))),
+        Err(fault) => Err(Stop::Fault(fault.into(), input.failure().or(output.failure()))),
     }
 }
 
@@ -78,7 +78,7 @@ fn open<'a, R: Runtime>(rt: &R, path: &'a str) -> Result<Named<'a, R::File>, Sto
         Ok(file) => Ok(Named::new(path, file)),
         Err(error) => {
             let failure = Failure::new(path, error);
-            Err(Stop::Fault(ProgFault::Read, Some(failure)))
+            Err(Stop::Fault(ProgFault::Read.into(), Some(failure)))
         }
     }
 }
@@ -177,9 +177,9 @@ fn list_stocks<'a, R: Runtime + AllocGlobal>(
 
 // The stock that a word names.
 fn named_stock<'a>(word: &str) -> Result<StockName, Stop<'a>> {
-    match arguments::stock_name(word) {
+    match StockName::of_word(word) {
         Some(name) => Ok(name),
-        None => Err(Stop::Fault(ProgFault::NoStock, None)),
+        None => Err(Stop::Fault(StockFault::NoStock, None)),
     }
 }
 
@@ -230,7 +230,7 @@ fn assemble<'a, R: Runtime + AllocGlobal>(rt: &R, text: &'a str, out: &'a str) -
         return Err(Stop::Misuse("TEXT and OUT are the same file"));
     }
     let Ok(replacement) = Replacement::new(rt, rt.alloc(), out) else {
-        return Err(Stop::Fault(ProgFault::Memory, None));
+        return Err(Stop::Fault(ProgFault::Memory.into(), None));
     };
     let mut output = Named::new(out, replacement);
     let run = asm_run(
@@ -246,7 +246,7 @@ fn assemble<'a, R: Runtime + AllocGlobal>(rt: &R, text: &'a str, out: &'a str) -
     }
     match replacement.finish() {
         Ok(()) => assembled,
-        Err(error) => Err(Stop::Fault(ProgFault::Write, Some(Failure::new(out, error)))),
+        Err(error) => Err(Stop::Fault(ProgFault::Write.into(), Some(Failure::new(out, error)))),
     }
 }
 
@@ -350,7 +350,11 @@ fn refuse(rt: &impl Eprint, why: &str) -> ExitCode {
 // Ends where the arguments were refused memory.
 fn refuse_memory(rt: &impl Eprint) -> ExitCode {
     let terminals = Terminals::default();
-    end(rt, terminals, Err(Stop::Fault(ProgFault::Memory, None)))
+    end(
+        rt,
+        terminals,
+        Err(Stop::Fault(ProgFault::Memory.into(), None)),
+    )
 }
 
 // Ends where the arguments can't be taken: one of them isn't UTF-8, or memory was refused.

@@ -5,9 +5,9 @@ ghost use Rattle.itch_engine.specs.ExitStatus.{exit_status};
 use crate::fault::ProgFault;
 use itch_text::AsmFault;
 
-/// The exit status for what an engine returned: 0 where no message was refused, 1 where some were, 2
-/// where the day hasn't the stock that was asked for, 3 where input or output failed and where a file or its digits
-/// aren't taken, 4 where memory was refused, and 5 where a line of a text is faulty.
+/// The exit status for what an engine returned: 0 where no message was refused, 1 where some were, 3 where input or
+/// output failed and where a file or its digits aren't taken, 4 where memory was refused, and 5 where a line of a text is
+/// faulty. 2 is for invalid arguments.
 pub fn status(returned: &Result<u32, ProgFault>) -> u8
     ensures { result ≡ exit_status returned.now }
 {
@@ -15,7 +15,6 @@ pub fn status(returned: &Result<u32, ProgFault>) -> u8
         Ok(0) => 0,
         Ok(_) => 1,
         Err(ProgFault::Memory | ProgFault::Asm(AsmFault::Memory)) => 4,
-        Err(ProgFault::NoStock) => 2,
         Err(ProgFault::Asm(_)) => 5,
         Err(
             ProgFault::Read

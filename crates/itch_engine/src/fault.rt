@@ -30,9 +30,6 @@ pub enum ProgFault {
     /// The output couldn't be written.
     #[error("write failed")]
     Write,
-    /// The day has no message of the stock that was asked for.
-    #[error("no such stock")]
-    NoStock,
     /// A line of the text is faulty.
     #[error(transparent)]
     Asm(AsmFault),

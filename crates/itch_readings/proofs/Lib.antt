@@ -3,3 +3,4 @@ mod NextMoment
 mod Listing
 mod Named
 mod Segmented
+mod WordNames

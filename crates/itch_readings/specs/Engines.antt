@@ -1,15 +1,17 @@
 -- What the engines of readings make of an input, and the faults that they find in one.
-use Rattle.std.specs.Prelude.{◌≡◌, ◌⊎◌, ◌^◌, ◌-◌, ◌≤◌, ℕ, List, Option, Some, None, length}
-use Rattle.binaryfile.specs.Devices.{GaveAll, GaveMore}
+use Rattle.std.specs.Prelude.{◌≡◌, ◌^◌, ◌-◌, ◌≤◌, ℕ, List, Option, Some, None, Result, Ok, Err, length}
+use Rattle.binaryfile.specs.Devices.{Device, GaveAll, GaveMore, HasFailed}
 use Rattle.binaryfile.specs.Entries.{Contents, Splits}
 use Rattle.itch_engine.specs.ReplayEngines.{HasTooManyMessages}
-use Rattle.itch_engine.specs.Runs.{Engine}
+use Rattle.itch_engine.specs.Runs.{Engine, Runs}
 use Rattle.itch_engine.specs.declared.fault.ProgFault.{ProgFault}
-use Rattle.itch_engine.specs.declared.fault.ProgFault.TheVariants.{Memory, NoStock, Read, TooManyBytes, Write}
+use Rattle.itch_engine.specs.declared.fault.ProgFault.TheVariants.{Memory, Read, TooManyBytes, Write}
 use Rattle.itch_readings.specs.Naming.{AreListed, locate_of}
 use Rattle.itch_readings.specs.StockLines.{listed_lines}
 use Rattle.itch_readings.specs.TopLines.{tops_text}
 use Rattle.itch_readings.specs.Tops.{tops_of}
+use Rattle.itch_readings.specs.declared.fault.StockFault.{StockFault}
+use Rattle.itch_readings.specs.declared.fault.StockFault.TheVariants.{NoStock, Engine as OfEngine}
 use Rattle.itch_readings.specs.declared.naming.Listed.{Listed}
 use Rattle.itch_readings.specs.declared.naming.StockName.{StockName}
 use Rattle.itch_readings.specs.declared.top_lines.Selection.{Selection}
@@ -56,12 +58,33 @@ pub record PrintsTops (name : StockName) (selection : Selection) (input text : L
   pub printed : text ≡ tops_text selection (tops_of contents.payloads locate)
 
 -- The file has no message of the stock that is named.
-pub record LacksStock (name : StockName) (input : List ℕ) (fault : ProgFault) : Type 0 where
-  pub is : fault ≡ NoStock
+pub record LacksStock (name : StockName) (input : List ℕ) : Type 0 where
   pub contents : Contents
   pub listed : List Listed
   pub stocks : HasStocks input contents listed
   pub none : locate_of listed name ≡ None
+
+-- The reader gave a whole input of no more bytes than the engine takes, which lacks the stock, and nothing was sent.
+pub record FindsNoStock {A R W : Type 0} (engine : Engine A) (name : StockName) (left : R → Option (List ℕ))
+    (feed fed : Device R) (sink sent : Device W) : Type 0 where
+  pub input : List ℕ
+  pub gave : GaveAll (left feed.device) (left fed.device) input
+  pub within : length input ≤ engine.most
+  pub lacks : LacksStock name input
+  pub works : ¬ HasFailed fed
+  pub nothing_sent : sent ≡ sink
+
+-- A run of an engine of one stock, from its feed and its sink as they were to what they are after it: that of any engine,
+-- or the input lacks the stock.
+abbrev pub RunsOnStock : {A R W : Type 0} → Engine A → StockName
+    → (R → Option (List ℕ)) → (W → Option (List ℕ))
+    → Device R → Device R → Device W → Device W → Result A StockFault → Type 0
+RunsOnStock engine name left taken feed fed sink sent (Ok result) =
+    Runs engine left taken feed fed sink sent (Ok result)
+RunsOnStock engine name left taken feed fed sink sent (Err (OfEngine fault)) =
+    Runs engine left taken feed fed sink sent (Err fault)
+RunsOnStock engine name left taken feed fed sink sent (Err NoStock) =
+    FindsNoStock engine name left feed fed sink sent
 
 -- the engine that reads a day file and writes the lines of its stocks
 abbrev pub stock_lister : Engine (Unit {0})
@@ -76,5 +99,5 @@ abbrev pub tops_printer : StockName → Selection → Engine (Unit {0})
 tops_printer name selection = record {
   most = 2 ^ 40;
   Makes = λ input output _. PrintsTops name selection input output;
-  Finds = λ input fault. HasTooManyMessages input fault ⊎ LacksStock name input fault;
+  Finds = HasTooManyMessages;
 }

@@ -1,14 +1,19 @@
 -- The stocks of a day, and how they are named. The directory message is Nasdaq TotalView-ITCH 5.0's "Stock Directory";
 -- the rest is of this project.
-use Rattle.std.specs.Prelude.{◌≡◌, ◌+◌, ◌<◌, ℕ, zero, suc, Bool, false, nat_lt, if◌then◌else◌, List, [], ◌∷◌, length, Option, Some, None, slice_get, slice_index_or}
+use Rattle.std.specs.Prelude.{◌≡◌, ◌+◌, ◌<◌, ◌&&◌, ℕ, zero, suc, Bool, false, nat_lt, nat_le, if◌then◌else◌, List, [], ◌∷◌, length, Option, Some, None, option_map, slice_get, slice_index_or, unwrap_or}
+use Rattle.std.specs.Char.{is_ascii_digit}
+use Rattle.std.specs.List.{list_all}
 use Rattle.std.specs.Option.{option_or}
 use Rattle.std.specs.Str.{bytes_eq}
+use Rattle.std.specs.Str.Parse.{digits_value}
 use Rattle.itch_layouts.specs.Shapes.{shape_of}
 use Rattle.itch_layouts.specs.declared.message.Msg.TheVariants.{Directory}
 use Rattle.itch_layouts.specs.declared.shape.Shape.{Shape}
 use Rattle.itch_layouts.specs.declared.shape.Shape.TheVariants.{Known}
 use Rattle.itch_table.specs.Projection.{is_of_stock, steps_of}
 use Rattle.itch_table.specs.Shows.{HasMessage}
+use Rattle.itch_text.specs.Parsing.{between_quotes}
+use Rattle.itch_text.specs.Values.{padded}
 use Rattle.itch_readings.specs.declared.naming.Listed.{Listed}
 use Rattle.itch_readings.specs.declared.naming.StockName.{StockName}
 use Rattle.itch_readings.specs.declared.naming.StockName.TheVariants.{Locate, Symbol}
@@ -44,6 +49,28 @@ pub record AreListed (day : List (List ℕ)) (n : ℕ) (listed : List Listed) : 
   pub long : length listed ≡ 0x1_0000
   pub each : (locate : ℕ) (d : Listed) → locate < 0x1_0000
       → slice_index_or listed locate d ≡ listed_until day n locate
+
+-- ---- how a word names a stock
+
+-- the locate code that decimal digits write: at least one, of a value below 65,536
+abbrev pub code_of : List ℕ → Option ℕ
+code_of digits =
+    if nat_lt 0 (length digits) && nat_lt (digits_value 10 digits) 0x1_0000
+    then Some (digits_value 10 digits) else None
+
+-- a word without its quotes, where it stands between two
+abbrev pub unquoted : List ℕ → List ℕ
+unquoted word = unwrap_or (between_quotes word) word
+
+-- the symbol of a text: at most eight bytes, filled up with spaces
+abbrev pub symbol_of : List ℕ → Option (List ℕ)
+symbol_of text = if nat_le (length text) 8 then Some (padded 8 text) else None
+
+-- the stock that a word names, if it names one: digits alone are a locate code, and any other word is a symbol
+abbrev pub named_by : List ℕ → Option StockName
+named_by word =
+    if list_all is_ascii_digit word then option_map Locate (code_of word)
+    else option_map Symbol (symbol_of (unquoted word))
 
 -- ---- the stock that is named
 

@@ -1,10 +1,11 @@
 //! The engines that read a day file and write of its stocks.
-ghost use Rattle.std.specs.Prelude.{◌≡◌, ◌+◌, ◌↔◌, IfOk, IfErr, IsErrOf};
+ghost use Rattle.std.specs.Prelude.{◌≡◌, ◌+◌, ◌↔◌, IfOk, IfErr, IsErrOf, MatchOption};
 ghost use Rattle.binaryfile.specs.Devices.{GaveUpTo, HasFailed};
 ghost use Rattle.itch_engine.specs.declared.limits.TheConstants.{MOST_FILE_BYTES};
 ghost use Rattle.itch_engine.specs.Runs.{Fails, Runs};
-ghost use Rattle.itch_readings.specs.Engines.{GaveStocks, PrintsTops, StopsReading, stock_lister, tops_printer};
+ghost use Rattle.itch_readings.specs.Engines.{GaveStocks, LacksStock, PrintsTops, RunsOnStock, StopsReading, stock_lister, tops_printer};
 
+use crate::fault::StockFault;
 use crate::moments::tops;
 use crate::naming::{Listed, StockName, list_more, list_stocks, locate_of, unlisted};
 use crate::stock_lines::put_stocks;
@@ -83,25 +84,27 @@ pub fn stocks_run<A: Allocator + Copy, R: Read, W: Write>(
     Ok(())
 }
 
-// The lines of the best bid and ask of a file's stock.
+// The lines of the best bid and ask of a file's stock; none where the file hasn't the stock.
 fn tops_of_file<A: Allocator + Copy>(
     alloc: A,
     input: Vec<u8, A>,
     name: StockName,
     selection: Selection,
-) -> Result<Vec<u8, A>, ProgFault>
-    ensures text { IfOk result (λ text. PrintsTops name selection input.items text.items) }
+) -> Result<Option<Vec<u8, A>>, ProgFault>
+    ensures text { IfOk result (λ found. MatchOption found
+        (LacksStock name input.items)
+        (λ text. PrintsTops name selection input.items text.items)) }
     ensures fault { IfErr result (Fails (tops_printer name selection) input.items) }
 {
     let day = Day::from_bytes(alloc, input, MOST_MESSAGES)?;
     let listed = list_stocks(alloc, &day)?;
     let Some(locate) = locate_of(&listed, name) else {
-        return Err(ProgFault::NoStock);
+        return Ok(None);
     };
     let moments = tops(alloc, &day, locate)?;
     let mut text = Vec::new(alloc);
     put_tops(&mut text, selection, &moments)?;
-    Ok(text)
+    Ok(Some(text))
 }
 
 /// Reads a day file and writes the best bid and ask of one of its stocks after each message of the stock that changes
@@ -109,20 +112,22 @@ fn tops_of_file<A: Allocator + Copy>(
 /// message, its time in nanoseconds since midnight, the bid's price and shares, and the ask's. Prices are in 1/10,000
 /// of a currency unit; the fields of an empty side are empty.
 ///
-/// One machine takes the messages of this stock alone. [`ProgFault::NoStock`] comes where the day has no message of the
-/// stock; other faults are those of [`stocks_run`].
+/// One machine takes the messages of this stock alone. [`StockFault::NoStock`] comes where the day has no message of the
+/// stock, and nothing was sent then; other faults are those of [`stocks_run`].
 pub fn tops_run<A: Allocator + Copy, R: Read, W: Write>(
     alloc: A,
     feed: &mut Feed<R>,
     sink: &mut Sink<W>,
     name: StockName,
     selection: Selection,
-) -> Result<(), ProgFault>
-    ensures { Runs (tops_printer name selection)
+) -> Result<(), StockFault>
+    ensures { RunsOnStock (tops_printer name selection) name
         R.remaining W.contents feed.old feed.new sink.old sink.new result }
 {
     let input = read_to_end(alloc, feed, MOST_FILE_BYTES)?;
-    let text = tops_of_file(alloc, input, name, selection)?;
+    let Some(text) = tops_of_file(alloc, input, name, selection)? else {
+        return Err(StockFault::NoStock);
+    };
     send(sink, &text)?;
     Ok(())
 }

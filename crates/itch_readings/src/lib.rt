@@ -5,14 +5,18 @@
 //! | [`stocks_run`] | a day file | a line for each of its stocks |
 //! | [`tops_run`] | a day file | a stock's best bid and ask after each of its messages, or each that changes them |
 //!
-//! They meet the contract of the engines of `itch_engine`, `Runs`.
+//! They meet the contract of the engines of `itch_engine`, `Runs`, but that [`tops_run`] may find that the day hasn't the
+//! stock ([`StockFault`]).
 //!
 //! [`tops`] is the best bid and ask of a stock after each of its messages, and [`list_stocks`] has the symbol and the
-//! number of messages of each stock; [`locate_of`] finds the stock that a name names in that list.
+//! number of messages of each stock; [`StockName::of_word`] reads the name of a stock, and [`locate_of`] finds the stock
+//! that it names in that list.
 //!
 //! ```rust
 //! let listed = list_stocks(alloc, &day)?;
-//! if let Some(locate) = locate_of(&listed, StockName::Symbol(*b"AAPL    ")) {
+//! if let Some(name) = StockName::of_word("AAPL")
+//!     && let Some(locate) = locate_of(&listed, name)
+//! {
 //!     let moments = tops(alloc, &day, locate)?;
 //! }
 //! ```
@@ -22,12 +26,14 @@
 #![tactic(auto)]
 
 mod engines;
+mod fault;
 mod moments;
 mod naming;
 mod stock_lines;
 mod top_lines;
 
 pub use engines::{stocks_run, tops_run};
+pub use fault::StockFault;
 pub use moments::{Moment, tops};
 pub use naming::{Listed, StockName, list_stocks, locate_of, named_stocks_have_messages};
 pub use top_lines::Selection;

@@ -1,6 +1,8 @@
 //! The stocks of a day, and how they are named.
-ghost use Rattle.std.specs.Prelude.{ℕ, ◌≡◌, ◌≤◌, ◌<◌, ◌+◌, ◌^◌, ◌++◌, List, [], IfOk, length, slice_get};
-ghost use Rattle.itch_readings.specs.Naming.{AreListed, NamedHaveMessages, first_with, has_messages, has_symbol, locate_of, symbol_by};
+ghost use Rattle.std.specs.Prelude.{ℕ, ◌≡◌, ◌≤◌, ◌<◌, ◌+◌, ◌^◌, ◌++◌, List, [], IfOk, IsTrue, length, slice_get};
+ghost use Rattle.std.specs.Char.{is_ascii_digit};
+ghost use Rattle.std.specs.List.{list_all};
+ghost use Rattle.itch_readings.specs.Naming.{AreListed, NamedHaveMessages, code_of, first_with, has_messages, has_symbol, locate_of, named_by, symbol_by, symbol_of, unquoted};
 ghost use Rattle.itch_table.specs.declared.parts.TheConstants.{LOCATES};
 
 use binaryfile::Day;
@@ -15,6 +17,61 @@ pub enum StockName {
     Locate(u16),
     /// By its symbol, padded with spaces to eight bytes.
     Symbol([u8; 8]),
+}
+
+// Whether a word has decimal digits alone.
+fn are_digits(word: &[u8]) -> bool
+    ensures { result ≡ list_all is_ascii_digit word.now }
+{
+    word.iter().all(|byte| byte.is_ascii_digit())
+}
+
+// The locate code that decimal digits write; none where there is no digit, or their value needs more than 16 bits.
+fn code_of(digits: &str) -> Option<u16>
+    ensures { IsTrue (list_all is_ascii_digit digits.now) → result ≡ code_of digits.now }
+{
+    digits.parse().ok()
+}
+
+// A word without its quotes, where it stands between two.
+#[tactic(auto, unfolding(itch_text::specs::Parsing::between_quotes))]
+fn unquoted(word: &[u8]) -> &[u8]
+    ensures { result.now ≡ unquoted word.now }
+{
+    if word.len() >= 2 && word[0] == b'"' && word[word.len() - 1] == b'"' {
+        &word[1..word.len() - 1]
+    } else {
+        word
+    }
+}
+
+// The symbol of a text, padded with spaces; none where the text is longer than eight bytes.
+fn symbol_of(text: &[u8]) -> Option<[u8; 8]>
+    ensures { result ≡ symbol_of text.now }
+{
+    if text.len() > 8 {
+        return None;
+    }
+    let mut symbol = [b' '; 8];
+    for (index, byte) in text.iter().enumerate() {
+        symbol[index] = *byte;
+    }
+    Some(symbol)
+}
+
+impl StockName {
+    /// The stock that a word names. Decimal digits alone are a locate code, and any other word is a symbol, which may
+    /// stand between quotes. None where the word is empty, a locate code would be above 65,535, or a symbol is longer
+    /// than eight bytes. Whether a day has the stock isn't asked.
+    pub fn of_word(word: &str) -> Option<StockName>
+        ensures { result ≡ named_by word.now }
+    {
+        if are_digits(word.as_bytes()) {
+            return Some(StockName::Locate(code_of(word)?));
+        }
+        let symbol = unquoted(word.as_bytes());
+        Some(StockName::Symbol(symbol_of(symbol)?))
+    }
 }
 
 /// What a day's messages say of the stock of a locate code.

@@ -10,3 +10,4 @@ pub mod Parsing
 pub mod Fields
 pub mod Names
 pub mod Steps
+pub mod FaultNumbers

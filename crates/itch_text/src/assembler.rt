@@ -1,5 +1,6 @@
 //! From a text to the bytes of a file.
 ghost use Rattle.std.specs.Prelude.{◌≡◌, ◌≢◌, IfOk, IfErr};
+ghost use Rattle.itch_text.specs.FaultNumbers.{number_of};
 ghost use Rattle.itch_text.specs.Text.{Text};
 ghost use Rattle.itch_text.specs.Blames.{Blames, DenotesNothing};
 ghost use Rattle.itch_text.specs.Steps.{fault_at};
@@ -31,6 +32,20 @@ pub enum AsmFault {
     /// nowhere but after `end`.
     #[error("line {0}: after end")]
     AfterEnd(u64),
+}
+
+impl AsmFault {
+    /// The fault's fixed number, from 1 to 4.
+    pub fn number(self) -> u8
+        ensures { result ≡ number_of self }
+    {
+        match self {
+            AsmFault::Memory => 1,
+            AsmFault::Mnemonic(_) => 2,
+            AsmFault::Field(_) => 3,
+            AsmFault::AfterEnd(_) => 4,
+        }
+    }
 }
 
 // The fault of a text whose line of this number was not taken.

@@ -1,9 +1,9 @@
 -- What the engine of a screen makes of an input, and the faults that it finds in one.
-use Rattle.std.specs.Prelude.{◌≡◌, ◌⊎◌, ◌^◌, ℕ, List, Some}
+use Rattle.std.specs.Prelude.{◌≡◌, ◌^◌, ℕ, List, Some}
 use Rattle.binaryfile.specs.Entries.{Contents}
 use Rattle.itch_engine.specs.ReplayEngines.{HasTooManyMessages}
 use Rattle.itch_engine.specs.Runs.{Engine}
-use Rattle.itch_readings.specs.Engines.{HasStocks, LacksStock}
+use Rattle.itch_readings.specs.Engines.{HasStocks}
 use Rattle.itch_readings.specs.Naming.{locate_of}
 use Rattle.itch_readings.specs.declared.naming.Listed.{Listed}
 use Rattle.itch_readings.specs.declared.naming.StockName.{StockName}
@@ -27,5 +27,5 @@ abbrev pub watcher : StockName → Engine (Unit {0})
 watcher name = record {
   most = 2 ^ 40;
   Makes = λ input output _. PrintsSeen name input output;
-  Finds = λ input fault. HasTooManyMessages input fault ⊎ LacksStock name input fault;
+  Finds = HasTooManyMessages;
 }

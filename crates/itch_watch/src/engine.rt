@@ -1,6 +1,7 @@
 //! The engine that reads a day file, replays it, and writes what a screen of one of its stocks sees meanwhile.
-ghost use Rattle.std.specs.Prelude.{◌≡◌, IfOk, IfErr};
-ghost use Rattle.itch_engine.specs.Runs.{Fails, Runs};
+ghost use Rattle.std.specs.Prelude.{◌≡◌, IfOk, IfErr, MatchOption};
+ghost use Rattle.itch_engine.specs.Runs.{Fails};
+ghost use Rattle.itch_readings.specs.Engines.{LacksStock, RunsOnStock};
 ghost use Rattle.itch_watch.specs.Engines.{PrintsSeen, watcher};
 
 use crate::lines::put_readings;
@@ -9,7 +10,7 @@ use binaryfile::{Day, Feed, Sink, read_to_end, send};
 use day_core::WorkerCount;
 use itch_engine::ProgFault;
 use itch_engine::limits::{MOST_FILE_BYTES, MOST_MESSAGES};
-use itch_readings::{StockName, list_stocks, locate_of, named_stocks_have_messages};
+use itch_readings::{StockFault, StockName, list_stocks, locate_of, named_stocks_have_messages};
 use std::alloc::Allocator;
 use std::io::{Read, Write};
 use std::sync::Wait;
@@ -17,7 +18,7 @@ use std::sync::atomic::AtomicU64;
 use std::thread::Threads;
 use stock_workers::Gate;
 
-// The lines of what a screen sees of a file's stock.
+// The lines of what a screen sees of a file's stock; none where the file hasn't the stock.
 fn seen_of_file<R: Threads + Wait + Sync, A: Allocator + Copy + Send + Sync, G: Gate>(
     rt: &R,
     alloc: A,
@@ -26,8 +27,9 @@ fn seen_of_file<R: Threads + Wait + Sync, A: Allocator + Copy + Send + Sync, G: 
     workers: WorkerCount,
     gate: &G,
     seen: &AtomicU64,
-) -> Result<Vec<u8, A>, ProgFault>
-    ensures text { IfOk result (λ text. PrintsSeen name input.items text.items) }
+) -> Result<Option<Vec<u8, A>>, ProgFault>
+    ensures text { IfOk result (λ found. MatchOption found
+        (LacksStock name input.items) (λ text. PrintsSeen name input.items text.items)) }
     ensures fault { IfErr result (Fails (watcher name) input.items) }
 {
     // A law that the proof cites: it does nothing.
@@ -35,12 +37,12 @@ fn seen_of_file<R: Threads + Wait + Sync, A: Allocator + Copy + Send + Sync, G: 
     let day = Day::from_bytes(alloc, input, MOST_MESSAGES)?;
     let listed = list_stocks(alloc, &day)?;
     let Some(locate) = locate_of(&listed, name) else {
-        return Err(ProgFault::NoStock);
+        return Ok(None);
     };
     let readings = watch_stock(rt, alloc, &day, locate, workers, gate, seen)?;
     let mut text = Vec::new(alloc);
     put_readings(&mut text, &readings)?;
-    Ok(text)
+    Ok(Some(text))
 }
 
 /// Reads a day file, replays it by 1 to 64 workers, and writes what a screen of one of its stocks sees meanwhile: a
@@ -52,8 +54,8 @@ fn seen_of_file<R: Threads + Wait + Sync, A: Allocator + Copy + Send + Sync, G: 
 /// The screen has a thread of its own beside those of the workers; each worker calls the gate before each of its
 /// messages, and may wait there. What `seen` is for, and what such a gate has to heed, is said at
 /// [`crate::watch_stock`].
-/// [`ProgFault::NoStock`] comes where the day has no message of the stock; other faults are those of
-/// [`itch_engine::replay_run`].
+/// [`StockFault::NoStock`] comes where the day has no message of the stock, and nothing was sent then; other faults are
+/// those of [`itch_engine::replay_run`].
 pub fn watch_run<
     T: Threads + Wait + Sync,
     A: Allocator + Copy + Send + Sync,
@@ -69,11 +71,14 @@ pub fn watch_run<
     workers: WorkerCount,
     gate: &G,
     seen: &AtomicU64,
-) -> Result<(), ProgFault>
-    ensures { Runs (watcher name) R.remaining W.contents feed.old feed.new sink.old sink.new result }
+) -> Result<(), StockFault>
+    ensures { RunsOnStock (watcher name) name
+        R.remaining W.contents feed.old feed.new sink.old sink.new result }
 {
     let input = read_to_end(alloc, feed, MOST_FILE_BYTES)?;
-    let text = seen_of_file(rt, alloc, input, name, workers, gate, seen)?;
+    let Some(text) = seen_of_file(rt, alloc, input, name, workers, gate, seen)? else {
+        return Err(StockFault::NoStock);
+    };
     send(sink, &text)?;
     Ok(())
 }

@@ -1,7 +1,7 @@
 //! A screen of one stock, which looks at its best bid and ask while workers replay the day.
 //!
 //! [`watch_stock`] gives what the screen has seen, and [`watch_run`] writes it: the engine reads a day file, and meets
-//! the contract of the engines of `itch_engine`, `Runs`. What a screen sees depends on how the threads run. That each
+//! the contract of engines of one stock of `itch_readings`. What a screen sees depends on how the threads run. That each
 //! reading is the stock's best bid and ask after its message, that their numbers rise and that the last is the stock's
 //! last doesn't.
 //!

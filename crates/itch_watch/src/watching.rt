@@ -29,7 +29,7 @@ const TRIES: u32 = 4;
 pub fn watch<R: Wait, A: Allocator + Copy>(
     rt: &R,
     alloc: A,
-    board: &Board<'_, A>,
+    board: &Board<A>,
     mut screen: Screen,
     seen: &AtomicU64,
     ended: &AtomicU64,
@@ -72,7 +72,7 @@ fn index_of(writers: &[TopWriter], locate: u16) -> usize
 
 // A screen of a stock, and the index of the stock's writer.
 fn screen_of<A: Allocator>(
-    board: &Board<'_, A>,
+    board: &Board<A>,
     writers: &mut Vec<TopWriter, A>,
     locate: u16,
 ) -> (usize, Screen)
@@ -86,11 +86,7 @@ fn screen_of<A: Allocator>(
 }
 
 // The reading of a stock's last message, at which its writer stands.
-fn last_reading<R: Wait, A: Allocator>(
-    rt: &R,
-    board: &Board<'_, A>,
-    writer: &mut TopWriter,
-) -> Reading
+fn last_reading<R: Wait, A: Allocator>(rt: &R, board: &Board<A>, writer: &mut TopWriter) -> Reading
     requires own { IsOn board.now writer.old.place }
     requires quiet { IsQuiet writer.old.place.day writer.old.place.locate writer.old.message
         (length writer.old.place.day) }
@@ -127,7 +123,7 @@ fn look_and_replay<R: Threads + Wait + Sync, A: Allocator + Copy + Send + Sync, 
     rt: &R,
     alloc: A,
     parts: &Parts<'_, A>,
-    board: &Board<'_, A>,
+    board: &Board<A>,
     screen: Screen,
     writers: Vec<TopWriter, A>,
     gate: &G,
@@ -173,7 +169,7 @@ fn watch_parts<R: Threads + Wait + Sync, A: Allocator + Copy + Send + Sync, G: G
     requires stock { HasMessage parts.now.day locate }
     ensures { IfOk result (λ readings. AreSeenToTheEnd parts.now.day locate readings.items) }
 {
-    let (board, mut writers) = Board::of_stocks(&alloc, parts.day(), parts.locates())?;
+    let (board, mut writers) = Board::of_stocks(alloc, parts.day(), parts.locates())?;
     let (index, screen) = screen_of(&board, &mut writers, locate);
     let ended = AtomicU64::new(0);
     let (readings, replayed) = look_and_replay(

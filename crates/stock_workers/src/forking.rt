@@ -54,7 +54,7 @@ fn finish<R: Threads + Wait + Sync, A: Allocator + Copy, G: Gate>(
     rt: &R,
     alloc: A,
     parts: &Parts<'_, A>,
-    board: &Board<'_, A>,
+    board: &Board<A>,
     gate: &G,
     waiting: Waiting<A>,
 ) -> Result<Finished<A>, AllocError>
@@ -82,7 +82,7 @@ fn do_job<R: Threads + Wait + Sync, A: Allocator + Copy, G: Gate>(
     rt: &R,
     alloc: A,
     parts: &Parts<'_, A>,
-    board: &Board<'_, A>,
+    board: &Board<A>,
     gate: &G,
     job: &mut Job<A>,
 )
@@ -99,7 +99,7 @@ fn do_jobs<R: Threads + Wait + Sync, A: Allocator + Copy, G: Gate>(
     rt: &R,
     alloc: A,
     parts: &Parts<'_, A>,
-    board: &Board<'_, A>,
+    board: &Board<A>,
     gate: &G,
     jobs: &mut [Job<A>],
 )
@@ -245,7 +245,7 @@ pub(crate) fn finish_all<R: Threads + Wait + Sync, A: Allocator + Copy + Send + 
     alloc: A,
     parts: &Parts<'_, A>,
     threads: WorkerCount,
-    board: &Board<'_, A>,
+    board: &Board<A>,
     all: Vec<Waiting<A>, A>,
     gate: &G,
 ) -> Result<Vec<Result<Finished<A>, AllocError>, A>, AllocError>

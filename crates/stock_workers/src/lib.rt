@@ -4,7 +4,7 @@
 //! message on the day's board (`top_cell`) as it is done. It takes all writers of the board and gives them back.
 //!
 //! ```rust
-//! let (board, writers) = Board::new(&alloc, &day)?;
+//! let (board, writers) = Board::new(alloc, &day)?;
 //! let replayed = run(rt, alloc, &day, &board, writers, workers, &FreeGate)?;
 //! ```
 //!

@@ -3,6 +3,7 @@ ghost use Rattle.std.specs.Prelude.{◌≡◌, ◌<◌, ◌⊎◌, ◌↔◌, �
 ghost use Rattle.itch_table.specs.Shows.{locates_of_day};
 ghost use Rattle.day_core.specs.Replaying.{IsReplayed, IsSummary, each_worker, for_own_stocks, last_machine, refused_by};
 ghost use Rattle.top_cell.specs.Boards.{AreNew, WriterAt};
+ghost use Rattle.stock_workers.specs.FaultNumbers.{number_of};
 ghost use Rattle.stock_workers.specs.Running.{AreFinished, AreWaiting, at_last};
 ghost use Rattle.stock_workers.specs.declared.running.RunFault.TheVariants.{Memory};
 
@@ -53,6 +54,18 @@ pub enum RunFault {
     Memory,
     /// The number of workers isn't from 1 to 64.
     Workers,
+}
+
+impl RunFault {
+    /// The fault's fixed number, from 1 to 2.
+    pub fn number(self) -> u8
+        ensures { result ≡ number_of self }
+    {
+        match self {
+            RunFault::Memory => 1,
+            RunFault::Workers => 2,
+        }
+    }
 }
 
 impl From<AllocError> for RunFault {
@@ -133,7 +146,7 @@ pub fn summarize_parts<R: Threads + Wait + Sync, A: Allocator + Copy + Send + Sy
     rt: &R,
     alloc: A,
     parts: &Parts<'_, A>,
-    board: &Board<'_, A>,
+    board: &Board<A>,
     writers: Vec<TopWriter, A>,
     gate: &G,
 ) -> Result<Summary<A>, AllocError>
@@ -157,7 +170,7 @@ pub fn summarize_in_threads<R: Threads + Wait + Sync, A: Allocator + Copy + Send
     alloc: A,
     parts: &Parts<'_, A>,
     threads: WorkerCount,
-    board: &Board<'_, A>,
+    board: &Board<A>,
     writers: Vec<TopWriter, A>,
     gate: &G,
 ) -> Result<Summary<A>, AllocError>
@@ -184,7 +197,7 @@ pub fn run_parts<R: Threads + Wait + Sync, A: Allocator + Copy + Send + Sync, G:
     rt: &R,
     alloc: A,
     parts: &Parts<'_, A>,
-    board: &Board<'_, A>,
+    board: &Board<A>,
     writers: Vec<TopWriter, A>,
     gate: &G,
 ) -> Result<Replayed<A>, AllocError>
@@ -220,7 +233,7 @@ pub fn run<R: Threads + Wait + Sync, A: Allocator + Copy + Send + Sync, G: Gate>
     rt: &R,
     alloc: A,
     day: &Day<A>,
-    board: &Board<'_, A>,
+    board: &Board<A>,
     writers: Vec<TopWriter, A>,
     workers: u32,
     gate: &G,

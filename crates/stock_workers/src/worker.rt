@@ -41,7 +41,7 @@ impl<'p, A: Allocator> Model for Worker<'p, A> {
 }
 
 // Shows a message that was done, whatever became of it: publishes the best bid and ask that it leaves.
-fn show<A: Allocator>(writer: &mut TopWriter, board: &Board<'_, A>, piece: Piece, best: Top)
+fn show<A: Allocator>(writer: &mut TopWriter, board: &Board<A>, piece: Piece, best: Top)
     requires own { IsOn board.now writer.old.place }
     requires later { writer.old.message ≤ piece.message }
     requires within { piece.message ≤ length writer.old.place.day }
@@ -83,7 +83,7 @@ impl<'p, A: Allocator + Copy> Worker<'p, A> {
     pub fn turn<R: Threads + Wait + Sync, G: Gate>(
         &mut self,
         rt: &R,
-        board: &Board<'_, A>,
+        board: &Board<A>,
         gate: &G,
     ) -> Result<Option<Piece>, AllocError>
         requires { All (IsOn board.now) self.old.places }
@@ -113,7 +113,7 @@ impl<'p, A: Allocator + Copy> Worker<'p, A> {
     /// where many workers share the day, it finds its messages ahead all the same, as one of many stocks does.
     /// Nothing that is seen of the worker changes. It returns what `wait` is after the next turn; the number depends on
     /// what was read, so that the reads aren't left out.
-    pub(crate) fn look_ahead(&mut self, board: &Board<'_, A>, wait: usize) -> usize
+    pub(crate) fn look_ahead(&mut self, board: &Board<A>, wait: usize) -> usize
         requires { All (IsOn board.now) self.old.places }
         ensures { self.new ≡ self.old }
     {
@@ -161,7 +161,7 @@ impl<'p, A: Allocator + Copy> Worker<'p, A> {
     }
 
     // Reads the cells of the messages whose machines are read.
-    fn touch_cells(&self, board: &Board<'_, A>) -> u64
+    fn touch_cells(&self, board: &Board<A>) -> u64
         requires { All (IsOn board.now) self.now.places }
     {
         let mut sum: u64 = 0;

@@ -127,10 +127,8 @@ fn replace_under(heap: &Refusing<Global>, refusal: Refusal) -> Result<Tried, Fai
 #[test]
 fn a_refused_replacement_leaves_order_and_levels(rt: HostRuntime) -> Result<(), Fail> {
     let heap = Refusing::new(rt.alloc(), Refusal::Never);
-    let growths = refuse_each(|refusal: Refusal| -> Result<Tried, Fail> {
-        replace_under(&heap, refusal)
-    })?;
-    same("that it asks for memory", &(growths > 0), &true)
+    refuse_each(|refusal: Refusal| -> Result<Tried, Fail> { replace_under(&heap, refusal) })?;
+    Ok(())
 }
 
 // Orders of both sides, at three prices, one of which comes after one with a higher reference.

@@ -6,7 +6,7 @@ use crate::cells::only_cell;
 use crate::changes::{Glance, show_by_steps};
 use crate::showing::show_next;
 use binaryfile::Day;
-use itch_table::Plain;
+use itch_table::{Plain, Top};
 use std::alloc::{AllocError, Allocator, Global};
 use std::sync::Wait;
 use std::test::Fail;
@@ -25,11 +25,11 @@ const CROSSED: Reading = Reading {
 
 // The locate codes and the messages of the writers of a day.
 fn writers_of<A: Allocator + Copy>(
-    alloc: &A,
+    alloc: A,
     day: &Day<A>,
 ) -> Result<Vec<(u16, u32), A>, AllocError> {
     let (_board, writers) = Board::new(alloc, day)?;
-    let mut found = Vec::new(*alloc);
+    let mut found = Vec::new(alloc);
     for writer in &writers {
         found.push((writer.locate(), writer.message()))?;
     }
@@ -40,10 +40,10 @@ fn writers_of<A: Allocator + Copy>(
 fn each_stock_has_a_writer(rt: HostRuntime) -> Result<(), Fail> {
     let alloc = rt.alloc();
     let day = two_stocks(alloc)?;
-    let found = writers_of(&alloc, &day)?;
+    let found = writers_of(alloc, &day)?;
     same_list("of three stocks", &found, &[(1, 0), (2, 0), (3, 0)])?;
     let empty = day_of(alloc, Vec::new(alloc))?;
-    let none = writers_of(&alloc, &empty)?;
+    let none = writers_of(alloc, &empty)?;
     same("of an empty file", &none.len(), &0)
 }
 
@@ -52,7 +52,7 @@ fn screens_stand<R: Wait, A: Allocator + Copy>(
     rt: &R,
     day: &Day<A>,
     machine: &mut Plain<A>,
-    board: &Board<'_, A>,
+    board: &Board<A>,
     writer: &mut TopWriter,
 ) -> Result<(), Fail>
     requires { AreInStep day.now.payloads board.now machine.old writer.old }
@@ -83,17 +83,16 @@ fn screens_stand<R: Wait, A: Allocator + Copy>(
 fn screens_stand_at_what_they_have_seen(rt: HostRuntime) -> Result<(), Fail> {
     let alloc = rt.alloc();
     let day = crossed_book(alloc)?;
-    let (board, mut writer, mut machine) = only_cell(&alloc, &day)?;
+    let (board, mut writer, mut machine) = only_cell(alloc, &day)?;
     screens_stand(&rt, &day, &mut machine, &board, &mut writer)
 }
 
-// What a screen reads of a cell after the first three messages of its stock, and the words of the best bid and ask
-// then.
+// What a screen reads of a cell after the first three messages of its stock, and the words that show it.
 fn show_three<R: Wait, A: Allocator + Copy>(
     rt: &R,
     day: &Day<A>,
     machine: &mut Plain<A>,
-    board: &Board<'_, A>,
+    board: &Board<A>,
     writer: &mut TopWriter,
 ) -> Result<(Reading, [u64; 4]), Fail>
     requires { AreInStep day.now.payloads board.now machine.old writer.old }
@@ -102,7 +101,14 @@ fn show_three<R: Wait, A: Allocator + Copy>(
     show_next(day, machine, board, writer)?;
     show_next(day, machine, board, writer)?;
     show_next(day, machine, board, writer)?;
-    Ok((screen.read(rt, board), machine.top(1).to_words(3)))
+    let reading = screen.read(rt, board);
+    let top = Top {
+        bid_price: reading.bid_price,
+        bid_shares: reading.bid_shares,
+        ask_price: reading.ask_price,
+        ask_shares: reading.ask_shares,
+    };
+    Ok((reading, top.to_words(reading.message)))
 }
 
 // The price of the bid stands in the high half of the second word, and that of the ask in the low one.
@@ -112,7 +118,7 @@ fn a_cell_holds_the_greatest_numbers(rt: HostRuntime) -> Result<(), Fail> {
     let bid = AAPL.add(0, b'B', 4_294_967_295, 0);
     let ask = AAPL.add(18_446_744_073_709_551_615, b'S', 1, 4_294_967_295);
     let day = day_with(alloc, &[AAPL.directory(), bid, ask])?;
-    let (board, mut writer, mut machine) = only_cell(&alloc, &day)?;
+    let (board, mut writer, mut machine) = only_cell(alloc, &day)?;
     let shown = show_three(&rt, &day, &mut machine, &board, &mut writer)?;
     let reading = Reading {
         message: 3,
@@ -130,7 +136,7 @@ fn a_cell_holds_the_greatest_numbers(rt: HostRuntime) -> Result<(), Fail> {
 }
 
 // How many writers the new board of a day has.
-fn count_writers<A: Allocator + Copy>(alloc: &A, day: &Day<A>) -> Result<usize, AllocError> {
+fn count_writers<A: Allocator + Copy>(alloc: A, day: &Day<A>) -> Result<usize, AllocError> {
     let (_board, writers) = Board::new(alloc, day)?;
     Ok(writers.len())
 }
@@ -140,11 +146,11 @@ fn count_writers<A: Allocator + Copy>(alloc: &A, day: &Day<A>) -> Result<usize, 
 fn try_board(heap: &Refusing<Global>, refusal: Refusal) -> Result<Tried, Fail> {
     let day = two_stocks(heap)?;
     heap.restart(refusal);
-    let mut count = count_writers(&heap, &day);
+    let mut count = count_writers(heap, &day);
     let tried = heap.tried(count.is_err());
     if tried.refused {
         same_bytes("the day", day.bytes(), two_stocks(heap)?.bytes())?;
-        count = count_writers(&heap, &day);
+        count = count_writers(heap, &day);
     }
     same("how many writers", &count, &Ok(3))?;
     Ok(tried)
@@ -166,7 +172,7 @@ fn show_without_memory<'h, R: Wait>(
     heap: &'h Refusing<Global>,
     day: &Day<&'h Refusing<Global>>,
     machine: &mut Plain<&'h Refusing<Global>>,
-    board: &Board<'_, &'h Refusing<Global>>,
+    board: &Board<&'h Refusing<Global>>,
     mut writer: TopWriter,
 ) -> Result<(), Fail>
     requires { AreInStep day.now.payloads board.now machine.old writer }
@@ -208,7 +214,7 @@ fn cells_that_are_made_take_no_memory(rt: HostRuntime) -> Result<(), Fail> {
             AAPL.delete(1),
         ],
     )?;
-    let (board, writer, mut machine) = only_cell(&alloc, &day)?;
+    let (board, writer, mut machine) = only_cell(alloc, &day)?;
     show_without_memory(&rt, alloc, &day, &mut machine, &board, writer)
 }
 
@@ -220,7 +226,7 @@ const IN_FIRST_CHANGE: (Glance, u32) = (Err(Busy { count: 1 }), 0);
 fn glance_at_steps<A: Allocator + Copy>(
     day: &Day<A>,
     machine: &mut Plain<A>,
-    board: &Board<'_, A>,
+    board: &Board<A>,
     mut writer: TopWriter,
 ) -> Result<(), Fail>
     requires { AreInStep day.now.payloads board.now machine.old writer }
@@ -246,7 +252,7 @@ fn glance_at_steps<A: Allocator + Copy>(
 fn a_glance_is_busy_during_a_change(rt: HostRuntime) -> Result<(), Fail> {
     let alloc = rt.alloc();
     let day = crossed_book(alloc)?;
-    let (board, writer, mut machine) = only_cell(&alloc, &day)?;
+    let (board, writer, mut machine) = only_cell(alloc, &day)?;
     glance_at_steps(&day, &mut machine, &board, writer)
 }
 
@@ -257,7 +263,7 @@ const IN_SECOND_CHANGE: (Glance, u32) = (Err(Busy { count: 3 }), 0);
 fn publish_again<A: Allocator + Copy>(
     _day: &Day<A>,
     machine: &Plain<A>,
-    board: &Board<'_, A>,
+    board: &Board<A>,
     writer: &mut TopWriter,
 )
     requires { AreInStep _day.now.payloads board.now machine.now writer.old }
@@ -271,7 +277,7 @@ fn publish_again<A: Allocator + Copy>(
 fn glance_after_twice<A: Allocator + Copy>(
     day: &Day<A>,
     machine: &mut Plain<A>,
-    board: &Board<'_, A>,
+    board: &Board<A>,
     mut writer: TopWriter,
 ) -> Result<(), Fail>
     requires { AreInStep day.now.payloads board.now machine.old writer }
@@ -287,6 +293,6 @@ fn glance_after_twice<A: Allocator + Copy>(
 fn a_message_published_again_changes_nothing(rt: HostRuntime) -> Result<(), Fail> {
     let alloc = rt.alloc();
     let day = crossed_book(alloc)?;
-    let (board, writer, mut machine) = only_cell(&alloc, &day)?;
+    let (board, writer, mut machine) = only_cell(alloc, &day)?;
     glance_after_twice(&day, &mut machine, &board, writer)
 }

@@ -10,10 +10,10 @@ use test_support::same;
 use top_cell::{Board, TopWriter};
 
 /// The board of a day of one stock, the writer of its only cell, and a machine, all before the first message.
-pub fn only_cell<'a, A: Allocator + Copy>(
-    alloc: &'a A,
+pub fn only_cell<A: Allocator + Copy>(
+    alloc: A,
     day: &Day<A>,
-) -> Result<(Board<'a, A>, TopWriter, Plain<A>), Fail>
+) -> Result<(Board<A>, TopWriter, Plain<A>), Fail>
     ensures { IfOk result (λ made. AreInStep day.now.payloads made.0 made.2 made.1) }
 {
     // For the proof alone: it says that the day has fewer than 2^32 messages.
@@ -23,5 +23,5 @@ pub fn only_cell<'a, A: Allocator + Copy>(
         return Err(Fail::new("no cell"));
     };
     same("how many cells more", &writers.len(), &0)?;
-    Ok((board, writer, Plain::new(*alloc)))
+    Ok((board, writer, Plain::new(alloc)))
 }

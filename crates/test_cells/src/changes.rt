@@ -17,7 +17,7 @@ pub type Glance = Result<Reading, Busy>;
 fn begin_next<A: Allocator + Copy>(
     day: &Day<A>,
     machine: &mut Plain<A>,
-    board: &Board<'_, A>,
+    board: &Board<A>,
     writer: TopWriter,
 ) -> Result<Opened, Fail>
     requires { AreInStep day.now.payloads board.now machine.old writer }
@@ -36,7 +36,7 @@ fn begin_next<A: Allocator + Copy>(
 // Puts the next word, and then glances.
 fn put_and_glance<A: Allocator>(
     opened: &mut Opened,
-    board: &Board<'_, A>,
+    board: &Board<A>,
     screen: &mut Screen,
 ) -> (Glance, u32)
     requires opened { IsOn board.now opened.old.place × (opened.old.put < 4) }
@@ -53,7 +53,7 @@ fn end_change<A: Allocator>(
     _day: &Day<A>,
     _machine: &Plain<A>,
     opened: Opened,
-    board: &Board<'_, A>,
+    board: &Board<A>,
 ) -> TopWriter
     requires changing { AreChanging _day.now.payloads board.now _machine.now opened }
     requires all { opened.put ≡ 4 }
@@ -67,7 +67,7 @@ fn end_change<A: Allocator>(
 pub fn show_by_steps<A: Allocator + Copy>(
     day: &Day<A>,
     machine: &mut Plain<A>,
-    board: &Board<'_, A>,
+    board: &Board<A>,
     writer: TopWriter,
     screen: &mut Screen,
 ) -> Result<(TopWriter, [(Glance, u32); 5]), Fail>

@@ -14,7 +14,7 @@ use top_cell::{Board, TopWriter};
 pub fn show_next<A: Allocator + Copy>(
     day: &Day<A>,
     machine: &mut Plain<A>,
-    board: &Board<'_, A>,
+    board: &Board<A>,
     writer: &mut TopWriter,
 ) -> Result<bool, AllocError>
     requires { AreInStep day.now.payloads board.now machine.old writer.old }
@@ -41,7 +41,7 @@ pub fn show_next<A: Allocator + Copy>(
 pub fn show_rest<A: Allocator + Copy>(
     day: &Day<A>,
     mut machine: Plain<A>,
-    board: &Board<'_, A>,
+    board: &Board<A>,
     mut writer: TopWriter,
 ) -> Result<TopWriter, AllocError>
     requires { AreInStep day.now.payloads board.now machine writer }

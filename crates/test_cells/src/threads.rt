@@ -92,7 +92,7 @@ enum Looking {
 // What a screen sees, if it sees something.
 fn look<R: Wait, A: Allocator>(
     rt: &R,
-    board: &Board<'_, A>,
+    board: &Board<A>,
     screen: &mut Screen,
     looking: Looking,
 ) -> Option<Reading>
@@ -109,7 +109,7 @@ fn look<R: Wait, A: Allocator>(
 // messages were seen, or the first reading that isn't one of them or that comes after a later one.
 fn watch<R: Wait, A: Allocator>(
     rt: &R,
-    board: &Board<'_, A>,
+    board: &Board<A>,
     mut screen: Screen,
     looking: Looking,
     readings: &[Reading],
@@ -135,7 +135,7 @@ fn watch<R: Wait, A: Allocator>(
 // Two screens, each in a thread of its own.
 fn watch_both<R: Threads + Wait + Sync>(
     rt: &R,
-    board: &Board<'_, Global>,
+    board: &Board<Global>,
     first: Screen,
     second: Screen,
     looking: Looking,
@@ -163,7 +163,7 @@ fn show_and_watch<R: Threads + Wait + Sync>(
     looking: Looking,
     readings: &[Reading],
 ) -> Result<(), Fail> {
-    let (board, mut writer, machine) = only_cell(&alloc, day)?;
+    let (board, mut writer, machine) = only_cell(alloc, day)?;
     let board = &board;
     let mut last = writer.screen(board);
     let first = writer.screen(board);

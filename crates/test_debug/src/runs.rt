@@ -122,3 +122,26 @@ fn a_line_of_a_session_has_at_most_a_thousand_bytes(rt: HostRuntime) -> Result<(
     run_long_lines(alloc, 1_000, "at 5 applied\n? command\nat 6 applied\n")?;
     run_long_lines(alloc, 1_001, "at 5 applied\n? command\n? command\n")
 }
+
+// Runs a session with a line of this many bytes that has `quit` at its end, one of as many that has `back` at its start,
+// and a command after them, in pieces of several sizes.
+fn run_longer_lines<A: Allocator + Copy>(alloc: A, length: usize) -> Result<(), Fail> {
+    let mut lines = Vec::new(alloc);
+    add_line(&mut lines, length, b"quit\n")?;
+    lines.extend_from_slice(b"back")?;
+    add_line(&mut lines, length.saturating_sub(4), b"\n")?;
+    lines.extend_from_slice(b"goto 5\n")?;
+    let wanted = b"? command\n? command\nat 5 applied\n";
+    for most in [1, 1_000, 1_001, 1_002, 4_096] {
+        run(alloc, Pieces::new(&lines, most), 0, None, wanted)?;
+    }
+    Ok(())
+}
+
+#[test]
+fn a_longer_line_is_skipped_whole(rt: HostRuntime) -> Result<(), Fail> {
+    for length in [1_002, 1_003, 2_000, 2_001, 2_002, 2_003, 9_000] {
+        run_longer_lines(rt.alloc(), length)?;
+    }
+    Ok(())
+}

@@ -15,7 +15,9 @@ const TOUR: &str = "goto 5\n\
      goto 6\n\
      show 1\n\
      goto 7\n\
-     step\n";
+     step\n\
+     goto 5\n\
+     show 1\n";
 
 const TOUR_ANSWERS: &str = "at 5 applied\n\
      stock 1 \"AAPL\" state \"H\" reason \"T1\" regsho none\n\
@@ -31,7 +33,12 @@ const TOUR_ANSWERS: &str = "at 5 applied\n\
      order 1 B 50 1500000 none\n\
      trades 1 shares 10 notional 15000000 unprinted 0\n\
      at 7 applied\n\
-     ? past end\n";
+     ? past end\n\
+     at 5 applied\n\
+     stock 1 \"AAPL\" state \"H\" reason \"T1\" regsho none\n\
+     bid 1500000 50\n\
+     order 1 B 50 1500000 none\n\
+     trades 2 shares 50 notional 75000000 unprinted 0\n";
 
 #[test]
 fn a_session_shows_the_stock_at_each_position(rt: HostRuntime) -> Result<(), Fail> {

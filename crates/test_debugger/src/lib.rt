@@ -1,4 +1,4 @@
-//! A debugger: where its moves lead, where it stops, and what it keeps where memory is refused.
+//! A debugger: where its moves lead, where it stops, how much it steps, and what it keeps where memory is refused.
 #![tactic(auto)]
 
 #[cfg(test)]
@@ -7,6 +7,8 @@ mod breakpoints;
 mod busy;
 #[cfg(test)]
 mod calls;
+#[cfg(test)]
+mod counts;
 #[cfg(test)]
 mod days;
 #[cfg(test)]

@@ -56,7 +56,7 @@ fn track_by<A: Allocator + Copy>(
     alloc: A,
     day: &Day<A>,
     way: Way,
-    every: usize,
+    every: u32,
 ) -> Result<Track<'_, A>, AllocError>
     requires { 0 < every }
     ensures { IfOk result (λ track. track.day ≡ day.now.payloads) }
@@ -65,7 +65,7 @@ fn track_by<A: Allocator + Copy>(
         Way::Day => Track::make(alloc, day, 1, every),
         Way::Index => {
             let index = StockIndex::new(alloc, day)?;
-            Track::from_index(alloc, &index, 1, every)
+            Track::from_index(alloc, &index, 1, every as usize)
         }
     }
 }

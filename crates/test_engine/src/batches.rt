@@ -30,13 +30,14 @@ fn long_day<A: Allocator + Copy>(alloc: A) -> Result<Vec<u8, A>, AllocError> {
     Ok(bytes)
 }
 
-// Counts how often it is called with a number of a thread, and with another number; and how often with a message that
-// isn't after the one of the call before.
+// Counts how often it is called with a number of a thread, and with another number; notes these numbers, as bits; and
+// counts how often it is called with a message that isn't after the one of the call before.
 #[derive(Drop)]
 struct Calls {
     threads: u32,
     within: AtomicU64,
     beyond: AtomicU64,
+    numbers: AtomicU64,
     last: AtomicU64,
     falls: AtomicU64,
 }
@@ -49,6 +50,8 @@ impl Gate for Calls {
             &self.beyond
         };
         calls.fetch_add(1, Ordering::SeqCst);
+        let bit = 1u64.checked_shl(worker).unwrap_or(0);
+        self.numbers.fetch_or(bit, Ordering::SeqCst);
         let message = u64::from(message);
         if self.last.swap(message, Ordering::SeqCst) >= message {
             self.falls.fetch_add(1, Ordering::SeqCst);
@@ -63,11 +66,12 @@ fn a_long_day_of_many_stocks_is_the_same_for_all_numbers_of_threads(
     let alloc = rt.alloc();
     let day = long_day(alloc)?;
     let mut first: Vec<u8> = Vec::new(alloc);
-    for threads in [1, 2, 64] {
+    for (threads, numbers) in [(1, 0b1), (2, 0b11), (64, u64::MAX)] {
         let gate = Calls {
             threads,
             within: AtomicU64::new(0),
             beyond: AtomicU64::new(0),
+            numbers: AtomicU64::new(0),
             last: AtomicU64::new(0),
             falls: AtomicU64::new(0),
         };
@@ -80,6 +84,8 @@ fn a_long_day_of_many_stocks_is_the_same_for_all_numbers_of_threads(
         let within = gate.within.load(Ordering::SeqCst);
         let beyond = gate.beyond.load(Ordering::SeqCst);
         same("calls of the gate", &(within, beyond), &(131_072, 0))?;
+        let called = gate.numbers.load(Ordering::SeqCst);
+        same("threads", &(threads, called), &(threads, numbers))?;
         let begins = report.get(..BEGINS.len()).unwrap_or(b"");
         same_bytes("the beginning of a report", begins, BEGINS)?;
         if threads == 1 {

@@ -1,8 +1,8 @@
 //! The engines, called by one form, and the replay also by two workers.
 use binaryfile::{Feed, Sink};
 use day_core::WorkerCount;
-use itch_engine::{ProgFault, asm_run, dis_between_run, dis_run, hex_run, replay_run};
-use itch_readings::{Selection, StockName, stocks_run, tops_run};
+use itch_engine::{asm_run, dis_between_run, dis_run, hex_run, replay_run};
+use itch_readings::{Selection, StockFault, StockName, stocks_run, tops_run};
 use itch_watch::watch_run;
 use std::alloc::Allocator;
 use std::io::{Read, Write};
@@ -107,7 +107,7 @@ impl Engine {
     }
 
     /// What the engine returns for it: how many messages were refused, and 0 where none is replayed.
-    pub(crate) fn returns(self) -> Result<u32, ProgFault> {
+    pub(crate) fn returns(self) -> Result<u32, StockFault> {
         match self {
             Engine::Replay | Engine::Digits => Ok(1),
             Engine::TwoWorkers => Ok(2),
@@ -126,11 +126,11 @@ impl Engine {
         A: Allocator + Copy + Send + Sync,
         R: Read + Drop,
         W: Write,
-    >(self, rt: &T, alloc: A, reader: R, writer: &mut W) -> Result<u32, ProgFault> {
+    >(self, rt: &T, alloc: A, reader: R, writer: &mut W) -> Result<u32, StockFault> {
         let mut feed = Feed::new(reader);
         let mut sink = Sink::new(writer);
         let (one, two) = (WorkerCount::ONE, WorkerCount::new(2).unwrap());
-        match self {
+        let run = match self {
             Engine::Replay => replay_run(rt, alloc, &mut feed, &mut sink, one, &FreeGate),
             Engine::TwoWorkers => replay_run(rt, alloc, &mut feed, &mut sink, two, &FreeGate),
             Engine::Digits => hex_run(rt, alloc, &mut feed, &mut sink),
@@ -138,25 +138,17 @@ impl Engine {
             Engine::Between => dis_between_run(alloc, &mut feed, &mut sink, 2, 3).map(|()| 0),
             Engine::Assembler => asm_run(alloc, &mut feed, &mut sink).map(|()| 0),
             Engine::Stocks => stocks_run(alloc, &mut feed, &mut sink).map(|()| 0),
-            Engine::Tops => tops_run(
-                alloc,
-                &mut feed,
-                &mut sink,
-                StockName::Symbol(*b"AAPL    "),
-                Selection::Changes,
-            )
-            .map(|()| 0),
-            Engine::Watch => watch_run(
-                rt,
-                alloc,
-                &mut feed,
-                &mut sink,
-                StockName::Locate(3),
-                one,
-                &FreeGate,
-                &AtomicU64::new(0),
-            )
-            .map(|()| 0),
-        }
+            Engine::Tops => {
+                let name = StockName::Symbol(*b"AAPL    ");
+                tops_run(alloc, &mut feed, &mut sink, name, Selection::Changes)?;
+                Ok(0)
+            }
+            Engine::Watch => {
+                let (name, seen) = (StockName::Locate(3), AtomicU64::new(0));
+                watch_run(rt, alloc, &mut feed, &mut sink, name, one, &FreeGate, &seen)?;
+                Ok(0)
+            }
+        };
+        run.map_err(StockFault::Engine)
     }
 }

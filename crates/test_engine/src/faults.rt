@@ -1,37 +1,53 @@
 //! Inputs that can't be taken, and what a fault is to the program.
 use crate::engines::Engine;
+use binaryfile::LoadFault;
+use day_core::{MergeFault, SplitFault};
 use itch_engine::{ProgFault, status};
+use itch_readings::StockFault;
 use itch_text::AsmFault;
 use std::sync::Wait;
 use std::test::Fail;
 use std::thread::Threads;
+use stock_workers::RunFault;
 use test_support::{same, same_bytes};
 
 // An engine's input that it can't take, and the fault.
-const INPUTS: [(Engine, &[u8], ProgFault); 12] = [
-    (Engine::Digits, b"0", ProgFault::BadHex),
-    (Engine::Digits, b"000", ProgFault::BadHex),
-    (Engine::Digits, b"0g", ProgFault::BadHex),
-    (Engine::Digits, b"\t", ProgFault::BadHex),
-    (Engine::Digits, b"00\t00", ProgFault::BadHex),
-    (Engine::Digits, b"00\r", ProgFault::BadHex),
-    (Engine::Tops, b"", ProgFault::NoStock),
-    (Engine::Tops, b"\x00\x01A", ProgFault::NoStock),
-    (Engine::Watch, b"\x00\x01A", ProgFault::NoStock),
+const INPUTS: [(Engine, &[u8], StockFault); 12] = [
+    (Engine::Digits, b"0", StockFault::Engine(ProgFault::BadHex)),
+    (
+        Engine::Digits,
+        b"000",
+        StockFault::Engine(ProgFault::BadHex),
+    ),
+    (Engine::Digits, b"0g", StockFault::Engine(ProgFault::BadHex)),
+    (Engine::Digits, b"\t", StockFault::Engine(ProgFault::BadHex)),
+    (
+        Engine::Digits,
+        b"00\t00",
+        StockFault::Engine(ProgFault::BadHex),
+    ),
+    (
+        Engine::Digits,
+        b"00\r",
+        StockFault::Engine(ProgFault::BadHex),
+    ),
+    (Engine::Tops, b"", StockFault::NoStock),
+    (Engine::Tops, b"\x00\x01A", StockFault::NoStock),
+    (Engine::Watch, b"\x00\x01A", StockFault::NoStock),
     (
         Engine::Assembler,
         b"# a comment\nsistem",
-        ProgFault::Asm(AsmFault::Mnemonic(2)),
+        StockFault::Engine(ProgFault::Asm(AsmFault::Mnemonic(2))),
     ),
     (
         Engine::Assembler,
         b"raw",
-        ProgFault::Asm(AsmFault::Field(1)),
+        StockFault::Engine(ProgFault::Asm(AsmFault::Field(1))),
     ),
     (
         Engine::Assembler,
         b"end\n\nend",
-        ProgFault::Asm(AsmFault::AfterEnd(3)),
+        StockFault::Engine(ProgFault::Asm(AsmFault::AfterEnd(3))),
     ),
 ];
 
@@ -40,7 +56,7 @@ fn try_run<T: AllocGlobal + Threads + Wait + Sync>(
     rt: &T,
     engine: Engine,
     input: &[u8],
-    wanted: Result<u32, ProgFault>,
+    wanted: Result<u32, StockFault>,
     written: &[u8],
 ) -> Result<(), Fail> {
     let mut output = Vec::new(rt.alloc());
@@ -94,7 +110,6 @@ fn statuses_and_words_are_those_of_the_fault(rt: HostRuntime) -> Result<(), Fail
         (ProgFault::TooManyMessages, 3, "too many messages"),
         (ProgFault::BadHex, 3, "bad hex"),
         (ProgFault::Write, 3, "write failed"),
-        (ProgFault::NoStock, 2, "no such stock"),
         (ProgFault::Asm(AsmFault::Memory), 4, "no memory"),
         (ProgFault::Asm(AsmFault::Mnemonic(2)), 5, "line 2: mnemonic"),
         (ProgFault::Asm(AsmFault::Field(1)), 5, "line 1: field"),
@@ -108,6 +123,52 @@ fn statuses_and_words_are_those_of_the_fault(rt: HostRuntime) -> Result<(), Fail
         same("a status", &(fault, status(&Err(fault))), &(fault, wanted))?;
         let said = format!(in rt.alloc(); "{fault}")?;
         same("the words of a fault", &said.as_str(), &words)?;
+        let engine = StockFault::Engine(fault);
+        same(
+            "a status of an engine of one stock",
+            &engine.status(),
+            &wanted,
+        )?;
+        let said = format!(in rt.alloc(); "{engine}")?;
+        same("its words", &said.as_str(), &words)?;
     }
-    Ok(())
+    let said = format!(in rt.alloc(); "{}", StockFault::NoStock)?;
+    same(
+        "a stock that isn't there",
+        &(StockFault::NoStock.status(), said.as_str()),
+        &(2, "no such stock"),
+    )
+}
+
+#[test]
+fn faults_have_fixed_numbers(_rt: HostRuntime) -> Result<(), Fail> {
+    let loading = [
+        LoadFault::Memory,
+        LoadFault::Read,
+        LoadFault::TooManyBytes,
+        LoadFault::TooManyMessages,
+    ];
+    same("loading", &loading.map(LoadFault::number), &[1, 2, 3, 4])?;
+    let assembling = [
+        AsmFault::Memory,
+        AsmFault::Mnemonic(9),
+        AsmFault::Field(9),
+        AsmFault::AfterEnd(9),
+    ];
+    same(
+        "assembling",
+        &assembling.map(AsmFault::number),
+        &[1, 2, 3, 4],
+    )?;
+    let merging = [
+        MergeFault::Memory,
+        MergeFault::Double(9),
+        MergeFault::Stranger(9),
+        MergeFault::Missing(9),
+    ];
+    same("merging", &merging.map(MergeFault::number), &[1, 2, 3, 4])?;
+    let splitting = [SplitFault::Memory, SplitFault::Workers];
+    same("splitting", &splitting.map(SplitFault::number), &[1, 2])?;
+    let running = [RunFault::Memory, RunFault::Workers];
+    same("running", &running.map(RunFault::number), &[1, 2])
 }

@@ -3,7 +3,7 @@ use crate::engines::{ENGINES, Engine};
 use binaryfile::{Feed, Sink};
 use day_core::WorkerCount;
 use itch_engine::{ProgFault, replay_run};
-use itch_readings::StockName;
+use itch_readings::{StockFault, StockName};
 use itch_watch::watch_run;
 use std::io::ErrorKind;
 use std::sync::Wait;
@@ -195,7 +195,7 @@ fn try_read<T: AllocGlobal + Threads + Wait + Sync>(
     same(
         "a failed read",
         &found,
-        &(engine, failing, Err(ProgFault::Read), 0),
+        &(engine, failing, Err(StockFault::Engine(ProgFault::Read)), 0),
     )
 }
 
@@ -226,7 +226,12 @@ fn try_write<T: AllocGlobal + Threads + Wait + Sync>(
     same(
         "a failed write",
         &found,
-        &(engine, failing, Err(ProgFault::Write), failing),
+        &(
+            engine,
+            failing,
+            Err(StockFault::Engine(ProgFault::Write)),
+            failing,
+        ),
     )?;
     let prefix = engine.output().get(..taken).unwrap_or(b"no prefix");
     same_bytes("what was taken", output.taken(), prefix)
@@ -258,7 +263,11 @@ fn try_refusal<T: AllocGlobal + Threads + Wait + Sync>(
     let case = (engine, refusal);
     if tried.refused {
         let found = (case, returned, output.len());
-        same("without memory", &found, &(case, Err(ProgFault::Memory), 0))?;
+        same(
+            "without memory",
+            &found,
+            &(case, Err(StockFault::Engine(ProgFault::Memory)), 0),
+        )?;
         returned = engine.run(rt, &heap, engine.input(), &mut output);
     }
     same("a result", &(case, returned), &(case, engine.returns()))?;

@@ -56,3 +56,31 @@ fn a_sink_fails_for_good_at_any_failure(rt: HostRuntime) -> Result<(), Fail> {
     }
     Ok(())
 }
+
+// A write that fails at the second call, and the next one, of a sink whose writer would go on: the kinds of their errors,
+// whether the sink has failed, and how often its writer was asked.
+fn try_write<A: Allocator>(alloc: A, failure: Failure, kind: ErrorKind) -> Result<(), Fail> {
+    let mut writer = Narrow::failing(alloc, 2, failure);
+    let mut sink = Sink::new(&mut writer);
+    let first = sink.write(b"ab").ok();
+    let second = sink.write(b"b").err().map(|error| error.kind());
+    let third = sink.write(b"b").err().map(|error| error.kind());
+    same(
+        "three writes",
+        &(first, second, third, sink.failed()),
+        &(Some(1), Some(kind), Some(ErrorKind::Other), true),
+    )?;
+    same("how often it was asked", &writer.calls(), &2)?;
+    same_bytes("what was taken", writer.taken(), b"a")
+}
+
+#[test]
+fn a_write_passes_on_what_its_writer_says(rt: HostRuntime) -> Result<(), Fail> {
+    let interrupted = Failure::Error(ErrorKind::Interrupted);
+    try_write(rt.alloc(), interrupted, ErrorKind::Interrupted)?;
+    try_write(rt.alloc(), Failure::TakesNone, ErrorKind::WriteZero)?;
+    let mut writer = Narrow::failing(rt.alloc(), 0, Failure::TakesNone);
+    let mut sink = Sink::new(&mut writer);
+    same("a write of nothing", &sink.write(b"").ok(), &Some(0))?;
+    same("is no failure", &sink.failed(), &false)
+}

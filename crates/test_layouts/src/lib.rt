@@ -5,4 +5,6 @@
 #[cfg(test)]
 mod messages;
 #[cfg(test)]
+mod offsets;
+#[cfg(test)]
 mod table;

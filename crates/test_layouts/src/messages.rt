@@ -28,8 +28,8 @@ fn head(locate: u16, tracking: u16, time: u64) -> Result<Head, Fail> {
     }
 }
 
-// A payload is read as its message, and the message is written as the payload, after what was there.
-fn try_both_ways<A: Allocator>(alloc: A, msg: &Msg, payload: &[u8]) -> Result<(), Fail> {
+/// A payload is read as its message, and the message is written as the payload, after what was there.
+pub(crate) fn try_both_ways<A: Allocator>(alloc: A, msg: &Msg, payload: &[u8]) -> Result<(), Fail> {
     same("a payload is read", &read_msg(payload), &Shape::Known(*msg))?;
     let mut out = b"before".to_vec(alloc)?;
     write_msg(msg, &mut out)?;
@@ -96,8 +96,8 @@ fn a_message_has_its_head_and_its_references(_rt: HostRuntime) -> Result<(), Fai
     try_message(IMBALANCE, head(7, 8, 9)?, &[(0, false), (14, false)])
 }
 
-// A type, and after it bytes that rise by a step, as many as the longest message needs and more.
-fn filled(kind: u8, first: u8, step: u8) -> [u8; 60] {
+/// A type, and after it bytes that rise by a step, as many as the longest message needs and more.
+pub(crate) fn filled(kind: u8, first: u8, step: u8) -> [u8; 60] {
     let mut bytes = [kind; 60];
     let mut next = first;
     for byte in &mut bytes[1..] {

@@ -5,7 +5,7 @@ use std::test::Fail;
 use stock_machine::Stock;
 use test_support::{same, same_list};
 
-// The low references of which it is asked whether they are spent. On a day at random there are no others.
+// The low references of which it is asked whether they are spent.
 const LOW: u64 = 40;
 
 /// Passes the next payload to the plain machine, and returns what became of it.

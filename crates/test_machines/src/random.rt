@@ -1,7 +1,8 @@
 //! Days at random from a seed: all kinds of messages over few stocks, references, prices and match numbers, so that
-//! every check of the table fails often, and every effect happens often.
+//! every check of the table fails often, and every effect happens often. Now and then any field has a value of its whole
+//! width, mostly one at an edge.
 use binaryfile::Day;
-use itch_layouts::{Breach, Decline, Ipo, Msg, System};
+use itch_layouts::{Breach, Decline, Field, Form, Ipo, Msg, System, head_fields, layout_of_kind};
 use rand::rngs::SmallRng;
 use rand::{RngExt, SeedableRng};
 use std::alloc::{AllocError, Allocator};
@@ -11,20 +12,58 @@ use test_support::{Ticker, add_entry, day_of, head, payload_of};
 // How many groups of four stocks a wide day has: more stocks than a debugger keeps tracks of.
 const GROUPS: u16 = 17;
 
-// The stock of a locate code from 1 to 4.
+// Numbers about 0, 2^16, 2^31 and 2^32, 2^63, and the greatest of eight bytes. A narrower field has their lowest bytes.
+const EDGES: [u64; 14] = [
+    0,
+    1,
+    2,
+    (1 << 16) - 1,
+    1 << 16,
+    (1 << 16) + 1,
+    (1 << 31) - 1,
+    1 << 31,
+    (1 << 31) + 1,
+    (1 << 32) - 1,
+    1 << 32,
+    (1 << 32) + 1,
+    1 << 63,
+    u64::MAX,
+];
+
+// A number at an edge, now and then any number.
+fn any_number(random: &mut SmallRng) -> u64 {
+    if random.random_ratio(1, 8) {
+        random.random_range(0..=u64::MAX)
+    } else {
+        EDGES[random.random_range(0..EDGES.len())]
+    }
+}
+
+// The number of the lowest four bytes of another.
+fn low_half(number: u64) -> u32 {
+    (number & 0xffff_ffff) as u32
+}
+
+// The stock of a locate code from 1 to 4, and that of the greatest one.
 fn ticker(locate: u16) -> Ticker {
     let symbol = match locate {
         1 => *b"AAPL    ",
         2 => *b"MSFT    ",
         3 => *b"A\"B\\C   ",
+        u16::MAX => [0xff; 8],
         _ => *b"\0       ",
     };
     Ticker { locate, symbol }
 }
 
-// One of the four stocks, now and then under another symbol.
+// One of the five stocks, now and then under another symbol.
 fn any_ticker(random: &mut SmallRng) -> Ticker {
-    let own = ticker(random.random_range(1..=4u16));
+    let locate = if random.random_ratio(1, 16) {
+        u16::MAX
+    } else {
+        random.random_range(1..=4u16)
+    };
+    let own = ticker(locate);
     if random.random_ratio(1, 12) {
         Ticker {
             locate: own.locate,
@@ -53,21 +92,37 @@ fn any_printable(random: &mut SmallRng) -> u8 {
     }
 }
 
-// Few references, so that they live often, and are often asked for again once they are spent.
+// Mostly few references, so that they live often, and are often asked for again once they are spent.
 fn any_reference(random: &mut SmallRng) -> u64 {
-    random.random_range(1..=6u64)
+    if random.random_ratio(1, 8) {
+        any_number(random)
+    } else {
+        random.random_range(1..=6u64)
+    }
 }
 
 fn any_shares(random: &mut SmallRng) -> u32 {
-    random.random_range(0..=8u32)
+    if random.random_ratio(1, 8) {
+        low_half(any_number(random))
+    } else {
+        random.random_range(0..=8u32)
+    }
 }
 
 fn any_price(random: &mut SmallRng) -> u32 {
-    random.random_range(1..=4u32)
+    if random.random_ratio(1, 8) {
+        low_half(any_number(random))
+    } else {
+        random.random_range(1..=4u32)
+    }
 }
 
 fn any_match_no(random: &mut SmallRng) -> u64 {
-    random.random_range(1..=6u64)
+    if random.random_ratio(1, 8) {
+        any_number(random)
+    } else {
+        random.random_range(1..=4u64)
+    }
 }
 
 // A message about orders.
@@ -162,6 +217,54 @@ fn set_time(payload: &mut [u8], time: u16) {
     }
 }
 
+// Sets a field of a payload to the lowest bytes of a number.
+fn set_number(payload: &mut [u8], field: &Field, number: u64) {
+    let digits = number.to_be_bytes();
+    let cut = digits.len().saturating_sub(usize::from(field.width));
+    let bytes = payload.iter_mut().skip(usize::from(field.offset));
+    for (byte, digit) in bytes.zip(digits.iter().skip(cut)) {
+        *byte = *digit;
+    }
+}
+
+// Sets a field of a payload to zero bytes, to spaces, to the greatest bytes, to letters, or to any bytes.
+fn set_text(payload: &mut [u8], field: &Field, random: &mut SmallRng) {
+    let form = random.random_range(0..5u32);
+    let bytes = payload.iter_mut().skip(usize::from(field.offset));
+    for byte in bytes.take(usize::from(field.width)) {
+        *byte = match form {
+            0 => 0,
+            1 => b' ',
+            2 => u8::MAX,
+            3 => random.random_range(b'A'..=b'Z'),
+            _ => random.random_range(0..=u8::MAX),
+        };
+    }
+}
+
+// Sets some of these fields of a payload to values of their whole width.
+fn widen_fields(payload: &mut [u8], fields: &[Field], random: &mut SmallRng) {
+    for field in fields {
+        if random.random_ratio(1, 24) {
+            match field.form {
+                Form::Integer => set_number(payload, field, any_number(random)),
+                Form::Alpha => set_text(payload, field, random),
+            }
+        }
+    }
+}
+
+// Sets some fields of a message's payload to values of their whole width.
+fn widen(payload: &mut [u8], random: &mut SmallRng) {
+    let Some(kind) = payload.first().copied() else {
+        return;
+    };
+    widen_fields(payload, head_fields(), random);
+    if let Some(layout) = layout_of_kind(kind) {
+        widen_fields(payload, layout.body, random);
+    }
+}
+
 // A payload: now and then one byte short or one too long, or of a type that no message has.
 fn any_payload<A: Allocator + Copy>(
     alloc: A,
@@ -169,6 +272,7 @@ fn any_payload<A: Allocator + Copy>(
 ) -> Result<Vec<u8, A>, AllocError> {
     let mut payload = payload_of(alloc, &any_msg(random))?;
     set_time(&mut payload, random.random_range(0..1_000u16));
+    widen(&mut payload, random);
     match random.random_range(0..60u32) {
         0 => {
             payload.pop();
@@ -234,11 +338,11 @@ pub fn wide_day<A: Allocator + Copy>(alloc: A, seed: u64, messages: u32) -> Resu
     day_of(alloc, file)
 }
 
-/// A day of the directory messages of three stocks and this many messages more, the same for the same seed.
+/// A day of the directory messages of four stocks and this many messages more, the same for the same seed.
 pub fn random_day<A: Allocator + Copy>(alloc: A, seed: u64, messages: u32) -> Result<Day<A>, Fail> {
     let mut random = SmallRng::seed_from_u64(seed);
     let mut file = Vec::new(alloc);
-    for locate in [1, 2, 3] {
+    for locate in [1, 2, 3, u16::MAX] {
         add_entry(alloc, &mut file, &ticker(locate).directory())?;
     }
     for _ in 0..messages {

@@ -20,8 +20,8 @@ use std::thread::Threads;
 /// How many days there are.
 pub const DAYS: u64 = 100;
 
-/// How many messages each of them has after the first directory messages.
-pub const MESSAGES: u32 = 97;
+/// How many messages each of them has after the first four, the directory messages: so a day has 100.
+pub const MESSAGES: u32 = 96;
 
 // How many texts with one byte changed are assembled for each day.
 const CHANGED_TEXTS: u32 = 100;
@@ -29,9 +29,9 @@ const CHANGED_TEXTS: u32 = 100;
 // How many of these denote a file at least, over all days.
 const ASSEMBLED_TEXTS: u64 = 300;
 
-// Breakpoints of each kind. Times at random are below 1,000, or they are the later one of these two, so that one
-// message reaches both.
-fn breakpoints() -> Result<[Break; 5], Fail> {
+// Breakpoints of each kind. Most times at random are below 1,000, and others mostly at an edge, as the later one of these
+// two is, so that one message reaches both.
+fn breakpoints() -> Result<[Break; 6], Fail> {
     let (Some(earlier), Some(later)) = (Nanos::new(1_000), Nanos::new(u64::from(u16::MAX))) else {
         return Err(Fail::new("no time"));
     };
@@ -49,6 +49,10 @@ fn breakpoints() -> Result<[Break; 5], Fail> {
         Break::Reference {
             locate: 2,
             reference: 5,
+        },
+        Break::Reference {
+            locate: 1,
+            reference: u64::MAX,
         },
         Break::Time { time: earlier },
         Break::Time { time: later },

@@ -11,7 +11,7 @@ use std::test::Fail;
 use test_support::same;
 
 // How many of a stock's messages lie from one copy of its machine to the next.
-const EVERY: usize = 3;
+const EVERY: u32 = 3;
 
 // The tracks of a stock, by the day and by an index of it.
 fn tracks_of<'d, A: Allocator + Copy>(
@@ -25,7 +25,7 @@ fn tracks_of<'d, A: Allocator + Copy>(
     ensures by_index { IfOk result (λ made. made.1.day ≡ day.now.payloads) }
 {
     let by_day = Track::make(alloc, day, locate, EVERY)?;
-    let by_index = Track::from_index(alloc, index, locate, EVERY)?;
+    let by_index = Track::from_index(alloc, index, locate, EVERY as usize)?;
     Ok((by_day, by_index))
 }
 

@@ -77,7 +77,7 @@ fn compare_run<R: Threads + Wait + Sync, A: Allocator + Copy + Send + Sync>(
     workers: u32,
     wanted: &Wanted<A>,
 ) -> Result<(), Fail> {
-    let (board, writers) = Board::new(&alloc, day)?;
+    let (board, writers) = Board::new(alloc, day)?;
     let found = run(rt, alloc, day, &board, writers, workers, &FreeGate)?;
     same_day(alloc, &found.outcomes, &found.stocks, found.event, wanted)
 }

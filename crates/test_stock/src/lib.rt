@@ -9,3 +9,5 @@ mod growing;
 mod own;
 #[cfg(test)]
 mod spent;
+#[cfg(test)]
+mod trades;

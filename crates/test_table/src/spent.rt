@@ -4,11 +4,12 @@ use std::alloc::Allocator;
 use std::test::Fail;
 use test_support::{ASKED, Spending, payload_of, same, spent_references, spent_up_to, take};
 
-// Passes a message of the day to a machine, and compares which references are spent after it.
+// Passes the message of this number of the day to a machine, and compares which references are spent after it.
 fn spend<A: Allocator + Copy>(
     alloc: A,
     machine: &mut Plain<A>,
     line: &Spending,
+    number: u32,
 ) -> Result<(), Fail> {
     let payload = payload_of(alloc, &line.msg)?;
     take("a message", machine, &payload, line.outcome)?;
@@ -20,15 +21,15 @@ fn spend<A: Allocator + Copy>(
             ASKED.map(|reference| machine.spent(1, reference)),
             ASKED.map(|reference| machine.spent(2, reference)),
         ),
-        &(machine.steps(), spent_up_to(first), spent_up_to(second)),
+        &(number, spent_up_to(first), spent_up_to(second)),
     )
 }
 
 #[test]
 fn a_reference_is_spent_by_its_first_order(rt: HostRuntime) -> Result<(), Fail> {
     let mut machine = Plain::new(rt.alloc());
-    for line in &spent_references() {
-        spend(rt.alloc(), &mut machine, line)?;
+    for (line, number) in spent_references().iter().zip(1..100u32) {
+        spend(rt.alloc(), &mut machine, line, number)?;
     }
     Ok(())
 }

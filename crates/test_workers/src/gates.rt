@@ -67,7 +67,7 @@ fn two_workers_run_beside_each_other(rt: HostRuntime) -> Result<(), Fail> {
     let alloc = rt.alloc();
     let day = day_with(alloc, &[AAPL.directory(), MSFT.directory()])?;
     let gate = Meeting::new();
-    let (board, writers) = Board::new(&alloc, &day)?;
+    let (board, writers) = Board::new(alloc, &day)?;
     let replayed = run(&rt, alloc, &day, &board, writers, 2, &gate).is_ok();
     let met = gate.met.load(Ordering::SeqCst);
     same("who met the other in a run", &(replayed, met), &(true, 2))
@@ -103,7 +103,7 @@ fn threads_of_several_workers_run_beside_each_other(rt: HostRuntime) -> Result<(
     let gate = Meeting::new();
     let parts = parts_of(&rt, alloc, &day, WorkerCount::new(4).unwrap())?;
     let threads = WorkerCount::new(2).unwrap();
-    let (board, writers) = Board::new(&alloc, &day)?;
+    let (board, writers) = Board::new(alloc, &day)?;
     let done = summarize_in_threads(&rt, alloc, &parts, threads, &board, writers, &gate).is_ok();
     let met = gate.met.load(Ordering::SeqCst);
     same("who met the other in two threads", &(done, met), &(true, 2))
@@ -153,7 +153,7 @@ fn threads_have_as_many_messages_as_each_other(rt: HostRuntime) -> Result<(), Fa
     };
     let parts = parts_of(&rt, alloc, &day, WorkerCount::new(4).unwrap())?;
     let threads = WorkerCount::new(2).unwrap();
-    let (board, writers) = Board::new(&alloc, &day)?;
+    let (board, writers) = Board::new(alloc, &day)?;
     let done = summarize_in_threads(&rt, alloc, &parts, threads, &board, writers, &gate).is_ok();
     let first = gate.first.load(Ordering::SeqCst);
     let others = gate.others.load(Ordering::SeqCst);
@@ -178,7 +178,7 @@ impl Gate for Seeing {
 // Reads until message 1 is there, then lets the worker go on. Returns that reading, or none where it didn't come.
 fn see_first<R: Wait, A: Allocator>(
     rt: &R,
-    board: &Board<'_, A>,
+    board: &Board<A>,
     mut screen: Screen,
     gate: &Seeing,
 ) -> Option<Reading>
@@ -198,7 +198,7 @@ fn see_first<R: Wait, A: Allocator>(
 // A run by one worker, and a screen in another thread: whether the day is replayed, and what the screen has seen.
 fn run_and_see<R: Threads + Wait + Sync>(
     rt: &R,
-    alloc: &Global,
+    alloc: Global,
     day: &Day<Global>,
     gate: &Seeing,
 ) -> Result<(bool, Option<Reading>), Fail> {
@@ -209,7 +209,7 @@ fn run_and_see<R: Threads + Wait + Sync>(
         rt,
         || -> bool
             requires { AreNew day.now.payloads (locates_of_day day.now.payloads) board.now writers.items }
-        { run(rt, *alloc, day, board, writers, 1, gate).is_ok() },
+        { run(rt, alloc, day, board, writers, 1, gate).is_ok() },
         || -> Option<Reading>
             requires { IsOn board.now screen.place }
         { see_first(rt, board, screen, gate) },
@@ -224,7 +224,7 @@ fn a_screen_reads_while_a_worker_is_held(rt: HostRuntime) -> Result<(), Fail> {
         seen: AtomicU64::new(0),
         held: AtomicU64::new(0),
     };
-    let (replayed, seen) = run_and_see(&rt, &alloc, &day, &gate)?;
+    let (replayed, seen) = run_and_see(&rt, alloc, &day, &gate)?;
     let first = Reading {
         message: 1,
         bid_price: 0,

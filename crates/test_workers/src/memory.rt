@@ -4,12 +4,29 @@ use crate::screens::first_screen;
 use binaryfile::Day;
 use std::alloc::Global;
 use std::sync::Wait;
+use std::sync::atomic::{AtomicU64, Ordering};
 use std::test::Fail;
-use std::thread::Threads;
-use stock_workers::{FreeGate, RunFault, run};
+use std::thread::{Threads, yield_now};
+use stock_workers::{Gate, RunFault, run};
 use test_refusing::{Refusal, Refusing, Tried, refuse_each};
 use test_support::{same, two_stocks};
 use top_cell::{Board, Reading};
+
+// Lets each worker linger at each message while other threads run, and knows how many are there.
+#[derive(Drop)]
+struct Lingering {
+    there: AtomicU64,
+}
+
+impl Gate for Lingering {
+    fn at<R: Threads + Wait + Sync>(&self, _rt: &R, _worker: u32, _message: u32) {
+        self.there.fetch_add(1, Ordering::SeqCst);
+        for _ in 0..100u32 {
+            yield_now();
+        }
+        self.there.fetch_sub(1, Ordering::SeqCst);
+    }
+}
 
 // A reading of a stock that has bids only.
 fn bid(message: u32, bid_price: u32, bid_shares: u64) -> Reading {
@@ -34,18 +51,23 @@ fn readings() -> [Reading; 5] {
 }
 
 // A run by two workers under a refusal, on a new board: its fault, what a screen of the first stock, made before the
-// run, reads after it, and what became of it. A run that succeeds has made the whole day.
+// run, reads after it, and what became of it. No worker is at its gate any more. A run that succeeds has made the whole
+// day.
 fn run_under<'h, R: Threads + Wait + Sync>(
     rt: &R,
     heap: &'h Refusing<Global>,
     day: &Day<&'h Refusing<Global>>,
     refusal: Refusal,
 ) -> Result<(Option<RunFault>, Reading, Tried), Fail> {
-    let (board, mut writers) = Board::new(&heap, day)?;
+    let (board, mut writers) = Board::new(heap, day)?;
     let mut screen = first_screen(&board, &mut writers)?;
     heap.restart(refusal);
-    let ended = run(rt, heap, day, &board, writers, 2, &FreeGate);
+    let gate = Lingering {
+        there: AtomicU64::new(0),
+    };
+    let ended = run(rt, heap, day, &board, writers, 2, &gate);
     let tried = heap.tried(ended.is_err());
+    same("who is at a gate", &gate.there.load(Ordering::SeqCst), &0)?;
     let reading = screen.read(rt, &board);
     match ended {
         Ok(replayed) => {

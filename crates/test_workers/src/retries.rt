@@ -38,7 +38,7 @@ impl Gate for Noting {
 fn take_turns<'h, R: Threads + Wait + Sync>(
     rt: &R,
     heap: &'h Refusing<Global>,
-    board: &Board<'_, &'h Refusing<Global>>,
+    board: &Board<&'h Refusing<Global>>,
     worker: &mut Worker<'_, &'h Refusing<Global>>,
 ) -> Result<Tried, Fail>
     requires { All (IsOn board.now) worker.old.places }
@@ -65,21 +65,21 @@ fn take_turns<'h, R: Threads + Wait + Sync>(
 // Takes the turns of a new worker under a refusal.
 fn try_turns<R: Threads + Wait + Sync>(
     rt: &R,
-    heap: &&Refusing<Global>,
+    heap: &Refusing<Global>,
     refusal: Refusal,
 ) -> Result<Tried, Fail> {
-    let day = two_stocks(*heap)?;
+    let day = two_stocks(heap)?;
     let (parts, waiting) = prepare(rt, heap, &day)?;
-    let (mut worker, board, _) = only_worker(*heap, &parts, waiting)?;
+    let (mut worker, board, _) = only_worker(heap, &parts, waiting)?;
     heap.restart(refusal);
-    take_turns(rt, *heap, &board, &mut worker)
+    take_turns(rt, heap, &board, &mut worker)
 }
 
 #[test]
 fn a_refused_turn_comes_to_the_gate_again(rt: HostRuntime) -> Result<(), Fail> {
     let heap = Refusing::new(rt.alloc(), Refusal::Never);
     let growths = refuse_each(|refusal: Refusal| -> Result<Tried, Fail> {
-        try_turns(&rt, &&heap, refusal)
+        try_turns(&rt, &heap, refusal)
     })?;
     same("some growths", &(growths > 1 && growths <= 100), &true)
 }

@@ -19,12 +19,12 @@ use top_cell::{Board, Reading};
 /// A day, replayed on a new board.
 pub fn replayed<R: Threads + Wait + Sync>(
     rt: &R,
-    alloc: &Global,
+    alloc: Global,
     day: &Day<Global>,
     workers: u32,
 ) -> Result<Replayed<Global>, Fail> {
     let (board, writers) = Board::new(alloc, day)?;
-    run(rt, *alloc, day, &board, writers, workers, &FreeGate).map_err(|_| Fail::new(
+    run(rt, alloc, day, &board, writers, workers, &FreeGate).map_err(|_| Fail::new(
         "the day isn't replayed",
     ))
 }
@@ -52,7 +52,7 @@ fn two_stocks_are_the_same_for_each_number_of_workers(rt: HostRuntime) -> Result
     let alloc = rt.alloc();
     let day = two_stocks(alloc)?;
     for workers in [1, 2, 3, 64] {
-        same_two_stocks(alloc, &replayed(&rt, &alloc, &day, workers)?)?;
+        same_two_stocks(alloc, &replayed(&rt, alloc, &day, workers)?)?;
     }
     Ok(())
 }
@@ -62,7 +62,7 @@ fn a_crossed_book_ends_at_its_last_message(rt: HostRuntime) -> Result<(), Fail> 
     let alloc = rt.alloc();
     let day = crossed_book(alloc)?;
     for workers in [1, 2, 3, 64] {
-        let replayed = replayed(&rt, &alloc, &day, workers)?;
+        let replayed = replayed(&rt, alloc, &day, workers)?;
         let counts = (replayed.stocks.len(), replayed.writers.len());
         same("how many stocks and writers", &counts, &(1, 1))?;
         for writer in &replayed.writers {
@@ -81,7 +81,7 @@ fn a_crossed_book_ends_at_its_last_message(rt: HostRuntime) -> Result<(), Fail> 
 fn screens_read_the_last_message_after_a_run(rt: HostRuntime) -> Result<(), Fail> {
     let alloc = rt.alloc();
     let day = crossed_book(alloc)?;
-    let (board, mut writers) = Board::new(&alloc, &day)?;
+    let (board, mut writers) = Board::new(alloc, &day)?;
     let mut early = first_screen(&board, &mut writers)?;
     same("before the run", &early.message(), &0)?;
     let mut replayed = run(&rt, alloc, &day, &board, writers, 2, &FreeGate)?;
@@ -145,7 +145,7 @@ fn spent_references_are_the_same_for_each_number_of_workers(rt: HostRuntime) -> 
     }
     let day = day_with(alloc, &messages)?;
     for workers in [1, 2, 3, 64] {
-        same_spent(&replayed(&rt, &alloc, &day, workers)?)?;
+        same_spent(&replayed(&rt, alloc, &day, workers)?)?;
     }
     Ok(())
 }
@@ -154,7 +154,7 @@ fn spent_references_are_the_same_for_each_number_of_workers(rt: HostRuntime) -> 
 fn a_run_returns_the_last_event(rt: HostRuntime) -> Result<(), Fail> {
     let alloc = rt.alloc();
     let day = day_with(alloc, &[system(0, b'O'), system(0, b'S')])?;
-    let replayed = replayed(&rt, &alloc, &day, 2)?;
+    let replayed = replayed(&rt, alloc, &day, 2)?;
     same("the event", &replayed.event, &Some(b'S'))?;
     same("how many stocks", &replayed.stocks.len(), &0)
 }
@@ -167,7 +167,7 @@ fn a_number_of_workers_is_from_1_to_64(rt: HostRuntime) -> Result<(), Fail> {
     let day = two_stocks(alloc)?;
     for workers in [0, 65] {
         heap.restart(Refusal::Never);
-        let (board, writers) = Board::new(&alloc, &day)?;
+        let (board, writers) = Board::new(alloc, &day)?;
         heap.restart(Refusal::From(1));
         let fault = run(&rt, alloc, &day, &board, writers, workers, &FreeGate).err();
         same(

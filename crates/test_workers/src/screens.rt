@@ -8,7 +8,7 @@ use top_cell::{Board, Screen, TopWriter};
 
 /// A screen of the first stock of a board.
 pub fn first_screen<A: Allocator>(
-    board: &Board<'_, A>,
+    board: &Board<A>,
     writers: &mut Vec<TopWriter, A>,
 ) -> Result<Screen, Fail>
     requires { All (λ w. IsOn board.now w.place) writers.old.items }

@@ -19,22 +19,22 @@ use top_cell::{Board, Reading, Screen, TopWriter};
 
 /// The writers of the only worker of a day, their board, and a screen of the day's first stock.
 #[derive(Drop)]
-pub struct Waiting<'a, A: Allocator> {
-    board: Board<'a, A>,
+pub struct Waiting<A: Allocator> {
+    board: Board<A>,
     writers: Vec<TopWriter, A>,
     screen: Screen,
 }
 
 /// The parts of a day for one worker, and what the worker is made of.
-pub fn prepare<'d, 'a, R: Threads + Wait + Sync, A: Allocator + Copy + Send + Sync>(
+pub fn prepare<'d, R: Threads + Wait + Sync, A: Allocator + Copy + Send + Sync>(
     rt: &R,
-    alloc: &'a A,
+    alloc: A,
     day: &'d Day<A>,
-) -> Result<(Parts<'d, A>, Waiting<'a, A>), Fail>
+) -> Result<(Parts<'d, A>, Waiting<A>), Fail>
     ensures waits { IfOk result (λ made. IsWaiting made.0 made.1.board 0 made.1.writers.items) }
     ensures screen { IfOk result (λ made. IsOn made.1.board made.1.screen.place) }
 {
-    let parts = split(rt, *alloc, day, 1)?;
+    let parts = split(rt, alloc, day, 1)?;
     let (board, mut writers) = Board::new(alloc, day)?;
     let screen = first_screen(&board, &mut writers)?;
     let waiting = Waiting {
@@ -46,11 +46,11 @@ pub fn prepare<'d, 'a, R: Threads + Wait + Sync, A: Allocator + Copy + Send + Sy
 }
 
 /// The only worker of a day, its board, and a screen of the day's first stock.
-pub fn only_worker<'p, 'a, A: Allocator + Copy>(
+pub fn only_worker<'p, A: Allocator + Copy>(
     alloc: A,
     parts: &'p Parts<'p, A>,
-    waiting: Waiting<'a, A>,
-) -> Result<(Worker<'p, A>, Board<'a, A>, Screen), AllocError>
+    waiting: Waiting<A>,
+) -> Result<(Worker<'p, A>, Board<A>, Screen), AllocError>
     requires waits { IsWaiting parts.now waiting.board 0 waiting.writers.items }
     requires screen { IsOn waiting.board waiting.screen.place }
     ensures worker { IfOk result (λ made. All (IsOn made.1) made.0.places) }
@@ -68,7 +68,7 @@ pub fn only_worker<'p, 'a, A: Allocator + Copy>(
 /// A worker's turn, after which its next one may be taken.
 pub fn turn<R: Threads + Wait + Sync, A: Allocator + Copy, G: Gate>(
     rt: &R,
-    board: &Board<'_, A>,
+    board: &Board<A>,
     worker: &mut Worker<'_, A>,
     gate: &G,
 ) -> Result<Option<Piece>, AllocError>
@@ -105,7 +105,7 @@ fn words_of(reading: Reading) -> [u64; 4] {
 // what is looked at there.
 fn follow<R: Threads + Wait + Sync, A: Allocator + Copy>(
     rt: &R,
-    board: &Board<'_, A>,
+    board: &Board<A>,
     worker: &mut Worker<'_, A>,
     screen: &mut Screen,
     turns: &mut Turns<'_, A>,
@@ -128,7 +128,7 @@ fn follow<R: Threads + Wait + Sync, A: Allocator + Copy>(
 fn a_screen_reads_what_each_turn_leaves(rt: HostRuntime) -> Result<(), Fail> {
     let alloc = rt.alloc();
     let day = crossed_book(alloc)?;
-    let (parts, waiting) = prepare(&rt, &alloc, &day)?;
+    let (parts, waiting) = prepare(&rt, alloc, &day)?;
     let (mut worker, board, mut screen) = only_worker(alloc, &parts, waiting)?;
     let mut turns = Turns::new(alloc, &parts)?;
     let crossed = [3, 0x000f_6950_000f_4240, 100, 50];
@@ -200,7 +200,7 @@ fn past_two_workers<R: Threads + Wait + Sync, A: Allocator + Copy + Send + Sync>
     let parts = split(rt, alloc, day, 2)?;
     has_messages(&parts, 0, even)?;
     has_messages(&parts, 1, odd)?;
-    let (board, _writers) = Board::new(&alloc, day)?;
+    let (board, _writers) = Board::new(alloc, day)?;
     for number in [2, 3, 63, 64, u32::MAX] {
         let mut worker = no_worker(alloc, &parts, number)?;
         let returned = turn(rt, &board, &mut worker, &FreeGate)?;
@@ -225,7 +225,7 @@ fn make_worker<'h, R: Threads + Wait + Sync>(
     day: &Day<&'h Refusing<Global>>,
     refusal: Refusal,
 ) -> Result<Tried, Fail> {
-    let (parts, waiting) = prepare(rt, &heap, day)?;
+    let (parts, waiting) = prepare(rt, heap, day)?;
     heap.restart(refusal);
     let made = only_worker(heap, &parts, waiting).is_ok();
     let tried = heap.tried(!made);
@@ -280,7 +280,7 @@ fn state_of<A: Allocator + Copy>(alloc: A, worker: &Worker<'_, A>, locate: u16) 
 fn see<R: Wait, A: Allocator + Copy>(
     rt: &R,
     alloc: A,
-    board: &Board<'_, A>,
+    board: &Board<A>,
     worker: &Worker<'_, A>,
     screen: &mut Screen,
 ) -> (Option<State>, Option<State>, Reading)
@@ -345,7 +345,7 @@ fn find_without_memory<'h>(
 // Takes turns of a worker with memory.
 fn lead<R: Threads + Wait + Sync, A: Allocator + Copy>(
     rt: &R,
-    board: &Board<'_, A>,
+    board: &Board<A>,
     worker: &mut Worker<'_, A>,
     turns: &[After],
 ) -> Result<(), Fail>
@@ -363,28 +363,28 @@ fn lead<R: Threads + Wait + Sync, A: Allocator + Copy>(
 // is taken with memory.
 fn try_turn<R: Threads + Wait + Sync>(
     rt: &R,
-    heap: &&Refusing<Global>,
+    heap: &Refusing<Global>,
     turns: &[After],
     refusal: Refusal,
 ) -> Result<Tried, Fail> {
     let Some((wanted, earlier)) = turns.split_last() else {
         return Err(Fail::new("no turn"));
     };
-    let day = two_stocks(*heap)?;
+    let day = two_stocks(heap)?;
     let (parts, waiting) = prepare(rt, heap, &day)?;
-    let (mut worker, board, mut screen) = only_worker(*heap, &parts, waiting)?;
+    let (mut worker, board, mut screen) = only_worker(heap, &parts, waiting)?;
     lead(rt, &board, &mut worker, earlier)?;
-    find_without_memory(*heap, &worker)?;
-    let before = see(rt, *heap, &board, &worker, &mut screen);
+    find_without_memory(heap, &worker)?;
+    let before = see(rt, heap, &board, &worker, &mut screen);
     heap.restart(refusal);
     let mut returned = turn(rt, &board, &mut worker, &FreeGate);
     let tried = heap.tried(returned.is_err());
     if tried.refused {
-        let after = see(rt, *heap, &board, &worker, &mut screen);
+        let after = see(rt, heap, &board, &worker, &mut screen);
         same("a refused turn", &after, &before)?;
         returned = turn(rt, &board, &mut worker, &FreeGate);
     }
-    let (first, second, reading) = see(rt, *heap, &board, &worker, &mut screen);
+    let (first, second, reading) = see(rt, heap, &board, &worker, &mut screen);
     let (piece, one, two) = *wanted;
     same("a turn", &returned, &Ok(piece))?;
     same(
@@ -403,7 +403,7 @@ fn a_turn_without_memory_is_tried_again(rt: HostRuntime) -> Result<(), Fail> {
     for last in 1..=turns.len() {
         let some = turns.get(..last).unwrap_or(&[]);
         let more = refuse_any(|refusal: Refusal| -> Result<Tried, Fail> {
-            try_turn(&rt, &&heap, some, refusal)
+            try_turn(&rt, &heap, some, refusal)
         })?;
         growths = growths.saturating_add(more);
     }

@@ -20,12 +20,12 @@ use std::marker::{Brand, Model};
 /// All cells lie one after another in one table. A board is seen as its cells, each the locate code of its stock and
 /// the identity of the table.
 #[derive(Drop)]
-pub struct Board<'a, A: Allocator> {
+pub struct Board<A: Allocator> {
     locates: Vec<u16, A>,
-    cells: Cells<'a, A>,
+    cells: Cells<A>,
 }
 
-impl<'a, A: Allocator> Model for Board<'a, A> {
+impl<A: Allocator> Model for Board<A> {
     ghost use Rattle.std.specs.Prelude.{List};
     ghost use Rattle.top_cell.specs.Boards.{CellId, IsBoard, cells_of};
 
@@ -36,7 +36,7 @@ impl<'a, A: Allocator> Model for Board<'a, A> {
     ghost invariant = { λ b. IsBoard b.cells.shared.table_id b.cells.shared.key b.locates.items };
 }
 
-impl<'a, A: Allocator> Board<'a, A> {
+impl<A: Allocator> Board<A> {
     // The words of its cells.
     pub(crate) fn cells(&self) -> &Words
         ensures table { (index : ℕ) (cell : CellId) → slice_get self.now index ≡ Some cell
@@ -75,14 +75,14 @@ fn open<J: Naming, A: Allocator>(
     }
 }
 
-impl<'a, A: Allocator + Copy> Board<'a, A> {
+impl<A: Allocator + Copy> Board<A> {
     /// A cell for each stock that has messages in the day, and the writer of each, by rising locate code. Each writer
     /// is before the first message, and each cell shows zeros.
-    pub fn new(alloc: &'a A, day: &Day<A>) -> Result<(Board<'a, A>, Vec<TopWriter, A>), AllocError>
+    pub fn new(alloc: A, day: &Day<A>) -> Result<(Board<A>, Vec<TopWriter, A>), AllocError>
         ensures { IfOk result (λ made.
             AreNew day.now.payloads (locates_of_day day.now.payloads) made.0 made.1.items) }
     {
-        let locates = locates(*alloc, day)?;
+        let locates = locates(alloc, day)?;
         Board::of_stocks(alloc, day, &locates)
     }
 
@@ -91,10 +91,10 @@ impl<'a, A: Allocator + Copy> Board<'a, A> {
     ///
     /// [`Parts::locates`]: day_core::Parts::locates
     pub fn of_stocks(
-        alloc: &'a A,
+        alloc: A,
         day: &Day<A>,
         locates: &[u16],
-    ) -> Result<(Board<'a, A>, Vec<TopWriter, A>), AllocError>
+    ) -> Result<(Board<A>, Vec<TopWriter, A>), AllocError>
         requires { locates.now ≡ locates_of_day day.now.payloads }
         ensures { IfOk result (λ made.
             AreNew day.now.payloads (locates_of_day day.now.payloads) made.0 made.1.items) }
@@ -104,15 +104,15 @@ impl<'a, A: Allocator + Copy> Board<'a, A> {
         let Some(words) = count.checked_mul(STRIDE) else {
             return Err(AllocError);
         };
-        let zeros = vec![in *alloc; 0u64; words]?;
+        let zeros = vec![in alloc; 0u64; words]?;
         let (cells, mut opener) = Cells::of_words(alloc, &zeros, &(count as u64))?;
-        let mut writers = Vec::with_capacity(*alloc, count)?;
+        let mut writers = Vec::with_capacity(alloc, count)?;
         for locate in locates {
             let index = writers.len() as u16;
             let writer = open::<Brand, A>(&cells.shared, &mut opener, day, *locate, index);
             writers.push(writer)?;
         }
-        let locates = Vec::from_slice(*alloc, locates)?;
+        let locates = Vec::from_slice(alloc, locates)?;
         Ok((Board { locates, cells }, writers))
     }
 }

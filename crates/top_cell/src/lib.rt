@@ -16,7 +16,7 @@
 //!
 //! ```rust
 //! let alloc = rt.alloc();
-//! let (board, mut writers) = Board::new(&alloc, &day)?;
+//! let (board, mut writers) = Board::new(alloc, &day)?;
 //! let writer = &mut writers[0];
 //! let mut screen = writer.screen(&board);
 //! writer.publish(&board, message, stock.top());

@@ -77,5 +77,5 @@ impl TableRule<(), Standing, u64> for BoardRule {
 /// The words of all cells of a board, as all threads see them. They are given how many cells there are.
 pub type Words = Shared<(), Standing, u64, BoardRule>;
 
-/// The same with their memory, which they free by a reference to their board's allocator.
-pub type Cells<'a, A> = Table<(), Standing, u64, BoardRule, &'a A>;
+/// The same with their memory.
+pub type Cells<A> = Table<(), Standing, u64, BoardRule, A>;

@@ -82,11 +82,7 @@ impl Screen {
     /// counts that it has loaded, and the message of a try that it has won or an earlier one. So a reading is of no
     /// earlier message than the cell showed when the call began, and a glance during which the count is even and
     /// doesn't change isn't busy.
-    pub fn glance<A: Allocator>(
-        &mut self,
-        board: &Board<'_, A>,
-        tries: u32,
-    ) -> Result<Reading, Busy>
+    pub fn glance<A: Allocator>(&mut self, board: &Board<A>, tries: u32) -> Result<Reading, Busy>
         requires own { IsOn board.now self.old.place }
         requires tries { 1 ≤ tries }
         ensures place { self.new.place ≡ self.old.place }
@@ -122,7 +118,7 @@ impl Screen {
     /// and becomes it, nor than the one that the cell showed when the call began.
     ///
     /// It glances until it sees the cell outside a change, and may wait for changes that are under way.
-    pub fn read<R: Wait, A: Allocator>(&mut self, rt: &R, board: &Board<'_, A>) -> Reading
+    pub fn read<R: Wait, A: Allocator>(&mut self, rt: &R, board: &Board<A>) -> Reading
         requires { IsOn board.now self.old.place }
         ensures place { self.new.place ≡ self.old.place }
         ensures seat { self.new.seat ≡ self.old.seat }
@@ -145,7 +141,7 @@ impl Screen {
     }
 
     /// A second screen of the stock, which stands where this one stands.
-    pub fn split<A: Allocator>(&mut self, board: &Board<'_, A>) -> Screen
+    pub fn split<A: Allocator>(&mut self, board: &Board<A>) -> Screen
         requires { IsOn board.now self.old.place }
         ensures same { self.new ≡ self.old }
         ensures screen { result ≡ new_screen self.old.place self.old.message result.seat }
@@ -159,7 +155,7 @@ impl Screen {
 
     /// Takes in another screen of the same stock, and stands at the later message of the two. The board is that of
     /// both.
-    pub fn join<A: Allocator>(&mut self, board: &Board<'_, A>, other: Screen)
+    pub fn join<A: Allocator>(&mut self, board: &Board<A>, other: Screen)
         requires own { IsOn board.now self.old.place }
         requires other { IsOn board.now other.place }
         requires same { other.place.locate ≡ self.old.place.locate }

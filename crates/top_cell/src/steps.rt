@@ -43,12 +43,7 @@ impl Model for Opened {
 
 /// Begins a change to the best bid and ask after a message, which is later than the writer's. The caller passes what
 /// [`TopWriter::publish`] requires.
-pub fn begin<A: Allocator>(
-    writer: TopWriter,
-    board: &Board<'_, A>,
-    message: u32,
-    top: Top,
-) -> Opened
+pub fn begin<A: Allocator>(writer: TopWriter, board: &Board<A>, message: u32, top: Top) -> Opened
     requires own { IsOn board.now writer.place }
     requires later { writer.message < message }
     requires within { message ≤ length writer.place.day }
@@ -73,7 +68,7 @@ pub fn begin<A: Allocator>(
 
 impl Opened {
     /// Puts the next word, where fewer than four were put.
-    pub fn put<A: Allocator>(&mut self, board: &Board<'_, A>)
+    pub fn put<A: Allocator>(&mut self, board: &Board<A>)
         requires own { IsOn board.now self.old.place }
         requires left { self.old.put < 4 }
         ensures { self.new ≡ record self.old { put = self.old.put + 1 } }
@@ -84,7 +79,7 @@ impl Opened {
     }
 
     /// Ends the change, where all four words were put.
-    pub fn end<A: Allocator>(self, board: &Board<'_, A>) -> TopWriter
+    pub fn end<A: Allocator>(self, board: &Board<A>) -> TopWriter
         requires own { IsOn board.now self.place }
         requires all { self.put ≡ 4 }
         ensures { result ≡ record { place = self.place; message = self.to } }

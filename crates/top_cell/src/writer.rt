@@ -54,7 +54,7 @@ impl TopWriter {
     /// day's stock has after the message.
     ///
     /// It waits for nobody, whatever screens do.
-    pub fn publish<A: Allocator>(&mut self, board: &Board<'_, A>, message: u32, top: Top)
+    pub fn publish<A: Allocator>(&mut self, board: &Board<A>, message: u32, top: Top)
         requires own { IsOn board.now self.old.place }
         requires later { self.old.message ≤ message }
         requires within { message ≤ length self.old.place.day }
@@ -71,7 +71,7 @@ impl TopWriter {
 
     /// Reads the cell's count, so that the processor fetches the cell's memory before it is published to. It changes
     /// nothing, and what it returns means nothing. The caller passes the writer's own board.
-    pub fn touch<A: Allocator>(&self, board: &Board<'_, A>) -> u64
+    pub fn touch<A: Allocator>(&self, board: &Board<A>) -> u64
         requires { IsOn board.now self.now.place }
     {
         self.seat.peek(board.cells(), 0)
@@ -79,7 +79,7 @@ impl TopWriter {
 
     /// A screen of the writer's stock, which stands where the writer stands: it never shows an earlier message. The
     /// caller passes the writer's own board.
-    pub fn screen<A: Allocator>(&mut self, board: &Board<'_, A>) -> Screen
+    pub fn screen<A: Allocator>(&mut self, board: &Board<A>) -> Screen
         requires { IsOn board.now self.old.place }
         ensures same { self.new ≡ self.old }
         ensures screen { result ≡ new_screen self.old.place self.old.message result.seat }

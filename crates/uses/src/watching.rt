@@ -39,11 +39,7 @@ impl Gate for Counter {
 /// What the next frame of a display shows: the stock's best bid and ask now or, where its writer is changing the cell
 /// at each of four tries, those of the frame before. It makes at most 24 loads and waits for nobody, so a display that
 /// has to be drawn by a fixed time can call it. The caller passes the screen's own board.
-pub fn next_frame<A: Allocator>(
-    board: &Board<'_, A>,
-    screen: &mut Screen,
-    before: Reading,
-) -> Reading
+pub fn next_frame<A: Allocator>(board: &Board<A>, screen: &mut Screen, before: Reading) -> Reading
     requires on { IsOn board.now screen.old.place }
     requires before { IsReading screen.old.place.day screen.old.place.locate before }
     ensures shows { IsReading screen.new.place.day screen.new.place.locate result }
@@ -74,7 +70,7 @@ mod tests {
 
     // A screen of the first stock of a board; none where the board has no stock.
     fn first_screen<A: Allocator>(
-        board: &Board<'_, A>,
+        board: &Board<A>,
         writers: &mut Vec<TopWriter, A>,
     ) -> Option<Screen>
         requires { All (λ w. IsOn board.now w.place) writers.old.items }
@@ -91,7 +87,7 @@ mod tests {
     fn a_frame_shows_the_last_message(rt: HostRuntime) -> Result<(), Fail> {
         let alloc = rt.alloc();
         let day = Day::from_bytes(alloc, assemble(alloc, TEXT)?, 10)?;
-        let (board, mut writers) = Board::new(&alloc, &day)?;
+        let (board, mut writers) = Board::new(alloc, &day)?;
         let Some(mut screen) = first_screen(&board, &mut writers) else {
             return Err(Fail::new("no stock"));
         };

@@ -1,5 +1,6 @@
 //! The engine of the disassembler.
-ghost use Rattle.std.specs.Prelude.{◌≡◌, IfOk, IfErr};
+ghost use Rattle.std.specs.Prelude.{◌≡◌, ◌-◌, ◌^◌, Err, IfOk, IfErr};
+ghost use Rattle.binaryfile.specs.Loading.{HasMoreMessages};
 ghost use Rattle.itch_engine.specs.Runs.{Fails, Runs};
 ghost use Rattle.itch_engine.specs.TextEngines.{Disassembles, DisassemblesBetween, disassembler, part_disassembler};
 
@@ -14,6 +15,8 @@ use std::io::{Read, Write};
 fn text_of_file<A: Allocator + Copy>(alloc: A, input: Vec<u8, A>) -> Result<Vec<u8, A>, ProgFault>
     ensures text { IfOk result (λ text. Disassembles input.items text.items) }
     ensures fault { IfErr result (Fails disassembler input.items) }
+    // Whatever memory is left.
+    ensures judged { HasMoreMessages input.items (2 ^ 32 - 1) → result ≡ Err ProgFault.TooManyMessages }
 {
     let day = Day::from_bytes(alloc, input, MOST_MESSAGES)?;
     Ok(disassemble(alloc, &day)?)
@@ -47,6 +50,8 @@ fn part_of_file<A: Allocator + Copy>(
 ) -> Result<Vec<u8, A>, ProgFault>
     ensures text { IfOk result (λ text. DisassemblesBetween first last input.items text.items) }
     ensures fault { IfErr result (Fails (part_disassembler first last) input.items) }
+    // Whatever memory is left.
+    ensures judged { HasMoreMessages input.items (2 ^ 32 - 1) → result ≡ Err ProgFault.TooManyMessages }
 {
     let day = Day::from_bytes(alloc, input, MOST_MESSAGES)?;
     Ok(disassemble_between(alloc, &day, first, last)?)

@@ -1,5 +1,6 @@
 //! The engine that replays a day file.
-ghost use Rattle.std.specs.Prelude.{◌≡◌, IfOk, IfErr};
+ghost use Rattle.std.specs.Prelude.{◌≡◌, ◌-◌, ◌^◌, Err, IfOk, IfErr};
+ghost use Rattle.binaryfile.specs.Loading.{HasMoreMessages};
 ghost use Rattle.itch_engine.specs.Runs.{Fails, Runs};
 ghost use Rattle.itch_engine.specs.ReplayEngines.{Replays, replayer};
 
@@ -24,6 +25,8 @@ pub(crate) fn report_of_file<R: Threads + Wait + Sync, A: Allocator + Copy + Sen
 ) -> Result<Report<A>, ProgFault>
     ensures report { IfOk result (λ report. Replays input.items report.text.items report.refused) }
     ensures fault { IfErr result (Fails replayer input.items) }
+    // Whatever memory is left.
+    ensures judged { HasMoreMessages input.items (2 ^ 32 - 1) → result ≡ Err ProgFault.TooManyMessages }
 {
     let day = Day::from_bytes(alloc, input, MOST_MESSAGES)?;
     Ok(report_of_day(rt, alloc, &day, workers, gate)?)

@@ -38,7 +38,7 @@ fn replay<R: Threads + Wait + Sync, A: Allocator + Copy + Send + Sync, G: Gate>(
     ensures { IfOk result (λ summary. IsSummary parts.now.day
         summary.refused.items summary.stocks.items summary.event) }
 {
-    let (board, writers) = Board::of_stocks(&alloc, parts.day(), parts.locates())?;
+    let (board, writers) = Board::of_stocks(alloc, parts.day(), parts.locates())?;
     summarize_in_threads(rt, alloc, parts, threads, &board, writers, gate)
 }
 

@@ -4,9 +4,10 @@ use Rattle.std.proofs.lemmas.Result.{err_from_is_err_and}
 use Rattle.byte_strings.specs.Bytes.{AreBytes}
 use Rattle.binaryfile.specs.declared.load.LoadFault.TheVariants.{TooManyMessages}
 use Rattle.binaryfile.specs.Entries.{Contents}
+use Rattle.binaryfile.specs.Loading.{HasMoreMessages}
 use Rattle.binaryfile.specs.Scanned.{contents_of}
 use Rattle.binaryfile.specs.Index.{payloads_of, offset, IsIndex, IsDay}
-use Rattle.binaryfile.proofs.Splitting.{contents_splits}
+use Rattle.binaryfile.proofs.Splitting.{contents_splits, splits_contents}
 use Rattle.binaryfile.proofs.Offsets.{after_entries}
 use Rattle.binaryfile.proofs.day.Day.from_bytes.Goals as goal
 
@@ -23,6 +24,9 @@ is_day : (bytes items starts : List ℕ) (n end : ℕ) (marked : Bool) → bytes
 is_day bytes items starts n end marked same are all few is mark places =
     subst (λ (x : List ℕ). IsDay x starts n end marked) same
     (record { are = are; count_is = all; few = few; end_is = is; marked_is = mark ∙ marker_after bytes end n are is all; index = places })
+
+more_there : (bytes : List ℕ) (messages : ℕ) → HasMoreMessages bytes messages → messages < length (payloads_of bytes)
+more_there bytes messages more = subst (λ (contents : Contents). messages < length contents.payloads) (splits_contents bytes more.contents more.split) more.more
 
 pub begins_with_marker-marked-requires : goal.begins_with_marker-marked-requires
 begins_with_marker-marked-requires g c =
@@ -57,3 +61,18 @@ returns-clause-within g c =
     let e = c.in_ok-count.ensures in
     let seen : length (payloads_of c.as_slice-whole.result.now) ≡ length (payloads_of c.args.bytes.items) = ap (λ (x : List ℕ). length (payloads_of x)) c.as_slice-whole.ensures.value in
     omega (arith, seen, e.count, e.limit)
+
+pub returns-in_err-count-clause-judged : goal.returns-in_err-count-clause-judged
+returns-in_err-count-clause-judged g c = λ more.
+    let seen : length (payloads_of c.as_slice-whole.result.now) ≡ length (payloads_of c.args.bytes.items) = ap (λ (x : List ℕ). length (payloads_of x)) c.as_slice-whole.ensures.value in
+    let judged = c.entries_within.ensures.judged (omega (arith, seen, more_there _ _ more)) in
+    let was = c.in_err-count.was {u = tt} in
+    let same = err_from_is_err_and c.from_residual.result c.from_residual.ensures.1 in
+    let is : c.in_err-count.field-0.0 ≡ TooManyMessages = cc in
+    same.1 ∙ ap Err (same.2 ∙ is)
+
+pub returns-clause-judged : goal.returns-clause-judged
+returns-clause-judged g c = λ more.
+    let e = c.in_ok-count.ensures in
+    let seen : length (payloads_of c.as_slice-whole.result.now) ≡ length (payloads_of c.args.bytes.items) = ap (λ (x : List ℕ). length (payloads_of x)) c.as_slice-whole.ensures.value in
+    absurd (omega (arith, seen, e.count, e.limit, more_there _ _ more))

@@ -1,0 +1,10 @@
+-- The exit status of the program for a fault of an engine of one stock. The numbers are of this project.
+use Rattle.std.specs.Prelude.{ℕ}
+use Rattle.itch_engine.specs.ExitStatus.{fault_status}
+use Rattle.itch_readings.specs.declared.fault.StockFault.{StockFault}
+use Rattle.itch_readings.specs.declared.fault.StockFault.TheVariants.{NoStock, Engine}
+
+-- 2 for a stock that isn't in the day
+abbrev pub status_of : StockFault → ℕ
+status_of NoStock = 2
+status_of (Engine fault) = fault_status fault
