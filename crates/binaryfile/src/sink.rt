@@ -60,7 +60,8 @@ impl<W: Write> Sink<W> {
     /// writer did, also for no bytes, no clause can say: tests show it.
     pub fn write(&mut self, bytes: &[u8]) -> io::Result<usize>
         ensures within { WritesAtMost result bytes.now }
-        ensures bytes { WriteAppends (W.contents self.old.device) (W.contents self.new.device) result bytes.now }
+        ensures bytes { WriteAppends (W.contents self.old.device) (W.contents self.new.device)
+            result bytes.now }
         ensures some { 0 < length bytes.now → IfOk result (λ count. 0 < count) }
         // The sink has failed exactly where this write returns an error.
         ensures failed { IsErr result ↔ HasFailed self.new }

@@ -64,13 +64,15 @@ pub record LacksStock (name : StockName) (input : List ℕ) : Type 0 where
   pub stocks : HasStocks input contents listed
   pub none : locate_of listed name ≡ None
 
--- The reader gave a whole input of no more bytes than the engine takes, which lacks the stock, and nothing was sent.
+-- The reader, which hadn't failed before, gave a whole input of no more bytes than the engine takes, which lacks the
+-- stock, and nothing was sent.
 pub record FindsNoStock {A R W : Type 0} (engine : Engine A) (name : StockName) (left : R → Option (List ℕ))
     (feed fed : Device R) (sink sent : Device W) : Type 0 where
   pub input : List ℕ
   pub gave : GaveAll (left feed.device) (left fed.device) input
   pub within : length input ≤ engine.most
   pub lacks : LacksStock name input
+  pub worked : ¬ HasFailed feed
   pub works : ¬ HasFailed fed
   pub nothing_sent : sent ≡ sink
 

@@ -21,8 +21,8 @@
 //! }
 //! ```
 //!
-//! The forms of lines and of names are of this project. An `AllocError` and `ProgFault::Memory` say that memory was
-//! refused.
+//! The forms of lines and of names are of this project. An `AllocError`, `ProgFault::Memory` and, of [`tops_run`],
+//! `StockFault::Engine(ProgFault::Memory)` say that memory was refused.
 #![tactic(auto)]
 
 mod engines;

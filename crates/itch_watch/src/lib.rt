@@ -15,7 +15,7 @@
 //! `day_core`. [`watch_stock`] is a caller to copy from:
 //! it calls `summarize_parts` of `stock_workers`, and its screen reads the board meanwhile.
 //!
-//! All is of this project. An `AllocError` and `ProgFault::Memory` say that memory was refused.
+//! All is of this project. An `AllocError` and `StockFault::Engine(ProgFault::Memory)` say that memory was refused.
 #![tactic(auto)]
 
 mod engine;
