@@ -4,6 +4,7 @@ use crate::days::tour;
 use debugger::{DebugFault, Debugger};
 use itch_table::{Outcome, Top, Totals};
 use std::test::Fail;
+use test_support::same;
 
 // To a message that was applied.
 const fn applied(n: u32) -> Result<Returned, DebugFault> {
@@ -69,4 +70,14 @@ fn a_tour_shows_the_stock_at_each_place(rt: HostRuntime) -> Result<(), Fail> {
         (Call::Stock(1), halted(50, 1, 10, 15_000_000)),
     ];
     follow(alloc, &mut debugger, &script)
+}
+
+#[test]
+fn faults_have_fixed_numbers(_rt: HostRuntime) -> Result<(), Fail> {
+    let faults = [
+        DebugFault::Memory,
+        DebugFault::PastEnd,
+        DebugFault::BeforeStart,
+    ];
+    same("their numbers", &faults.map(DebugFault::number), &[1, 2, 3])
 }

@@ -9,5 +9,3 @@ mod growing;
 mod own;
 #[cfg(test)]
 mod spent;
-#[cfg(test)]
-mod trades;
