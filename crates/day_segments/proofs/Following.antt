@@ -13,7 +13,8 @@ use Rattle.byte_strings.specs.Bytes.{AreBytes, IsByte}
 use Rattle.binaryfile.specs.Entries.{Contents, IsPayload, Splits, entry, marker}
 use Rattle.binaryfile.proofs.Splitting.{splits_contents}
 use Rattle.day_segments.proofs.Carried.{entries_long}
-use Rattle.day_segments.specs.Segments.{IsReadTo, IsSegment, carry_after, carry_by, followed_by, nothing_read}
+use Rattle.day_segments.specs.Segments.{IsSegment, carry_after, carry_by}
+use Rattle.day_segments.specs.Reading.{IsReadTo, followed_by, nothing_read}
 
 abbrev contents : List (List ℕ) → Bool → List ℕ → Contents
 contents payloads marked tail = record { payloads = payloads; marked = marked; tail = tail }

@@ -1,3 +1,5 @@
 mod Filled
 mod Carried
-pub mod Following
+mod Following
+mod FurtherReading
+pub mod SegmentCases

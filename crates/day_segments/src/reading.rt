@@ -73,7 +73,7 @@ fn next_bytes<R: Read, A: Allocator>(
 /// no memory, where it had failed before), [`LoadFault::Memory`] where memory is refused, [`LoadFault::TooManyBytes`]
 /// where the reader gave more than `most` bytes. At most `most + 1` bytes are taken from the reader, whatever the result.
 /// There is no segment after a fault, and what was taken for it is lost, so the file can't be read on.
-pub fn read_segment<R: Read, A: Allocator + Copy>(
+pub(crate) fn read_segment<R: Read, A: Allocator + Copy>(
     alloc: A,
     feed: &mut Feed<R>,
     carried: &[u8],
@@ -117,7 +117,7 @@ pub fn read_segment<R: Read, A: Allocator + Copy>(
 /// What is carried over to the segment after this one, in memory of `alloc`: the bytes of an entry that the segment has
 /// only in part, or an end marker, after which nothing is an entry. These are 65,536 bytes at most, as many as
 /// [`read_segment`] takes. An error says that memory was refused.
-pub fn carry_after<A: Allocator + Copy>(
+pub(crate) fn carry_after<A: Allocator + Copy>(
     alloc: A,
     segment: &Day<A>,
 ) -> Result<Vec<u8, A>, AllocError>

@@ -11,7 +11,7 @@ use crate::naming::{Listed, StockName, list_more, list_stocks, locate_of, unlist
 use crate::stock_lines::put_stocks;
 use crate::top_lines::{Selection, put_tops};
 use binaryfile::{Day, Feed, Sink, read_to_end, send};
-use day_segments::{carry_after, read_segment};
+use day_segments::SegmentReader;
 use itch_engine::ProgFault;
 use itch_engine::limits::{MOST_FILE_BYTES, MOST_MESSAGES};
 use std::alloc::Allocator;
@@ -39,24 +39,13 @@ fn listed_of_file<A: Allocator + Copy, R: Read>(
         return Err(ProgFault::Read);
     }
     let mut listed = unlisted(alloc)?;
-    let mut carried = Vec::new(alloc);
-    let mut given = 0u64;
-    let mut messages = 0u64;
-    while let Some(segment) = read_segment(
-        alloc,
-        feed,
-        &carried,
-        SEGMENT_BYTES,
-        MOST_FILE_BYTES - given,
-    )? {
-        messages += u64::from(segment.len());
-        if messages <= u64::from(MOST_MESSAGES) {
+    let mut reader = SegmentReader::new(alloc, SEGMENT_BYTES, MOST_FILE_BYTES);
+    while let Some(segment) = reader.next(alloc, feed)? {
+        if reader.messages() <= u64::from(MOST_MESSAGES) {
             list_more(&mut listed, &segment);
         }
-        given += (segment.bytes().len() - carried.len()) as u64;
-        carried = carry_after(alloc, &segment)?;
     }
-    if messages > u64::from(MOST_MESSAGES) {
+    if reader.messages() > u64::from(MOST_MESSAGES) {
         return Err(ProgFault::TooManyMessages);
     }
     Ok(listed)

@@ -1,7 +1,7 @@
 //! Files that are read segment by segment.
 use crate::THREE;
 use binaryfile::{Day, Feed, LoadFault};
-use day_segments::{carry_after, read_segment};
+use day_segments::SegmentReader;
 use std::alloc::{AllocError, Allocator, Global};
 use std::io::ErrorKind;
 use std::test::Fail;
@@ -25,37 +25,33 @@ fn long_file<A: Allocator>(alloc: A) -> Result<Vec<u8, A>, AllocError> {
     Ok(file)
 }
 
-// A segment that takes so many bytes, where one comes.
+// The next segment, where one comes.
 fn next<A: Allocator + Copy>(
     alloc: A,
+    reader: &mut SegmentReader<A>,
     feed: &mut Feed<Pieces<'_>>,
-    carried: &[u8],
-    size: u32,
 ) -> Result<Day<A>, Fail> {
-    if carried.len() > 65_536 {
-        return Err(Fail::new("no more than an entry is carried over"));
-    }
-    if size == 0 || size > 1 << 30 {
-        return Err(Fail::new("a segment takes 1 to 2^30 bytes"));
-    }
-    match read_segment(alloc, feed, carried, size, MOST) {
+    match reader.next(alloc, feed) {
         Ok(Some(segment)) => Ok(segment),
         Ok(None) => Err(Fail::new("a file ends before its last segment")),
         Err(fault) => Err(Fail::new(format_args!("a segment has a fault: {fault:?}"))),
     }
 }
 
-// That a feed gives no segment more.
+// That a file has no segment more, and so many messages and bytes.
 fn try_end<A: Allocator + Copy>(
     alloc: A,
+    reader: &mut SegmentReader<A>,
     feed: &mut Feed<Pieces<'_>>,
-    carried: &[u8],
+    wanted: (u64, u64),
 ) -> Result<(), Fail> {
-    if carried.len() > 65_536 {
-        return Err(Fail::new("no more than an entry is carried over"));
-    }
-    let ended = matches!(read_segment(alloc, feed, carried, SIZE, MOST), Ok(None));
-    same("the end", &(ended, feed.failed()), &(true, false))
+    let ended = matches!(reader.next(alloc, feed), Ok(None));
+    same("the end", &(ended, feed.failed()), &(true, false))?;
+    same(
+        "its messages and bytes",
+        &(reader.messages(), reader.bytes()),
+        &wanted,
+    )
 }
 
 #[test]
@@ -63,10 +59,14 @@ fn an_entry_of_two_segments_is_in_the_second(rt: HostRuntime) -> Result<(), Fail
     let alloc = rt.alloc();
     let file = long_file(alloc)?;
     let mut feed = Feed::new(Pieces::new(&file, 1_000_000));
-    let first = next(alloc, &mut feed, &[], SIZE)?;
-    let carried = carry_after(alloc, &first)?;
-    same("a segment", &(first.len(), carried.len()), &(15, 65_521))?;
-    let second = next(alloc, &mut feed, &carried, SIZE)?;
+    let mut reader = SegmentReader::new(alloc, SIZE, MOST);
+    let first = next(alloc, &mut reader, &mut feed)?;
+    same(
+        "a segment",
+        &(first.len(), first.tail().len()),
+        &(15, 65_521),
+    )?;
+    let second = next(alloc, &mut reader, &mut feed)?;
     same(
         "the next one",
         &(second.len(), second.marked()),
@@ -76,9 +76,7 @@ fn an_entry_of_two_segments_is_in_the_second(rt: HostRuntime) -> Result<(), Fail
         return Err(Fail::new("a segment of five entries has no first one"));
     };
     same_bytes("the entry", shared, &[15; 65_535])?;
-    let carried = carry_after(alloc, &second)?;
-    same("what is carried over", &carried.len(), &0)?;
-    try_end(alloc, &mut feed, &carried)
+    try_end(alloc, &mut reader, &mut feed, (20, 1_310_740))
 }
 
 #[test]
@@ -87,15 +85,12 @@ fn nothing_after_a_marker_is_an_entry(rt: HostRuntime) -> Result<(), Fail> {
     let mut file = THREE.to_vec(alloc)?;
     file.extend_from_slice(&long_file(alloc)?)?;
     let mut feed = Feed::new(Pieces::new(&file, 100_000));
-    let first = next(alloc, &mut feed, &[], SIZE)?;
-    let carried = carry_after(alloc, &first)?;
+    let mut reader = SegmentReader::new(alloc, SIZE, MOST);
+    let first = next(alloc, &mut reader, &mut feed)?;
     same("a segment", &(first.len(), first.marked()), &(3, true))?;
-    same_bytes("what is carried over", &carried, &[0, 0])?;
-    let second = next(alloc, &mut feed, &carried, SIZE)?;
-    let carried = carry_after(alloc, &second)?;
+    let second = next(alloc, &mut reader, &mut feed)?;
     same("the next one", &(second.len(), second.marked()), &(0, true))?;
-    same_bytes("what is carried over then", &carried, &[0, 0])?;
-    try_end(alloc, &mut feed, &carried)
+    try_end(alloc, &mut reader, &mut feed, (3, 1_310_753))
 }
 
 // A file whose first segment ends after one byte of these, which stand after 15 long entries and one of 65,518 bytes:
@@ -111,10 +106,10 @@ fn try_border<A: Allocator + Copy>(
     file.resize(1_048_575, b'x')?;
     file.extend_from_slice(rest)?;
     let mut feed = Feed::new(Pieces::new(&file, 1 << 20));
-    let first = next(alloc, &mut feed, &[], SIZE)?;
-    let carried = carry_after(alloc, &first)?;
-    same("a segment", &(first.len(), carried.len()), &(16, 1))?;
-    let second = next(alloc, &mut feed, &carried, SIZE)?;
+    let mut reader = SegmentReader::new(alloc, SIZE, MOST);
+    let first = next(alloc, &mut reader, &mut feed)?;
+    same("a segment", &(first.len(), first.tail().len()), &(16, 1))?;
+    let second = next(alloc, &mut reader, &mut feed)?;
     let found = (second.len(), second.marked(), second.tail());
     same("the next one", &found, &wanted)
 }
@@ -134,17 +129,19 @@ fn try_segments<A: Allocator + Copy>(
     size: u32,
     wanted: &[(&[&[u8]], bool, &[u8])],
 ) -> Result<(), Fail> {
+    if size == 0 || size > 1 << 30 {
+        return Err(Fail::new("a segment takes 1 to 2^30 bytes"));
+    }
     let mut feed = Feed::new(Pieces::new(file, 2));
-    let mut carried = Vec::new(alloc);
+    let mut reader = SegmentReader::new(alloc, size, MOST);
     for (entries, marked, tail) in wanted {
-        let segment = next(alloc, &mut feed, &carried, size)?;
+        let segment = next(alloc, &mut reader, &mut feed)?;
         let found = segment.payloads().collect::<Vec<&[u8], A>>(alloc)?;
         same_list("the entries", &found, entries)?;
         let rest = (segment.marked(), segment.tail());
         same("the rest", &(size, rest), &(size, (*marked, *tail)))?;
-        carried = carry_after(alloc, &segment)?;
     }
-    try_end(alloc, &mut feed, &carried)
+    try_end(alloc, &mut reader, &mut feed, (2, 15))
 }
 
 // Two entries, a marker and two bytes.
@@ -199,7 +196,9 @@ fn try_limit<A: Allocator + Copy>(
     }
     let mut reader = THREE;
     let mut feed = Feed::new(&mut reader);
-    let fault = read_segment(alloc, &mut feed, &[], size, most).err();
+    let fault = SegmentReader::new(alloc, size, most)
+        .next(alloc, &mut feed)
+        .err();
     let taken = THREE.len().saturating_sub(reader.len());
     same(
         "a fault",
@@ -223,33 +222,30 @@ fn a_segment_takes_no_more_than_its_limit_and_one_byte(rt: HostRuntime) -> Resul
 fn a_segment_fails_where_its_feed_does(rt: HostRuntime) -> Result<(), Fail> {
     let mut reader = Pieces::failing(THREE, 4, 2, ErrorKind::Interrupted);
     let mut feed = Feed::new(&mut reader);
+    let mut segments = SegmentReader::new(rt.alloc(), SIZE, MOST);
     for _ in 0..2 {
-        let fault = read_segment(rt.alloc(), &mut feed, &[], SIZE, MOST).err();
+        let fault = segments.next(rt.alloc(), &mut feed).err();
         let wanted = (Some(LoadFault::Read), true);
         same("a fault", &(fault, feed.failed()), &wanted)?;
     }
     same("how often the reader was asked", &reader.calls(), &2)
 }
 
-// A segment and what is carried over from it, under a refusal. Where that is out of memory, the feed has not failed.
+// A segment of bytes whose last entry is cut, under a refusal. Where that is out of memory, the feed has not failed.
 fn try_memory(heap: &Refusing<Global>, refusal: Refusal) -> Result<Tried, Fail> {
-    let mut feed = Feed::new(THREE);
+    let mut feed = Feed::new(b"\x00\x01A\x00\x02B".as_slice());
     heap.restart(refusal);
-    let segment = read_segment(heap, &mut feed, b"\x00\x01", SIZE, MOST);
+    let mut reader = SegmentReader::new(heap, SIZE, MOST);
+    let segment = reader.next(heap, &mut feed);
+    let tried = heap.tried(segment.is_err());
     same("a feed", &(refusal, feed.failed()), &(refusal, false))?;
-    let segment = match segment {
-        Ok(Some(segment)) => segment,
-        Ok(None) => return Err(Fail::new("a file has no segment")),
-        Err(fault) => {
-            same("a fault", &(refusal, fault), &(refusal, LoadFault::Memory))?;
-            return Ok(heap.tried(true));
+    match segment {
+        Ok(Some(segment)) => {
+            same("entries", &(refusal, segment.len()), &(refusal, 1))?;
+            same_bytes("its tail", segment.tail(), b"\x00\x02B")?;
         }
-    };
-    same("entries", &(refusal, segment.len()), &(refusal, 1))?;
-    let carried = carry_after(heap, &segment);
-    let tried = heap.tried(carried.is_err());
-    if let Ok(carried) = carried {
-        same_bytes("what is carried over", &carried, &THREE[1..])?;
+        Ok(None) => return Err(Fail::new("a file has no segment")),
+        Err(fault) => same("a fault", &(refusal, fault), &(refusal, LoadFault::Memory))?,
     }
     Ok(tried)
 }

@@ -1,75 +1,91 @@
-use Rattle.std.proofs.Common.{◌≡◌, ◌∙◌, ◌++◌, ◌+◌, ◌-◌, ◌^◌, Vec, Err, List, ℕ, Option, length, arith, refl, sym, ap, subst}
-use Rattle.std.specs.Prelude.{MatchOption, []}
-use Rattle.std.proofs.lemmas.List.{length-append}
+use Rattle.std.proofs.Common.{◌≡◌, ◌∙◌, ◌++◌, ◌+◌, ◌-◌, ◌^◌, Vec, Err, List, ℕ, length, arith, refl, sym, ap, subst}
 use Rattle.std.proofs.lemmas.Result.{err_from_is_err_and}
-use Rattle.binaryfile.specs.Devices.{GaveAll, HasFailed}
+use Rattle.binaryfile.specs.Devices.{GaveMore, HasFailed}
 use Rattle.binaryfile.specs.Entries.{Contents}
-use Rattle.day_segments.specs.Segments.{IsSegment}
+use Rattle.day_segments.specs.Reading.{Reading}
+use Rattle.day_segments.proofs.SegmentCases.{all_of_it, none_more, one_more, took_within}
 use Rattle.itch_readings.specs.Engines.{StopsReading, stock_lister}
 use Rattle.itch_readings.specs.Naming.{AreListed}
 use Rattle.itch_readings.specs.declared.naming.Listed.{Listed}
-use Rattle.itch_readings.proofs.Segmented.{IsListedTo, few_messages, gave_up_to, halts, listed_first, listed_next}
+use Rattle.itch_readings.proofs.Segmented.{halts, listed_before, listed_first, listed_next, lists_all, lists_too_many}
 use Rattle.itch_readings.proofs.engines.listed_of_file.Goals as goal
 use Rattle.itch_readings.proofs.engines.listed_of_file.Goals.{then-messages-from, else-messages-from}
 
-pub loop-carried-init : goal.loop-carried-init
-loop-carried-init g c =
+pub loop-reader-init : goal.loop-reader-init
+loop-reader-init g c =
     let start = g.R.Read.remaining c.args.feed.now.device in
-    let none = c.new-carried.ensures.items in
     record {
-      so_far = subst (λ (carried : List ℕ). IsListedTo start start carried 0 0 c.in_ok-listed.listed.items) (sym none) (listed_first start c.in_ok-listed.listed.items (c.in_ok-listed.ensures {u = tt}));
-      short = omega (arith, ap length none);
+      so_far = listed_first start c.new-reader.result c.in_ok-listed.listed.items (c.new-reader.ensures.read start) c.new-reader.ensures.most (c.in_ok-listed.ensures {u = tt});
       working = λ _. refl;
     }
 
 pub returns-in_err-segment-clause-fault : goal.returns-in_err-segment-clause-fault
 returns-in_err-segment-clause-fault g c =
-    let left = g.R.Read.remaining in
-    let same = err_from_is_err_and c.from_residual-in_err-segment.result c.from_residual-in_err-segment.ensures.1 in
+    let start = g.R.Read.remaining c.args.feed.now.device in
+    let next = g.R.Read.remaining c.next.new.feed.device in
+    let before = c.loop-reader.invariant.so_far in
     let found = c.in_err-segment.ensures {u = tt} in
-    let halted = halts (left c.args.feed.now.device) (left c.loop-carried.feed.device) c.loop-carried.carried.items c.loop-carried.given c.loop-carried.messages c.loop-carried.listed.items c.loop-carried.invariant.so_far
-    (left c.read_segment.new.feed.device) c.in_err-segment.field-0.0 (λ is. found.too_many_bytes (ap Err is)) (λ is. found.not_messages (ap Err is)) in
-    rw same.1 (subst (StopsReading stock_lister (left c.args.feed.now.device) (left c.read_segment.new.feed.device)) (sym same.2) halted)
+    let same = err_from_is_err_and c.from_residual-in_err-segment.result c.from_residual-in_err-segment.ensures.1 in
+    rw same.1 (subst (StopsReading stock_lister start next) (sym same.2) (halts start next c.in_err-segment.field-0.0
+    (λ is. subst (GaveMore start next) before.most (found.too_many_bytes (ap Err is) start before.contents before.read)) (λ is. found.not_messages (ap Err is))))
 
 pub returns-in_err-segment-clause-taken : goal.returns-in_err-segment-clause-taken
 returns-in_err-segment-clause-taken g c =
-    gave_up_to _ _ _ _ _ _ c.loop-carried.invariant.so_far _ c.read_segment.ensures.taken
+    let before = c.loop-reader.invariant.so_far in
+    took_within _ _ _ (2 ^ 40) before.most (c.next.ensures.taken (g.R.Read.remaining c.args.feed.now.device) before.contents before.read)
 
-pub overflow_add-messages : goal.overflow_add-messages
-overflow_add-messages g c =
-    record { fits = omega (arith, few_messages _ _ _ _ _ _ c.loop-carried.invariant.so_far, c.from-messages.ensures, c.len.type_inv) }
+pub list_more-requires : goal.list_more-requires
+list_more-requires g c =
+    let start = g.R.Read.remaining c.args.feed.now.device in
+    let before = c.loop-reader.invariant.so_far in
+    let segment : Contents = c.in-Some.segment in
+    let read = one_more start (g.R.Read.remaining c.next.new.feed.device) c.loop-reader.reader.most before.contents c.next.new.self _ segment c.in-Some.is
+    ((c.in_ok-segment.ensures {u = tt}).read start before.contents before.read) in
+    listed_before start _ c.loop-reader.reader c.loop-reader.listed.items before segment.payloads c.next.new.self read.messages_are (omega (arith, c.if-messages-from.true, c.messages.ensures, c.from.ensures))
 
-pub returns-in_err-carried-clause-taken : goal.returns-in_err-carried-clause-taken
-returns-in_err-carried-clause-taken g c =
-    gave_up_to _ _ _ _ _ _ c.loop-carried.invariant.so_far _ c.read_segment.ensures.taken
-
-pub loop-carried-preserved : goal.loop-carried-preserved
-loop-carried-preserved g c =
-    let left = g.R.Read.remaining in
-    let before = c.loop-carried.invariant in
-    let start = left c.args.feed.now.device in
-    let now = left c.loop-carried.feed.device in
-    let next = left c.read_segment.new.feed.device in
-    let contents : Contents = c.in-Some.segment in
-    let kept : List ℕ = c.loop-carried.carried.items in
-    let found : IsSegment now next c.deref.result.now (2 ^ 20) (2 ^ 40 - c.loop-carried.given) contents =
-    subst (λ (found : Option Contents). MatchOption found (GaveAll now next []) (IsSegment now next c.deref.result.now (2 ^ 20) (2 ^ 40 - c.loop-carried.given))) c.in-Some.is (c.in_ok-segment.ensures {u = tt}).segment in
-    let is : IsSegment now next kept (2 ^ 20) (2 ^ 40 - c.loop-carried.given) contents =
-    subst (λ (bytes : List ℕ). IsSegment now next bytes (2 ^ 20) (2 ^ 40 - c.loop-carried.given) contents) c.deref.ensures.value found in
-    let long : length c.bytes.result.now ≡ length kept + length is.bytes =
-    ap length (c.bytes.ensures.split.whole ∙ sym is.split.whole) ∙ length-append kept is.bytes in
-    let left_long : c.len-in-Some.result ≡ length kept = omega (arith, c.len-in-Some.ensures, c.deref.ensures.len, ap length c.deref.ensures.value) in
-    let counted : c.loop-carried.messages + c.from-messages.result ≡ c.loop-carried.messages + length contents.payloads = omega (arith, c.from-messages.ensures, c.len.ensures) in
+pub loop-reader-preserved : goal.loop-reader-preserved
+loop-reader-preserved g c =
+    let start = g.R.Read.remaining c.args.feed.now.device in
+    let next = g.R.Read.remaining c.next.new.feed.device in
+    let before = c.loop-reader.invariant.so_far in
+    let segment : Contents = c.in-Some.segment in
+    let read = one_more start next c.loop-reader.reader.most before.contents c.next.new.self _ segment c.in-Some.is ((c.in_ok-segment.ensures {u = tt}).read start before.contents before.read) in
     record {
-      so_far = listed_next start now kept c.loop-carried.given c.loop-carried.messages c.loop-carried.listed.items before.so_far next (2 ^ 20) contents is
-          c.in_ok-carried.carried.items _ _ c.if-messages-from.listed.items (c.in_ok-carried.ensures {u = tt}).carried (omega (arith, long, left_long)) counted
+      so_far = listed_next start _ c.loop-reader.reader c.loop-reader.listed.items before next segment c.next.new.self c.if-messages-from.listed.items read c.next.ensures.most
           (elim c.if-messages-from.branch [
             | then-messages-from w ↦ λ few payloads are.
-                subst (λ (listed : List Listed). AreListed (payloads ++ contents.payloads) (length (payloads ++ contents.payloads)) listed) (ap (λ (list : Vec Listed g.row.A.Denot). list.items) (sym w.listed-is)) (w.list_more.ensures payloads are)
-            | else-messages-from w ↦ λ few. absurd (omega (arith, few, w.if-messages-from.false, c.from.ensures))
+                subst (λ (listed : List Listed). AreListed (payloads ++ segment.payloads) (length (payloads ++ segment.payloads)) listed) (ap (λ (list : Vec Listed g.row.A.Denot). list.items) (sym w.listed-is)) (w.list_more.ensures payloads are)
+            | else-messages-from w ↦ λ few. absurd (omega (arith, few, w.if-messages-from.false, c.messages.ensures, c.from.ensures))
           ]);
-      short = (c.in_ok-carried.ensures {u = tt}).long;
       working = λ failed.
-          let same = before.working failed in
-          c.read_segment.ensures.for_good (subst HasFailed (sym same) failed) ∙ same;
+          let same = c.loop-reader.invariant.working failed in
+          c.next.ensures.for_good (subst HasFailed (sym same) failed) ∙ same;
     }
+
+pub returns-then-messages-from-2-clause-fault : goal.returns-then-messages-from-2-clause-fault
+returns-then-messages-from-2-clause-fault g c =
+    let start = g.R.Read.remaining c.args.feed.now.device in
+    let next = g.R.Read.remaining c.next.new.feed.device in
+    let before = c.loop-reader.invariant.so_far in
+    let whole = all_of_it start next c.loop-reader.reader.most before.contents c.next.new.self _ c.in_default.is ((c.in_ok-segment.ensures {u = tt}).read start before.contents before.read) in
+    let same = none_more start next c.loop-reader.reader.most before.contents c.next.new.self c.loop-reader.reader _ _ c.in_default.is (c.in_ok-segment.ensures {u = tt}).further in
+    lists_too_many start _ c.loop-reader.reader c.loop-reader.listed.items before next whole (omega (arith, c.if-messages-from-2.true, c.messages-2.ensures, c.from-2.ensures, ap (λ (r : Reading). r.messages) same))
+
+pub returns-then-messages-from-2-clause-taken : goal.returns-then-messages-from-2-clause-taken
+returns-then-messages-from-2-clause-taken g c =
+    let before = c.loop-reader.invariant.so_far in
+    took_within _ _ _ (2 ^ 40) before.most (c.next.ensures.taken (g.R.Read.remaining c.args.feed.now.device) before.contents before.read)
+
+pub returns-clause-listed : goal.returns-clause-listed
+returns-clause-listed g c =
+    let start = g.R.Read.remaining c.args.feed.now.device in
+    let next = g.R.Read.remaining c.next.new.feed.device in
+    let before = c.loop-reader.invariant.so_far in
+    let whole = all_of_it start next c.loop-reader.reader.most before.contents c.next.new.self _ c.in_default.is ((c.in_ok-segment.ensures {u = tt}).read start before.contents before.read) in
+    let same = none_more start next c.loop-reader.reader.most before.contents c.next.new.self c.loop-reader.reader _ _ c.in_default.is (c.in_ok-segment.ensures {u = tt}).further in
+    lists_all start _ c.loop-reader.reader c.loop-reader.listed.items before next whole (omega (arith, c.if-messages-from-2.false, c.messages-2.ensures, c.from-2.ensures, ap (λ (r : Reading). r.messages) same))
+
+pub returns-clause-taken : goal.returns-clause-taken
+returns-clause-taken g c =
+    let before = c.loop-reader.invariant.so_far in
+    took_within _ _ _ (2 ^ 40) before.most (c.next.ensures.taken (g.R.Read.remaining c.args.feed.now.device) before.contents before.read)

@@ -1,14 +1,13 @@
-use Rattle.std.proofs.Common.{◌≡◌, ◌-◌, ◌^◌, ◌≤◌, length}
+use Rattle.std.proofs.Common.{◌≡◌, ◌-◌, ◌^◌}
 use Rattle.binaryfile.specs.Devices.{HasFailed}
 use Rattle.itch_readings.proofs.Segmented.{IsListedTo}
 use Rattle.itch_readings.proofs.engines.listed_of_file.Given as goal
 
-abbrev pub invariant-loop-carried : goal.invariant-loop-carried
-invariant-loop-carried g l = record {
-  so_far : IsListedTo (g.R.Read.remaining l.fn.feed.device) (g.R.Read.remaining l.feed.device) l.carried.items l.given l.messages l.listed.items;
-  short : length l.carried.items ≤ 2 ^ 16;
+abbrev pub invariant-loop-reader : goal.invariant-loop-reader
+invariant-loop-reader g l = record {
+  so_far : IsListedTo (g.R.Read.remaining l.fn.feed.device) (g.R.Read.remaining l.feed.device) l.reader l.listed.items;
   working : HasFailed l.fn.feed → l.feed ≡ l.fn.feed;
 }
 
-abbrev pub decreases-loop-carried : goal.decreases-loop-carried
-decreases-loop-carried g l = 2 ^ 40 - l.given
+abbrev pub decreases-loop-reader : goal.decreases-loop-reader
+decreases-loop-reader g l = 2 ^ 40 - l.reader.given
