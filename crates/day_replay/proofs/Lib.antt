@@ -1,0 +1,7 @@
+pub mod Entries
+pub mod BatchSteps
+pub mod NoStockMessages
+pub mod Dealt
+pub mod Following
+pub mod WholeDay
+pub mod HeldStocks

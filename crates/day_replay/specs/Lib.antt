@@ -1,0 +1,5 @@
+pub mod Messages
+pub mod NoStock
+pub mod Dealing
+pub mod Batches
+pub mod Replays
