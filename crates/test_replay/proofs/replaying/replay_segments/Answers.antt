@@ -1,0 +1,22 @@
+use Rattle.std.proofs.Common.{◌++◌, ℕ, [], subst}
+use Rattle.day_replay.specs.Dealing.{IsDealt}
+use Rattle.test_replay.proofs.replaying.replay_segments.Goals as goal
+
+pub loop-segment-init : goal.loop-segment-init
+loop-segment-init g c = ([], c.in_ok-replay.ensures {u = tt})
+
+pub go_on-requires : goal.go_on-requires
+go_on-requires g c =
+    let inv = c.loop-segment.invariant in
+    let segment = c.segment-item.result.payloads in
+    let dealt = (c.in_ok-deal.ensures {u = tt}).dealt in
+    (search, (search, (search, (search, (inv.0, segment, inv.1, subst (λ (n : ℕ). IsDealt n segment c.deal.new.self) (c.len-before.ensures inv.0 inv.1) dealt)))))
+
+pub loop-segment-preserved : goal.loop-segment-preserved
+loop-segment-preserved g c =
+    let inv = c.loop-segment.invariant in
+    let segment = c.segment-item.result.payloads in
+    let dealt = (c.in_ok-deal.ensures {u = tt}).dealt in (
+      inv.0 ++ segment,
+      c.in_ok-replay-2.ensures {u = tt} inv.0 segment inv.1 (subst (λ (n : ℕ). IsDealt n segment c.deal.new.self) (c.len-before.ensures inv.0 inv.1) dealt),
+    )

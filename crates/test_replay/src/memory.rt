@@ -1,0 +1,35 @@
+//! Replays that are refused memory.
+use crate::comparing::{follow, same_day};
+use crate::cutting::{Cut, segments_of};
+use crate::days::threads_of;
+use crate::replaying::replay_segments;
+use std::alloc::Global;
+use std::test::Fail;
+use std::thread::Threads;
+use test_refusing::{Refusal, Refusing, Tried, refuse_each};
+use test_support::two_stocks;
+
+// Replays the segments of a day under a refusal. A replay that isn't refused memory is that of the day.
+fn try_replay<R: Threads + Sync>(
+    rt: &R,
+    heap: &Refusing<Global>,
+    refusal: Refusal,
+) -> Result<Tried, Fail> {
+    let day = two_stocks(heap)?;
+    let segments = segments_of(heap, &day, Cut::Every(3))?;
+    let threads = threads_of(1)?;
+    heap.restart(refusal);
+    let replayed = replay_segments(rt, heap, &segments, threads);
+    let tried = heap.tried(replayed.is_err());
+    if let Ok(found) = replayed {
+        same_day(heap, &found, &follow(heap, &day)?)?;
+    }
+    Ok(tried)
+}
+
+#[test]
+fn a_replay_without_memory_makes_nothing(rt: HostRuntime) -> Result<(), Fail> {
+    let heap = Refusing::new(rt.alloc(), Refusal::Never);
+    refuse_each(|refusal: Refusal| -> Result<Tried, Fail> { try_replay(&rt, &heap, refusal) })?;
+    Ok(())
+}
