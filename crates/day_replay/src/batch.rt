@@ -149,6 +149,7 @@ impl<A: Allocator> Batch<A> {
         ensures took { (d : Option StockMachine) →
             option_map (λ stock. stock.value) result ≡ slice_index_or self.old.stocks slot d }
         ensures left { self.new.stocks ≡ slice_set self.old.stocks slot None }
+        ensures kept { (self.new.refused ≡ self.old.refused) × (self.new.failed ≡ self.old.failed) }
     {
         mem::take(&mut self.stocks[slot])
     }
