@@ -14,12 +14,12 @@ use test_support::{crossed_book, two_stocks};
 const THREADS: [u32; 5] = [1, 2, 3, 4, 64];
 
 // How many days at random there are, and how many messages each of them has.
-const DAYS: u64 = 4;
+const DAYS: u64 = 3;
 
 const MESSAGES: u32 = 300;
 
 // Of so many messages of a day at random each first part is replayed.
-const PREFIXES: u32 = 40;
+const PREFIXES: u32 = 15;
 
 /// A number of threads.
 pub fn threads_of(count: u32) -> Result<WorkerCount, Fail> {
