@@ -51,9 +51,6 @@ module _ (day payloads : List (List ℕ)) (old new : List BatchState) (no_stock 
       let further = passed_few (numbered_after (length day) payloads) dealt.no_stock is.no_stock_is in
       omega (arith, is.few, before, further, length-numbered_after 0 day, length-numbered_after (length day) payloads)
 
-  pub messages_fit : messages + dealt.messages < 2 ^ 32
-  messages_fit = omega (arith, is.few, has.messages_are, is.messages_are)
-
   pub gone_on : (now : NoStockFacts) (count : ℕ)
       → ((k : ℕ) (d : List (ℕ × List ℕ)) (b : BatchState) → k < 128 → Does (get_or dealt.batches k d) (get_or old k b) (get_or new k b))
       → ((known further : List (ℕ × List ℕ)) → no_stock ≡ no_stock_of known → dealt.no_stock ≡ no_stock_of further → now ≡ no_stock_of (known ++ further))

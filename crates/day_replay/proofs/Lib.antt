@@ -4,4 +4,4 @@ pub mod NoStockMessages
 pub mod Dealt
 pub mod Following
 pub mod WholeDay
-pub mod HeldStocks
+pub mod LastMachines

@@ -1,7 +1,6 @@
 use Rattle.std.proofs.Common.{◌≡◌, ◌++◌, ◌∷◌, [], List, ap, sym, ◌∙◌, arith}
 use Rattle.stock_machine.specs.StockRows.{StockMachine}
-use Rattle.day_replay.proofs.HeldStocks.{found_first}
-use Rattle.day_replay.proofs.WholeDay.{below_all, below_none, below_some, found_in, machines_below}
+use Rattle.day_replay.proofs.LastMachines.{below_all, below_none, below_some, found_first, found_in, machines_below}
 use Rattle.day_replay.proofs.ending.all_stocks.Goals.{in-Some+in_ok-push, in_default}
 use Rattle.day_replay.proofs.ending.all_stocks.Goals as goal
 

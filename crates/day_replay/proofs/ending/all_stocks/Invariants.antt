@@ -1,6 +1,6 @@
 use Rattle.std.proofs.Common.{◌≡◌, ℕ, List, length}
 use Rattle.day_replay.specs.Replays.{AreAfter, Hold}
-use Rattle.day_replay.proofs.WholeDay.{found_in, machines_below}
+use Rattle.day_replay.proofs.LastMachines.{found_in, machines_below}
 use Rattle.day_replay.proofs.ending.all_stocks.Given as goal
 
 abbrev pub invariant-loop-locate : goal.invariant-loop-locate
