@@ -2,7 +2,8 @@
 use crate::comparing::{follow, same_day};
 use crate::cutting::{Cut, segments_of};
 use crate::days::threads_of;
-use crate::replaying::replay_segments;
+use crate::replaying::{deal, replay_anew, replay_segments};
+use day_replay::DealtSegment;
 use std::alloc::Global;
 use std::test::Fail;
 use std::thread::Threads;
@@ -25,6 +26,29 @@ fn try_replay<R: Threads + Sync>(
         same_day(heap, &found, &follow(heap, &day)?)?;
     }
     Ok(tried)
+}
+
+// Deals a segment under a refusal, and then anew with memory: what is dealt then makes the day, whatever was before.
+fn try_deal<R: Threads + Sync>(
+    rt: &R,
+    heap: &Refusing<Global>,
+    refusal: Refusal,
+) -> Result<Tried, Fail> {
+    let day = two_stocks(heap)?;
+    let mut dealt = DealtSegment::new(heap)?;
+    heap.restart(refusal);
+    let first = deal(&mut dealt, &day);
+    let tried = heap.tried(first.is_err());
+    let found = replay_anew(rt, heap, &mut dealt, &day, threads_of(1)?)?;
+    same_day(heap, &found, &follow(heap, &day)?)?;
+    Ok(tried)
+}
+
+#[test]
+fn a_segment_is_dealt_anew_after_an_error(rt: HostRuntime) -> Result<(), Fail> {
+    let heap = Refusing::new(rt.alloc(), Refusal::Never);
+    refuse_each(|refusal: Refusal| -> Result<Tried, Fail> { try_deal(&rt, &heap, refusal) })?;
+    Ok(())
 }
 
 #[test]

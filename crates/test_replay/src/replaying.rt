@@ -1,4 +1,7 @@
 //! Segments that are replayed one after another.
+ghost use Rattle.std.specs.Prelude.{OnOk};
+ghost use Rattle.day_replay.specs.Dealing.{IsDealt};
+
 use binaryfile::Day;
 use day_core::WorkerCount;
 use day_replay::{DealtSegment, Replay, Summary};
@@ -23,4 +26,27 @@ pub fn replay_segments<R: Threads + Sync, A: Allocator + Copy + Send + Sync>(
         replay = replay.go_on(rt, alloc, &dealt, threads)?;
     }
     replay.end(alloc)
+}
+
+/// Deals a whole day.
+pub fn deal<A: Allocator>(dealt: &mut DealtSegment<A>, day: &Day<A>) -> Result<(), AllocError>
+    ensures { OnOk result (IsDealt 0 day.now.payloads dealt.new) }
+{
+    // For the proof alone: its numbers fit.
+    let _messages = day.len();
+    dealt.deal(0, day)
+}
+
+/// Deals a whole day anew, and replays it by so many threads.
+pub fn replay_anew<R: Threads + Sync, A: Allocator + Copy + Send + Sync>(
+    rt: &R,
+    alloc: A,
+    dealt: &mut DealtSegment<A>,
+    day: &Day<A>,
+    threads: WorkerCount,
+) -> Result<Summary<A>, AllocError> {
+    deal(dealt, day)?;
+    Replay::new(alloc)?
+        .go_on(rt, alloc, dealt, threads)?
+        .end(alloc)
 }
