@@ -10,7 +10,7 @@
 //! let mut dealt = DealtSegment::new(alloc)?;
 //! for segment in segments {
 //!     dealt.deal(replay.len(), segment)?;
-//!     replay = replay.go_on(rt, alloc, &dealt, threads)?;
+//!     replay.go_on(rt, alloc, &dealt, threads)?;
 //! }
 //! let summary = replay.end(alloc)?;
 //! ```

@@ -128,26 +128,26 @@ impl<A: Allocator + Copy + Send + Sync> Replay<A> {
         self.messages
     }
 
-    /// Replays the messages of the next segment, by so many threads at most: the replay of them and of all that were
-    /// replayed before. The segment must be dealt with as many messages before it as were replayed ([`Replay::len`]).
+    /// Replays the messages of the next segment, by so many threads at most. The segment must be dealt with as many
+    /// messages before it as were replayed ([`Replay::len`]).
     ///
-    /// An error says that memory was refused, and then the replay is gone.
+    /// An error says that memory was refused. Then nothing is known of the replay, and it can only be dropped.
     pub fn go_on<R: Threads + Sync>(
-        mut self,
+        &mut self,
         rt: &R,
         alloc: A,
         dealt: &DealtSegment<A>,
         threads: WorkerCount,
-    ) -> Result<Replay<A>, AllocError>
-        requires { (day payloads : List (List ℕ)) × HasReplayed day self
+    ) -> Result<(), AllocError>
+        requires { (day payloads : List (List ℕ)) × HasReplayed day self.old
             × IsDealt (length day) payloads dealt.now }
-        ensures { IfOk result (λ after. (day payloads : List (List ℕ)) → HasReplayed day self
-            → IsDealt (length day) payloads dealt.now → HasReplayed (day ++ payloads) after) }
+        ensures { OnOk result ((day payloads : List (List ℕ)) → HasReplayed day self.old
+            → IsDealt (length day) payloads dealt.now → HasReplayed (day ++ payloads) self.new) }
     {
         do_all(rt, alloc, &mut self.batches, dealt.batches(), threads)?;
         self.no_stock.append(dealt.no_stock())?;
         self.messages += dealt.len();
-        Ok(self)
+        Ok(())
     }
 
     /// What the messages that were replayed make, as a whole day. An error says that memory was refused.

@@ -98,7 +98,7 @@ module _ (start now : Option (List ℕ)) (before : Contents) (carried : List ℕ
     ended = end.ended;
   }
 
-  parts_long : given ≡ length (flat_map entry before.payloads) + length (marker before.marked) + length before.tail
+  pub parts_long : given ≡ length (flat_map entry before.payloads) + length (marker before.marked) + length before.tail
   parts_long = omega (arith, read.given_is, ap length read.split.whole, length-append (flat_map entry before.payloads) (marker before.marked ++ before.tail), length-append (marker before.marked) before.tail)
 
   -- no more payloads than bytes were read

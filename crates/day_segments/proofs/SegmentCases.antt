@@ -1,9 +1,10 @@
 -- What is known after a segment, and at the end of a file, for loops over segments.
-use Rattle.std.proofs.Common.{◌≡◌, ℕ, ◌+◌, List, subst}
+use Rattle.std.proofs.Common.{◌≡◌, ℕ, ◌+◌, ◌≤◌, List, length, subst, ap, arith}
 use Rattle.std.specs.Prelude.{MatchOption, None, Option, Some}
 use Rattle.binaryfile.specs.Devices.{GaveUpTo}
 use Rattle.binaryfile.specs.Entries.{Contents}
-use Rattle.day_segments.specs.Reading.{HasRead, IsWholeFile, Reading, followed_by}
+use Rattle.day_segments.specs.Reading.{HasRead, IsReadTo, IsWholeFile, Reading, followed_by}
+use Rattle.day_segments.proofs.Following.{parts_long}
 
 module _ (start next : Option (List ℕ)) (most : ℕ) (before : Contents) (new : Reading) where
   abbrev pub Found : Option Contents → Type 0
@@ -20,3 +21,7 @@ module _ (start next : Option (List ℕ)) (most : ℕ) (before : Contents) (new 
 
 pub took_within : (start next : Option (List ℕ)) (most limit : ℕ) → most ≡ limit → GaveUpTo start next (most + 1) → GaveUpTo start next (limit + 1)
 took_within start next most limit is = subst (λ (n : ℕ). GaveUpTo start next (n + 1)) is
+
+-- no more bytes come after the last entry than were read
+pub tail_within : (start now : Option (List ℕ)) (contents : Contents) (carried : List ℕ) (given : ℕ) → IsReadTo start now contents carried given → length contents.tail ≤ given
+tail_within start now contents carried given read = omega (arith, parts_long start now contents carried given read)

@@ -77,7 +77,7 @@ impl<A: Allocator + Copy> SegmentReader<A> {
         ensures most { self.new.most ≡ self.old.most }
         ensures further { IfOk result (λ found. MatchOption found
             (self.new ≡ self.old)
-            (λ _. self.old.given < self.new.given)) }
+            (λ _. (self.old.given < self.new.given) × (self.new.given ≤ self.new.most))) }
         // The fault is Read exactly where the feed has failed at return.
         ensures failed { IsErrOf result LoadFault.Read ↔ HasFailed feed.new }
         // A failed feed stays as it is, and its reader is not asked.

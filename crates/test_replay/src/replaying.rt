@@ -23,7 +23,7 @@ pub fn replay_segments<R: Threads + Sync, A: Allocator + Copy + Send + Sync>(
             break;
         }
         dealt.deal(before, segment)?;
-        replay = replay.go_on(rt, alloc, &dealt, threads)?;
+        replay.go_on(rt, alloc, &dealt, threads)?;
     }
     replay.end(alloc)
 }
@@ -46,7 +46,7 @@ pub fn replay_anew<R: Threads + Sync, A: Allocator + Copy + Send + Sync>(
     threads: WorkerCount,
 ) -> Result<Summary<A>, AllocError> {
     deal(dealt, day)?;
-    Replay::new(alloc)?
-        .go_on(rt, alloc, dealt, threads)?
-        .end(alloc)
+    let mut replay = Replay::new(alloc)?;
+    replay.go_on(rt, alloc, dealt, threads)?;
+    replay.end(alloc)
 }

@@ -18,5 +18,5 @@ loop-segment-preserved g c =
     let segment = c.segment-item.result.payloads in
     let dealt = (c.in_ok-deal.ensures {u = tt}).dealt in (
       inv.0 ++ segment,
-      c.in_ok-replay-2.ensures {u = tt} inv.0 segment inv.1 (subst (λ (n : ℕ). IsDealt n segment c.deal.new.self) (c.len-before.ensures inv.0 inv.1) dealt),
+      c.in_ok-go_on.ensures {u = tt} inv.0 segment inv.1 (subst (λ (n : ℕ). IsDealt n segment c.deal.new.self) (c.len-before.ensures inv.0 inv.1) dealt),
     )

@@ -64,4 +64,5 @@ returns-clause-further g c =
     let is = found (g.R.Read.remaining c.args.feed.now.device) (g.R.Read.remaining c.read_segment.new.feed.device) c.deref.result.now c.self.inside.size (c.self.inside.most - c.self.inside.given)
     _ segment c.in-Some.is (c.in_ok-segment.ensures {u = tt}).segment in
     let long = segment_long c.deref.result.now is.bytes c.bytes.result.now segment c.bytes.ensures.split is.split in
-    omega (arith, long, is.some, ap (λ (r : Reading). r.given) (sym c.self.view_is), c.len.ensures, ap length c.deref.ensures.value)
+    let given = ap (λ (r : Reading). r.given) (sym c.self.view_is) in
+    (omega (arith, long, is.some, given, c.len.ensures, ap length c.deref.ensures.value), omega (arith, long, is.within, c.self.invariant.within, c.len.ensures, ap length c.deref.ensures.value))

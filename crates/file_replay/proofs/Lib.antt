@@ -1,0 +1,4 @@
+mod Faults
+mod Tails
+mod Replayed
+mod Dealt

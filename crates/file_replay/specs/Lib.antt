@@ -1,0 +1,2 @@
+pub mod FileEnds
+pub mod Files

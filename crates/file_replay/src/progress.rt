@@ -1,0 +1,15 @@
+//! Who is told how far a replay is.
+
+/// Is told how far a replay of a file is, after each segment.
+pub trait Progress {
+    /// So many messages were replayed, and so many bytes of the file read.
+    fn at(&self, messages: u32, bytes: u64);
+}
+
+/// Tells nobody.
+#[derive(Drop)]
+pub struct Silent;
+
+impl Progress for Silent {
+    fn at(&self, _messages: u32, _bytes: u64) {}
+}

@@ -1,0 +1,141 @@
+//! Replaying a file while it is read.
+ghost use Rattle.std.specs.Prelude.{◌≡◌, ◌+◌, ◌<◌, ◌≤◌, ◌^◌, ◌++◌, ◌↔◌, IfErr, IfOk, IsErrOf, List, Option, ℕ, length};
+ghost use Rattle.std.specs.Thread.{IsSend, IsSync};
+ghost use denote.Param.Send.{Frees};
+ghost use Rattle.binaryfile.specs.Devices.{GaveUpTo, HasFailed};
+ghost use Rattle.binaryfile.specs.Entries.{Contents};
+ghost use Rattle.day_replay.specs.Dealing.{IsDealt};
+ghost use Rattle.day_replay.specs.Replays.{HasReplayed};
+ghost use Rattle.file_replay.specs.Files.{DealsNext, GoesOn, IsReplayedFile, IsSoFar, Stops};
+
+use crate::dealing::deal_next;
+use crate::file_end::FileEnd;
+use crate::progress::Progress;
+use binaryfile::{Feed, Limits, LoadFault};
+use day_core::WorkerCount;
+use day_replay::{DealtSegment, Replay, Summary};
+use day_segments::SegmentReader;
+use std::alloc::{AllocError, Allocator};
+use std::io::Read;
+use std::mem;
+use std::thread::{Threads, join_mut};
+
+/// What a whole file makes, in short.
+#[derive(Drop)]
+pub struct FileSummary<A: Allocator> {
+    /// What its messages make.
+    pub summary: Summary<A>,
+    /// Whether the file has an end marker.
+    pub marked: bool,
+    /// How many bytes come after the marker, or after the last entry.
+    pub tail: u64,
+}
+
+// Replays what was dealt, by so many threads, while the next segment is read and dealt. It returns how each ended.
+fn go_on<T: Threads + Sync, A: Allocator + Copy + Send + Sync, R: Read + Send>(
+    rt: &T,
+    alloc: A,
+    feed: &mut Feed<R>,
+    limits: &Limits,
+    reader: &mut SegmentReader<A>,
+    end: &FileEnd,
+    dealt: &DealtSegment<A>,
+    next: &mut DealtSegment<A>,
+    replay: &mut Replay<A>,
+    threads: WorkerCount,
+) -> (Result<(), AllocError>, Result<Option<FileEnd>, LoadFault>)
+    requires file { (start : Option (List ℕ)) × (before : Contents)
+        × IsSoFar start (R.remaining feed.old.device) before reader.old end.now
+        × (length before.payloads ≤ limits.now.messages) }
+    requires most { reader.old.most ≤ 2 ^ 40 }
+    requires replay { (day payloads : List (List ℕ)) × HasReplayed day replay.old
+        × IsDealt (length day) payloads dealt.now }
+    ensures replay { GoesOn replay.old replay.new dealt.now result.0 }
+    ensures deals { DealsNext R.remaining limits.now.messages end.now feed.old feed.new
+        reader.old reader.new next.new result.1 }
+{
+    let reader_alloc = alloc;
+    let mut work = || -> Result<(), AllocError>
+        requires { IsSync T.row × IsSend A.row × IsSync A.row × Frees A.Allocator A.dealloc_token
+            × (day payloads : List (List ℕ)) × HasReplayed day replay.now
+            × IsDealt (length day) payloads dealt.now }
+        ensures { GoesOn replay.entry.now replay.exit.now dealt.entry.now result }
+    { replay.go_on(rt, alloc, dealt, threads) };
+    let mut read = || -> Result<Option<FileEnd>, LoadFault>
+        requires { (start : Option (List ℕ)) × (before : Contents)
+            × IsSoFar start (R.remaining feed.now.device) before reader.now end.now
+            × (length before.payloads ≤ limits.now.messages) × (reader.now.most ≤ 2 ^ 40) }
+        ensures { DealsNext R.remaining limits.entry.now.messages end.entry.now feed.entry.now feed.exit.now
+            reader.entry.now reader.exit.now next.exit.now result }
+    { deal_next(reader_alloc, feed, limits.messages, reader, *end, next) };
+    join_mut(rt, &mut work, &mut read)
+}
+
+/// Replays a day file by at most so many threads, while one more reads it. `segment` is how many bytes are read at a time,
+/// 1 to 2^30. `progress` is told after each segment how far it is.
+///
+/// No file is refused for its form. In the course of reading the first of these is returned: [`LoadFault::Read`] where the
+/// feed fails (at once, and with no memory, where it had failed before), [`LoadFault::Memory`] where memory is refused,
+/// [`LoadFault::TooManyBytes`] where the reader gave more than `limits.bytes` bytes, which are no more than 2^40, and
+/// [`LoadFault::TooManyMessages`], once the whole input was read, where it has more than `limits.messages` messages.
+/// Whatever the result, at most `limits.bytes + 1` bytes are taken from the reader.
+pub fn replay_file<T, A, R, P>(
+    rt: &T,
+    alloc: A,
+    feed: &mut Feed<R>,
+    limits: Limits,
+    segment: u32,
+    threads: WorkerCount,
+    progress: &P,
+) -> Result<FileSummary<A>, LoadFault>
+where
+    T: Threads + Sync,
+    A: Allocator + Copy + Send + Sync,
+    R: Read + Send,
+    P: Progress,
+    requires bytes { limits.bytes ≤ 2 ^ 40 }
+    requires segment { (0 < segment) × (segment ≤ 2 ^ 30) }
+    ensures replayed { IfOk result (λ made. IsReplayedFile
+        (R.remaining feed.old.device) (R.remaining feed.new.device) limits.bytes limits.messages
+        made.summary.messages made.summary.passed made.summary.refused.items made.summary.stocks.items
+        made.summary.event (record { marked = made.marked; tail = made.tail })) }
+    ensures fault { IfErr result (
+        Stops (R.remaining feed.old.device) (R.remaining feed.new.device) limits.bytes limits.messages) }
+    ensures failed { IsErrOf result LoadFault.Read ↔ HasFailed feed.new }
+    ensures for_good { HasFailed feed.old → feed.new ≡ feed.old }
+    ensures taken { GaveUpTo (R.remaining feed.old.device) (R.remaining feed.new.device) (limits.bytes + 1) }
+{
+    if feed.failed() {
+        return Err(LoadFault::Read);
+    }
+    let mut reader = SegmentReader::new(alloc, segment, limits.bytes);
+    let mut replay = Replay::new(alloc)?;
+    let mut dealt = DealtSegment::new(alloc)?;
+    let mut next = DealtSegment::new(alloc)?;
+    let mut end = FileEnd::new();
+    let mut found = deal_next(alloc, feed, limits.messages, &mut reader, end, &mut dealt)?;
+    while let Some(so_far) = found {
+        end = so_far;
+        let (worked, read) = go_on(
+            rt,
+            alloc,
+            feed,
+            &limits,
+            &mut reader,
+            &end,
+            &dealt,
+            &mut next,
+            &mut replay,
+            threads,
+        );
+        found = read?;
+        worked?;
+        mem::swap(&mut dealt, &mut next);
+        progress.at(replay.len(), reader.bytes());
+    }
+    Ok(FileSummary {
+        summary: replay.end(alloc)?,
+        marked: end.marked,
+        tail: end.tail,
+    })
+}
