@@ -33,6 +33,26 @@ pub record Takes {A : Type 0} (engine : Engine A) (traffic : Traffic) (input : L
   pub gave : GaveAll traffic.left traffic.left_after input
   pub within : length input ≤ engine.most
 
+-- The reader gave a whole input, of no more bytes than the engine takes, of which the engine makes this output and this
+-- result.
+pub record HasMade {A : Type 0} (engine : Engine A) (old new : Option (List ℕ)) (output : List ℕ) (result : A) : Type 0
+    where
+  pub input : List ℕ
+  pub gave : GaveAll old new input
+  pub within : length input ≤ engine.most
+  pub makes : engine.Makes input output result
+
+-- What the reader gave where an engine stops at a fault before it writes, so that the fault isn't that of a write: out of
+-- memory and a failed read say nothing of it, else it is more bytes than the engine takes, or a whole input in which the
+-- engine finds the fault.
+abbrev pub StopsReading : {A : Type 0} → Engine A → Option (List ℕ) → Option (List ℕ) → ProgFault → Type 0
+StopsReading engine old new Memory = Unit {0}
+StopsReading engine old new Read = Unit {0}
+StopsReading engine old new TooManyBytes = GaveMore old new engine.most
+StopsReading engine old new Write = ⊥
+StopsReading engine old new fault =
+    (input : List ℕ) × GaveAll old new input × (length input ≤ engine.most) × engine.Finds input fault
+
 -- The writer took the output that the engine makes of the whole input, and nothing else.
 pub record Finishes {A : Type 0} (engine : Engine A) (traffic : Traffic) (result : A) : Type 0 where
   pub input : List ℕ

@@ -9,7 +9,8 @@ use Rattle.binaryfile.specs.declared.load.LoadFault.{LoadFault}
 use Rattle.binaryfile.specs.declared.load.LoadFault.TheVariants.{Memory, Read, TooManyBytes, TooManyMessages as LoadedTooMany}
 use Rattle.itch_engine.specs.FaultOrigins.{fault_of_load}
 use Rattle.itch_engine.specs.declared.fault.ProgFault.TheVariants.{TooManyMessages}
-use Rattle.itch_readings.specs.Engines.{GaveStocks, StopsReading, stock_lister}
+use Rattle.itch_engine.specs.Runs.{StopsReading}
+use Rattle.itch_readings.specs.Engines.{GaveStocks, stock_lister}
 use Rattle.itch_readings.specs.Naming.{AreListed}
 use Rattle.itch_readings.specs.declared.naming.Listed.{Listed}
 

@@ -1,11 +1,10 @@
 -- What the engines of readings make of an input, and the faults that they find in one.
 use Rattle.std.specs.Prelude.{◌≡◌, ◌^◌, ◌-◌, ◌≤◌, ℕ, List, Option, Some, None, Result, Ok, Err, length}
-use Rattle.binaryfile.specs.Devices.{Device, GaveAll, GaveMore, HasFailed}
+use Rattle.binaryfile.specs.Devices.{Device, GaveAll, HasFailed}
 use Rattle.binaryfile.specs.Entries.{Contents, Splits}
 use Rattle.itch_engine.specs.ReplayEngines.{HasTooManyMessages}
 use Rattle.itch_engine.specs.Runs.{Engine, Runs}
 use Rattle.itch_engine.specs.declared.fault.ProgFault.{ProgFault}
-use Rattle.itch_engine.specs.declared.fault.ProgFault.TheVariants.{Memory, Read, TooManyBytes, Write}
 use Rattle.itch_readings.specs.Naming.{AreListed, locate_of}
 use Rattle.itch_readings.specs.StockLines.{listed_lines}
 use Rattle.itch_readings.specs.TopLines.{tops_text}
@@ -29,17 +28,6 @@ pub record GaveStocks (old new : Option (List ℕ)) (listed : List Listed) : Typ
   pub gave : GaveAll old new input
   pub within : length input ≤ 2 ^ 40
   pub stocks : HasStocks input contents listed
-
--- What the reader gave where an engine stops at a fault before it writes, so that the fault isn't that of a write: out of
--- memory and a failed read say nothing of it, else it is more bytes than the engine takes, or a whole input in which the
--- engine finds the fault.
-abbrev pub StopsReading : {A : Type 0} → Engine A → Option (List ℕ) → Option (List ℕ) → ProgFault → Type 0
-StopsReading engine old new Memory = Unit {0}
-StopsReading engine old new Read = Unit {0}
-StopsReading engine old new TooManyBytes = GaveMore old new engine.most
-StopsReading engine old new Write = ⊥
-StopsReading engine old new fault =
-    (input : List ℕ) × GaveAll old new input × (length input ≤ engine.most) × engine.Finds input fault
 
 -- The text is the lines of the file's stocks.
 pub record ListsStocks (input text : List ℕ) : Type 0 where

@@ -2,8 +2,8 @@
 ghost use Rattle.std.specs.Prelude.{◌≡◌, ◌+◌, ◌↔◌, IfOk, IfErr, IsErrOf, MatchOption};
 ghost use Rattle.binaryfile.specs.Devices.{GaveUpTo, HasFailed};
 ghost use Rattle.itch_engine.specs.declared.limits.TheConstants.{MOST_FILE_BYTES};
-ghost use Rattle.itch_engine.specs.Runs.{Fails, Runs};
-ghost use Rattle.itch_readings.specs.Engines.{GaveStocks, LacksStock, PrintsTops, RunsOnStock, StopsReading, stock_lister, tops_printer};
+ghost use Rattle.itch_engine.specs.Runs.{Fails, Runs, StopsReading};
+ghost use Rattle.itch_readings.specs.Engines.{GaveStocks, LacksStock, PrintsTops, RunsOnStock, stock_lister, tops_printer};
 
 use crate::fault::StockFault;
 use crate::moments::tops;

@@ -4,7 +4,8 @@ use Rattle.binaryfile.specs.Devices.{GaveMore, HasFailed}
 use Rattle.binaryfile.specs.Entries.{Contents}
 use Rattle.day_segments.specs.Reading.{Reading}
 use Rattle.day_segments.proofs.SegmentCases.{all_of_it, none_more, one_more, took_within}
-use Rattle.itch_readings.specs.Engines.{StopsReading, stock_lister}
+use Rattle.itch_engine.specs.Runs.{StopsReading}
+use Rattle.itch_readings.specs.Engines.{stock_lister}
 use Rattle.itch_readings.specs.Naming.{AreListed}
 use Rattle.itch_readings.specs.declared.naming.Listed.{Listed}
 use Rattle.itch_readings.proofs.Segmented.{halts, listed_before, listed_first, listed_next, lists_all, lists_too_many}
