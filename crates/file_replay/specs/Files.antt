@@ -7,12 +7,11 @@ use Rattle.binaryfile.specs.declared.load.LoadFault.{LoadFault}
 use Rattle.binaryfile.specs.declared.load.LoadFault.TheVariants.{Memory, Read, TooManyBytes, TooManyMessages}
 use Rattle.day_segments.specs.Reading.{HasRead, IsWholeFile, Reading, followed_by}
 use Rattle.itch_table.specs.After.{outcomes}
-use Rattle.stock_machine.specs.StockRows.{StockMachine}
-use Rattle.day_core.specs.declared.merging.Piece.{Piece}
 use Rattle.day_core.specs.Replaying.{IsSummary, is_passed}
 use Rattle.day_replay.specs.Dealing.{Dealt, IsDealt}
 use Rattle.day_replay.specs.Replays.{HasReplayed, ReplayState}
 use Rattle.file_replay.specs.declared.file_end.FileEnd.{FileEnd}
+use Rattle.file_replay.specs.declared.replaying.FileSummary.{FileSummary}
 
 -- a file was read so far, and ends so as far as it was read
 pub record IsSoFar (start now : Option (List ℕ)) (contents : Contents) (reading : Reading) (end : FileEnd) : Type 0 where
@@ -70,15 +69,19 @@ GoesOn old new dealt result =
     OnOk result ((day payloads : List (List ℕ)) → HasReplayed day old → IsDealt (length day) payloads dealt
     → HasReplayed (day ++ payloads) new)
 
--- what a whole file makes, of no more than so many bytes and messages: the numbers of its messages and of those that were
--- passed over, the refused ones, the machines of its stocks, the last event, and how it ends
-pub record IsReplayedFile (start now : Option (List ℕ)) (bytes messages : ℕ) (count passed : ℕ) (refused : List Piece)
-    (stocks : List StockMachine) (event : Option ℕ) (end : FileEnd) : Type 0 where
+-- what a file with these contents makes: the numbers of its messages and of those that were passed over, the refused ones,
+-- the machines of its stocks, the last event, and how it ends
+pub record IsFileSummary {A : Type 0} (contents : Contents) (made : FileSummary A) : Type 0 where
+  pub count_is : made.summary.messages ≡ length contents.payloads
+  pub passed_is : made.summary.passed ≡ count_by is_passed (outcomes contents.payloads)
+  pub summary : IsSummary contents.payloads made.summary.refused.items made.summary.stocks.items made.summary.event
+  pub marked_is : made.marked ≡ contents.marked
+  pub tail_is : made.tail ≡ length contents.tail
+
+-- the reader gave a whole file, of no more than so many bytes and messages, and this is what it makes
+pub record IsReplayedFile {A : Type 0} (start now : Option (List ℕ)) (bytes messages : ℕ) (made : FileSummary A) : Type 0
+    where
   pub contents : Contents
   pub whole : IsWholeFile start now bytes contents
   pub few : length contents.payloads ≤ messages
-  pub count_is : count ≡ length contents.payloads
-  pub passed_is : passed ≡ count_by is_passed (outcomes contents.payloads)
-  pub summary : IsSummary contents.payloads refused stocks event
-  pub marked_is : end.marked ≡ contents.marked
-  pub tail_is : end.tail ≡ length contents.tail
+  pub makes : IsFileSummary contents made

@@ -96,9 +96,7 @@ where
     requires bytes { limits.bytes ≤ 2 ^ 40 }
     requires segment { (0 < segment) × (segment ≤ 2 ^ 30) }
     ensures replayed { IfOk result (λ made. IsReplayedFile
-        (R.remaining feed.old.device) (R.remaining feed.new.device) limits.bytes limits.messages
-        made.summary.messages made.summary.passed made.summary.refused.items made.summary.stocks.items
-        made.summary.event (record { marked = made.marked; tail = made.tail })) }
+        (R.remaining feed.old.device) (R.remaining feed.new.device) limits.bytes limits.messages made) }
     ensures fault { IfErr result (
         Stops (R.remaining feed.old.device) (R.remaining feed.new.device) limits.bytes limits.messages) }
     ensures failed { IsErrOf result LoadFault.Read ↔ HasFailed feed.new }

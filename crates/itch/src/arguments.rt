@@ -113,7 +113,7 @@ fn replay_command<'a>(alloc: Global) -> Result<Command<'a>, AllocError> {
                 .long("progress")
                 .action(ArgAction::SetTrue)
                 .help(
-                    "Says on standard error each time that workers come to another million messages",
+                    "Says on standard error how far it is, at most once a second and at the end",
                 ),
         )
 }

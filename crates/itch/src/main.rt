@@ -11,13 +11,14 @@ use arguments::Task;
 use binaryfile::{Day, Feed, Limits, Sink};
 use clap::error::ErrorKind;
 use day_core::WorkerCount;
+use file_replay::Silent;
 use itch_debug::debug_run;
 use itch_engine::limits::{MOST_FILE_BYTES, MOST_MESSAGES};
-use itch_engine::{ProgFault, asm_run, dis_between_run, dis_run, hex_run, replay_run, status};
+use itch_engine::{ProgFault, asm_run, dis_between_run, dis_run, hex_run, report_run, status};
 use itch_readings::{Selection, StockFault, StockName, stocks_run, tops_run};
 use itch_watch::watch_run;
 use named_files::{Failure, Named, Replacement, is_same_file};
-use progress::Progress;
+use progress::ProgressLines;
 use prompt::Prompting;
 use std::io::{self, IsTerminal};
 use std::process::ExitCode;
@@ -104,23 +105,28 @@ fn worker_count(number: u32) -> WorkerCount {
     WorkerCount::new(number).unwrap_or(WorkerCount::ONE)
 }
 
-// Replays a file by this many workers, and writes its report on standard output.
-fn replay<'a, R: Runtime + AllocGlobal + Threads + Wait + Sync>(
+// Replays a file by this many threads while it is read, and writes its report on standard output.
+fn replay<'a, R: Runtime + AllocGlobal + Threads + Sync>(
     rt: &R,
     terminals: Terminals,
     path: &'a str,
     workers: u32,
     progress: bool,
-) -> Ended<'a> {
+) -> Ended<'a>
+where
+    R::File: Send,
+{
     let mut day = open_day(rt, terminals, path)?;
     let mut output = standard_output(rt);
-    let workers = worker_count(workers);
+    let threads = worker_count(workers);
     let (mut feed, mut sink) = (Feed::new(&mut day), Sink::new(&mut output));
     let run = if progress {
-        let gate = Progress::new(rt);
-        replay_run(rt, rt.alloc(), &mut feed, &mut sink, workers, &gate)
+        let lines = ProgressLines::new(rt, path);
+        let run = report_run(rt, rt.alloc(), &mut feed, &mut sink, threads, &lines);
+        lines.say();
+        run
     } else {
-        replay_run(rt, rt.alloc(), &mut feed, &mut sink, workers, &FreeGate)
+        report_run(rt, rt.alloc(), &mut feed, &mut sink, threads, &Silent)
     };
     ended(run, &day, &output)
 }
@@ -306,7 +312,10 @@ fn run<R: Runtime + AllocGlobal + Threads + Wait + Sync>(
     rt: &R,
     arguments: &[String],
     terminals: Terminals,
-) -> ExitCode {
+) -> ExitCode
+where
+    R::File: Send,
+{
     let matches = match arguments::parse(rt.alloc(), arguments) {
         Ok(matches) => matches,
         Err(error) => return explain(rt, &error),

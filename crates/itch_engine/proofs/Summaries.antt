@@ -1,9 +1,10 @@
 -- The lines and the counts of a day, by its refused messages and those of no stock.
-use Rattle.std.proofs.Common.{◌≡◌, ℕ, zero, suc, ◌+◌, List, [], ◌∷◌, ◌++◌, length, Bool, true, false, cond, filter, map, refl, sym, ap, ◌∙◌, arith, inl, inr}
+use Rattle.std.proofs.Common.{◌≡◌, ℕ, zero, suc, ◌+◌, ◌≤◌, List, [], ◌∷◌, ◌++◌, length, Bool, true, false, cond, filter, map, refl, sym, ap, ◌∙◌, arith, inl, inr}
 use Rattle.std.specs.List.{count_by, flat_map, range_with_len}
 use Rattle.std.proofs.lemmas.Bool.{cases_Bool}
 use Rattle.std.proofs.lemmas.List.{length-map}
-use Rattle.std.proofs.lemmas.List.Sums.{length-filter, sum_by-cons}
+use Rattle.std.proofs.lemmas.List.FromFn.{length-range_with_len}
+use Rattle.std.proofs.lemmas.List.Sums.{count_by-le-length, length-filter, sum_by-cons}
 use Rattle.itch_table.specs.declared.outcome.Outcome.{Outcome}
 use Rattle.itch_table.specs.declared.outcome.Outcome.TheVariants.{Applied, Passed, Refused}
 use Rattle.itch_table.specs.declared.outcome.Part.{Part}
@@ -74,6 +75,13 @@ module _ (day : List (List ℕ)) where
       sym (length-filter (λ (p : Piece). is_passed p.outcome) (map (piece_of day) fixed))
       ∙ ap length (filter-map (λ (p : Piece). is_passed p.outcome) (piece_of day) fixed) ∙ length-map _ (piece_of day)
       ∙ ap length (kept_narrower (λ n. is_nowhere (part_at day n)) passes numbers nowhere) ∙ sym (counted is_passed)
+
+  -- there are no more messages of no stock than messages
+  pub few_fixed : length (fixed_pieces day) ≤ length day
+  unfolding fixed_pieces
+  few_fixed =
+      let fixed = filter (λ n. is_nowhere (part_at day n)) numbers in
+      omega (arith, length-map fixed (piece_of day), length-filter (λ n. is_nowhere (part_at day n)) numbers, count_by-le-length (λ n. is_nowhere (part_at day n)) numbers, length-range_with_len 1 (length day))
 
 -- each message is applied, passed over or refused
 pub all_counted : (found : List Outcome) → count_by is_applied found + count_by is_passed found + count_by is_refused found ≡ length found

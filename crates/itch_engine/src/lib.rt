@@ -1,9 +1,10 @@
 //! The engines of the program, over any reader and writer.
 //!
-//! An engine reads its whole input into memory, makes its whole output there, and then writes it:
+//! An engine reads its whole input, makes its whole output in memory, and then writes it:
 //!
 //! | engine | input | output |
 //! |---|---|---|
+//! | [`report_run`] | a day file, of which no more is in memory than two segments | its report |
 //! | [`replay_run`] | a day file | its report |
 //! | [`hex_run`] | a day file in hexadecimal digits | its report |
 //! | [`dis_run`] | a day file | its text |
@@ -13,11 +14,11 @@
 //! ```rust
 //! let mut feed = Feed::new(reader);
 //! let mut sink = Sink::new(writer);
-//! let refused = replay_run(rt, rt.alloc(), &mut feed, &mut sink, workers, &FreeGate)?;
+//! let refused = report_run(rt, rt.alloc(), &mut feed, &mut sink, threads, &Silent)?;
 //! ```
 //!
-//! The program `itch` calls these. [`replay_run`] and [`hex_run`] take `rt` as well, in whose threads the workers
-//! replay; `workers` is a `WorkerCount` of `day_core`.
+//! The program `itch` calls these but [`replay_run`], which is for callers with a gate of their own. Those that replay
+//! take `rt` as well, which makes their threads; how many is a `WorkerCount` of `day_core`.
 //!
 //! All meet one contract, `Runs`, which says what was read, written and returned for each result. [`limits`] has the
 //! greatest inputs that they take, and [`status`] the exit status for what an engine returned. The functions that begin
@@ -39,6 +40,7 @@ pub use engines::asm::asm_run;
 pub use engines::digits::hex_run;
 pub use engines::dis::{dis_between_run, dis_run};
 pub use engines::replay::replay_run;
+pub use engines::report::report_run;
 pub use exit_status::status;
 pub use fault::ProgFault;
 pub use report::{put_count, put_levels, put_quoted_byte, put_stock_line, put_trades};

@@ -1,5 +1,5 @@
-//! The report of a replayed day, line by line.
-pub(crate) mod day;
+//! The report of a replayed file, line by line.
+pub(crate) mod file;
 mod messages;
 mod numbers;
 mod quoted_bytes;

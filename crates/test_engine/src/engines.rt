@@ -1,7 +1,8 @@
 //! The engines, called by one form, and the replay also by two workers.
 use binaryfile::{Feed, Sink};
 use day_core::WorkerCount;
-use itch_engine::{asm_run, dis_between_run, dis_run, hex_run, replay_run};
+use file_replay::Silent;
+use itch_engine::{asm_run, dis_between_run, dis_run, hex_run, replay_run, report_run};
 use itch_readings::{Selection, StockFault, StockName, stocks_run, tops_run};
 use itch_watch::watch_run;
 use std::alloc::Allocator;
@@ -15,9 +16,14 @@ use test_support::{DIGITS, FILE, REPORT, TEXT};
 /// An engine.
 #[derive(Debug, Clone, Copy, PartialEq, Eq)]
 pub(crate) enum Engine {
+    /// The replay of a file that is loaded.
     Replay,
-    /// The replay by two workers, of a file of two stocks.
+    /// The same by two workers, of a file of two stocks.
     TwoWorkers,
+    /// The replay of a file while it is read.
+    Report,
+    /// The same by two threads, of a file of two stocks.
+    TwoThreads,
     Digits,
     Disassembler,
     /// The disassembler of messages 2 and 3.
@@ -31,8 +37,9 @@ pub(crate) enum Engine {
 }
 
 /// All of them, where the replay has one worker.
-pub(crate) const ENGINES: [Engine; 8] = [
+pub(crate) const ENGINES: [Engine; 9] = [
     Engine::Replay,
+    Engine::Report,
     Engine::Digits,
     Engine::Disassembler,
     Engine::Between,
@@ -82,11 +89,12 @@ impl Engine {
     pub(crate) fn input(self) -> &'static [u8] {
         match self {
             Engine::Replay
+            | Engine::Report
             | Engine::Disassembler
             | Engine::Between
             | Engine::Stocks
             | Engine::Tops => FILE,
-            Engine::TwoWorkers | Engine::Watch => TWO_STOCKS,
+            Engine::TwoWorkers | Engine::TwoThreads | Engine::Watch => TWO_STOCKS,
             Engine::Digits => DIGITS,
             Engine::Assembler => TEXT,
         }
@@ -95,8 +103,8 @@ impl Engine {
     /// What the engine writes for it.
     pub(crate) fn output(self) -> &'static [u8] {
         match self {
-            Engine::Replay | Engine::Digits => REPORT,
-            Engine::TwoWorkers => TWO_STOCKS_REPORT,
+            Engine::Replay | Engine::Report | Engine::Digits => REPORT,
+            Engine::TwoWorkers | Engine::TwoThreads => TWO_STOCKS_REPORT,
             Engine::Disassembler => TEXT,
             Engine::Between => BETWEEN,
             Engine::Assembler => FILE,
@@ -109,8 +117,8 @@ impl Engine {
     /// What the engine returns for it: how many messages were refused, and 0 where none is replayed.
     pub(crate) fn returns(self) -> Result<u32, StockFault> {
         match self {
-            Engine::Replay | Engine::Digits => Ok(1),
-            Engine::TwoWorkers => Ok(2),
+            Engine::Replay | Engine::Report | Engine::Digits => Ok(1),
+            Engine::TwoWorkers | Engine::TwoThreads => Ok(2),
             Engine::Disassembler
             | Engine::Between
             | Engine::Assembler
@@ -124,7 +132,7 @@ impl Engine {
     pub(crate) fn run<
         T: Threads + Wait + Sync,
         A: Allocator + Copy + Send + Sync,
-        R: Read + Drop,
+        R: Read + Send + Drop,
         W: Write,
     >(self, rt: &T, alloc: A, reader: R, writer: &mut W) -> Result<u32, StockFault> {
         let mut feed = Feed::new(reader);
@@ -133,6 +141,8 @@ impl Engine {
         let run = match self {
             Engine::Replay => replay_run(rt, alloc, &mut feed, &mut sink, one, &FreeGate),
             Engine::TwoWorkers => replay_run(rt, alloc, &mut feed, &mut sink, two, &FreeGate),
+            Engine::Report => report_run(rt, alloc, &mut feed, &mut sink, one, &Silent),
+            Engine::TwoThreads => report_run(rt, alloc, &mut feed, &mut sink, two, &Silent),
             Engine::Digits => hex_run(rt, alloc, &mut feed, &mut sink),
             Engine::Disassembler => dis_run(alloc, &mut feed, &mut sink).map(|()| 0),
             Engine::Between => dis_between_run(alloc, &mut feed, &mut sink, 2, 3).map(|()| 0),

@@ -2,7 +2,8 @@
 use crate::engines::{ENGINES, Engine};
 use binaryfile::{Feed, Sink};
 use day_core::WorkerCount;
-use itch_engine::{ProgFault, replay_run};
+use file_replay::Silent;
+use itch_engine::{ProgFault, replay_run, report_run};
 use itch_readings::{StockFault, StockName};
 use itch_watch::watch_run;
 use std::io::ErrorKind;
@@ -109,6 +110,27 @@ fn try_replay<T: AllocGlobal + Threads + Wait + Sync>(rt: &T, workers: u32) -> R
     gate.compare(workers, (2, 2, 3))
 }
 
+// A replay of a file while it is read, by this many threads.
+fn try_report<T: AllocGlobal + Threads + Wait + Sync>(
+    rt: &T,
+    threads: u32,
+    file: &[u8],
+    refused: u32,
+    report: &[u8],
+) -> Result<(), Fail> {
+    let mut output = Vec::new(rt.alloc());
+    let returned = report_run(
+        rt,
+        rt.alloc(),
+        &mut Feed::new(file),
+        &mut Sink::new(&mut output),
+        worker_count(threads)?,
+        &Silent,
+    );
+    same("a result", &(threads, returned), &(threads, Ok(refused)))?;
+    same_bytes("a report", &output, report)
+}
+
 // What a screen sees while this many workers replay the file of two stocks, whose seven messages are all of a stock. Of
 // the workers the one that has the stock of locate code 3 comes to this many of them.
 fn try_watch<T: AllocGlobal + Threads + Wait + Sync>(
@@ -141,6 +163,7 @@ fn try_watch<T: AllocGlobal + Threads + Wait + Sync>(
 fn outputs_are_the_same_for_all_numbers_of_workers(rt: HostRuntime) -> Result<(), Fail> {
     for (workers, own) in [(1, 7), (2, 5), (3, 1), (64, 1)] {
         try_replay(&rt, workers)?;
+        try_report(&rt, workers, FILE, 1, REPORT)?;
         try_watch(&rt, workers, own)?;
     }
     Ok(())
@@ -178,6 +201,7 @@ fn refused_messages_stand_by_their_numbers(rt: HostRuntime) -> Result<(), Fail> 
         );
         same("a result", &(workers, returned), &(workers, Ok(4)))?;
         same_bytes("a report", &output, REFUSALS_REPORT)?;
+        try_report(&rt, workers, REFUSALS, 4, REFUSALS_REPORT)?;
     }
     Ok(())
 }
@@ -199,8 +223,8 @@ fn try_read<T: AllocGlobal + Threads + Wait + Sync>(
     )
 }
 
-// One call for each byte, and one more that gives the end. The stocks are listed segment by segment: the segment after
-// the last one asks once more.
+// One call for each byte, and one more that gives the end. Some engines read segment by segment: the segment after the
+// last one asks once more.
 #[test]
 fn engines_send_nothing_after_a_failed_read(rt: HostRuntime) -> Result<(), Fail> {
     for engine in ENGINES {
@@ -208,8 +232,11 @@ fn engines_send_nothing_after_a_failed_read(rt: HostRuntime) -> Result<(), Fail>
             try_read(&rt, engine, failing)?;
         }
     }
-    let stocks = Engine::Stocks;
-    try_read(&rt, stocks, (stocks.input().len() as u64).saturating_add(2))
+    for engine in [Engine::Stocks, Engine::Report] {
+        let reads = (engine.input().len() as u64).saturating_add(2);
+        try_read(&rt, engine, reads)?;
+    }
+    Ok(())
 }
 
 // A run whose writer takes one byte a call, and fails when it has taken this many.
@@ -279,7 +306,9 @@ fn try_refusal<T: AllocGlobal + Threads + Wait + Sync>(
 fn engines_send_nothing_without_memory(rt: HostRuntime) -> Result<(), Fail> {
     for engine in [
         Engine::TwoWorkers,
+        Engine::TwoThreads,
         Engine::Replay,
+        Engine::Report,
         Engine::Digits,
         Engine::Disassembler,
         Engine::Between,

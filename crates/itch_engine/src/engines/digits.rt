@@ -7,7 +7,7 @@ use crate::engines::replay::report_of_file;
 use crate::fault::ProgFault;
 use crate::hex_input::decode_digits;
 use crate::limits::MOST_HEX_BYTES;
-use crate::report::day::Report;
+use crate::report::file::Report;
 use binaryfile::{Feed, Sink, read_to_end, send};
 use day_core::WorkerCount;
 use std::alloc::Allocator;

@@ -1,19 +1,66 @@
-//! The engine that replays a day file.
-ghost use Rattle.std.specs.Prelude.{◌≡◌, ◌-◌, ◌^◌, Err, IfOk, IfErr};
+//! The engine that loads a day file and replays it, with a gate.
+ghost use Rattle.std.specs.Prelude.{◌≡◌, ◌-◌, ◌<◌, ◌^◌, Err, IfOk, IfErr, count_by, length};
 ghost use Rattle.binaryfile.specs.Loading.{HasMoreMessages};
+ghost use Rattle.day_core.specs.Replaying.{is_passed};
+ghost use Rattle.file_replay.specs.Files.{IsFileSummary};
 ghost use Rattle.itch_engine.specs.Runs.{Fails, Runs};
 ghost use Rattle.itch_engine.specs.ReplayEngines.{Replays, replayer};
 
 use crate::fault::ProgFault;
 use crate::limits::{MOST_FILE_BYTES, MOST_MESSAGES};
-use crate::report::day::{Report, report_of_day};
+use crate::report::file::{Report, report_of};
 use binaryfile::{Day, Feed, Sink, read_to_end, send};
-use day_core::WorkerCount;
-use std::alloc::Allocator;
+use day_core::{Piece, WorkerCount, parts_of, workers_for};
+use day_replay::Summary;
+use file_replay::FileSummary;
+use itch_table::Outcome;
+use std::alloc::{AllocError, Allocator};
 use std::io::{Read, Write};
 use std::sync::Wait;
 use std::thread::Threads;
-use stock_workers::Gate;
+use stock_workers::{Gate, summarize_in_threads};
+use top_cell::Board;
+
+// How many of these messages were passed over.
+fn passed_among(pieces: &[Piece]) -> u32
+    requires { length pieces.now < 2 ^ 32 }
+    ensures { result ≡ count_by (λ p. is_passed p.outcome) pieces.now }
+{
+    let mut passed = 0;
+    for piece in pieces {
+        if let Outcome::Passed = piece.outcome {
+            passed += 1;
+        }
+    }
+    passed
+}
+
+// What a day makes, replayed by this many threads on a board of its own, whose workers call the gate before each message. A
+// long day of many stocks is split for more workers, of which each thread does several one after another.
+fn replay_day<R: Threads + Wait + Sync, A: Allocator + Copy + Send + Sync, G: Gate>(
+    rt: &R,
+    alloc: A,
+    day: &Day<A>,
+    threads: WorkerCount,
+    gate: &G,
+) -> Result<FileSummary<A>, AllocError>
+    ensures { IfOk result (λ made. IsFileSummary day.now made) }
+{
+    let parts = parts_of(rt, alloc, day, workers_for(alloc, day, threads)?)?;
+    let (board, writers) = Board::of_stocks(alloc, parts.day(), parts.locates())?;
+    let made = summarize_in_threads(rt, alloc, &parts, threads, &board, writers, gate)?;
+    Ok(FileSummary {
+        summary: Summary {
+            messages: day.len(),
+            passed: passed_among(parts.fixed()),
+            refused: made.refused,
+            stocks: made.stocks,
+            event: made.event,
+        },
+        marked: day.marked(),
+        tail: day.tail().len() as u64,
+    })
+}
 
 /// The report of a file, and how many of its messages are refused.
 pub(crate) fn report_of_file<R: Threads + Wait + Sync, A: Allocator + Copy + Send + Sync, G: Gate>(
@@ -29,7 +76,8 @@ pub(crate) fn report_of_file<R: Threads + Wait + Sync, A: Allocator + Copy + Sen
     ensures judged { HasMoreMessages input.items (2 ^ 32 - 1) → result ≡ Err ProgFault.TooManyMessages }
 {
     let day = Day::from_bytes(alloc, input, MOST_MESSAGES)?;
-    Ok(report_of_day(rt, alloc, &day, workers, gate)?)
+    let made = replay_day(rt, alloc, &day, workers, gate)?;
+    Ok(report_of(alloc, &made)?)
 }
 
 /// Reads a day file, replays it and writes the report. Returns how many messages were refused.

@@ -1,50 +1,39 @@
 //! The lines of a report that speak of messages.
-ghost use Rattle.std.specs.Prelude.{◌≡◌, ◌++◌, List, OnOk, count_by};
+ghost use Rattle.std.specs.Prelude.{◌≡◌, ◌++◌, List, OnOk};
 ghost use Rattle.std.specs.List.{flat_map};
 ghost use Rattle.byte_strings.specs.Extending.{Extends};
+ghost use Rattle.binaryfile.specs.Entries.{Contents};
 ghost use Rattle.itch_table.specs.After.{outcomes};
 ghost use Rattle.itch_table.specs.declared.outcome.Outcome.{Outcome};
-ghost use Rattle.day_core.specs.Replaying.{is_passed, refused_of};
+ghost use Rattle.file_replay.specs.Files.{IsFileSummary};
 ghost use Rattle.itch_engine.specs.Report.{counts, file_line, mark, refused_line};
 ghost use Rattle.itch_engine.specs.Tallies.{IsTally};
 
 use crate::report::numbers::put_count;
 use crate::report::quoted_bytes::put_quoted_byte;
-use day_core::{Parts, Piece};
+use day_core::Piece;
+use file_replay::FileSummary;
 use itch_table::Outcome;
 use std::alloc::{AllocError, Allocator};
 
-/// How many messages a day has, and how many of them were applied, passed over and refused.
+/// How many messages a file has, and how many of them were applied, passed over and refused.
 #[derive(Clone, Copy)]
 pub(crate) struct Tally {
-    pub messages: usize,
-    pub applied: usize,
-    pub passed: usize,
-    pub refused: usize,
+    pub messages: u32,
+    pub applied: u32,
+    pub passed: u32,
+    pub refused: u32,
 }
 
-// How many of these messages were passed over.
-fn passed_among(pieces: &[Piece]) -> usize
-    ensures { result ≡ count_by (λ p. is_passed p.outcome) pieces.now }
+/// Counts what became of the messages of a file, by what it makes.
+pub(crate) fn tally_of<A: Allocator>(file: &FileSummary<A>) -> Tally
+    requires { (contents : Contents) × IsFileSummary contents file.now }
+    ensures { (contents : Contents) → IsFileSummary contents file.now
+        → IsTally (outcomes contents.payloads) result }
 {
-    let mut passed = 0;
-    for piece in pieces {
-        if let Outcome::Passed = piece.outcome {
-            passed += 1;
-        }
-    }
-    passed
-}
-
-/// Counts what became of the messages of a day. The caller passes those that were refused. A message of a stock isn't
-/// passed over.
-pub(crate) fn tally_of<A: Allocator>(parts: &Parts<'_, A>, refused: &[Piece]) -> Tally
-    requires { refused.now ≡ refused_of parts.now.day }
-    ensures { IsTally (outcomes parts.now.day) result }
-{
-    let messages = parts.day().len() as usize;
-    let passed = passed_among(parts.fixed());
-    let refused = refused.len();
+    let messages = file.summary.messages;
+    let passed = file.summary.passed;
+    let refused = file.summary.refused.len() as u32;
     Tally {
         messages,
         applied: messages - passed - refused,
@@ -65,7 +54,7 @@ fn put_refused<A: Allocator>(text: &mut Vec<u8, A>, piece: Piece) -> Result<(), 
     Ok(())
 }
 
-/// Adds the lines of the refused messages of a day.
+/// Adds the lines of the refused messages of a file.
 pub(crate) fn put_refused_lines<A: Allocator>(
     text: &mut Vec<u8, A>,
     refused: &[Piece],
@@ -105,7 +94,7 @@ pub(crate) fn put_file_line<A: Allocator>(
     text: &mut Vec<u8, A>,
     tally: Tally,
     marked: bool,
-    tail_length: usize,
+    tail_length: u64,
     event: Option<u8>,
 ) -> Result<(), AllocError>
     ensures { (found : List Outcome) → IsTally found tally

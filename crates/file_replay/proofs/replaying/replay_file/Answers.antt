@@ -160,9 +160,11 @@ returns-clause-replayed g c =
       contents = so_far.before;
       whole = subst (λ (most : ℕ). IsWholeFile start now most so_far.before) inv.most whole;
       few = so_far.few;
-      count_is = made.messages so_far.before.payloads so_far.replayed;
-      passed_is = made.passed so_far.before.payloads so_far.replayed;
-      summary = made.summary so_far.before.payloads so_far.replayed;
-      marked_is = so_far.marked_is;
-      tail_is = so_far.tail_is;
+      makes = record {
+        count_is = made.messages so_far.before.payloads so_far.replayed;
+        passed_is = made.passed so_far.before.payloads so_far.replayed;
+        summary = made.summary so_far.before.payloads so_far.replayed;
+        marked_is = so_far.marked_is;
+        tail_is = so_far.tail_is;
+      };
     }

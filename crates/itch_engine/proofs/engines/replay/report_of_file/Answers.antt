@@ -4,8 +4,18 @@ use Rattle.binaryfile.proofs.Splitting.{contents_splits}
 use Rattle.itch_engine.proofs.StockLines.{payloads_are}
 use Rattle.itch_engine.proofs.engines.replay.report_of_file.Goals as goal
 
-pub report_of_day-requires-clause-bytes : goal.report_of_day-requires-clause-bytes
-report_of_day-requires-clause-bytes g c =
+pub returns-clause-report : goal.returns-clause-report
+returns-clause-report g c =
     let bytes = c.day.inside.bytes.items in
     let are = c.day.invariant.are in
-    λ _ _. payloads_are bytes c.in_ok-day.day are (subst (Splits bytes) c.day.view_is (contents_splits bytes are))
+    let day = c.in_ok-day.ensures {u = tt} in
+    let contents = c.in_ok-day.day in
+    let made = c.in_ok-made.ensures {u = tt} in
+    let report = c.in_ok-report_of.ensures {u = tt} in
+    record {
+      contents = contents;
+      split = day.split;
+      few = day.within;
+      report = report.text contents (payloads_are bytes contents are (subst (Splits bytes) c.day.view_is (contents_splits bytes are))) made;
+      counted = report.refused contents made;
+    }

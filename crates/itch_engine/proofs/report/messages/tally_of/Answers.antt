@@ -1,38 +1,44 @@
-use Rattle.std.proofs.Common.{◌≡◌, List, ap, arith, length, ◌∙◌}
+use Rattle.std.proofs.Common.{◌≡◌, ap, arith, length, ◌∙◌}
 use Rattle.std.specs.List.{count_by}
-use Rattle.itch_table.specs.declared.outcome.Outcome.{Outcome}
+use Rattle.std.proofs.lemmas.List.Sums.{count_by-le-length}
+use Rattle.binaryfile.specs.Entries.{Contents}
 use Rattle.itch_table.specs.After.{outcomes}
 use Rattle.itch_table.proofs.Days.{length-outcomes_until}
 use Rattle.day_core.specs.Replaying.{is_refused}
-use Rattle.day_core.specs.Replaying.{is_passed}
-use Rattle.itch_engine.proofs.Summaries.{all_counted, passed_are, refused_are}
+use Rattle.file_replay.specs.Files.{IsFileSummary}
+use Rattle.itch_engine.proofs.Summaries.{all_counted, refused_are}
 use Rattle.itch_engine.proofs.report.messages.tally_of.Given as given
 use Rattle.itch_engine.proofs.report.messages.tally_of.Goals as goal
 
--- how many messages the day has, and how many were passed over and refused
-module _ (g : given.Over) (c : goal.After-passed_among-passed g) where
-  abbrev found : List Outcome
-  found = outcomes c.args.parts.now.day
+module _ (g : given.Over) (c : goal.After-len-refused g) (contents : Contents) (made : IsFileSummary contents c.args.file.now) where
+  messages : c.args.file.now.summary.messages ≡ length (outcomes contents.payloads)
+  messages = omega (arith, made.count_is, length-outcomes_until contents.payloads (length contents.payloads))
 
-  messages : c.len-messages.result ≡ length found
-  messages = omega (arith, c.len-messages.ensures, ap length c.day.ensures, length-outcomes_until c.args.parts.now.day (length c.args.parts.now.day))
+  refused : length c.args.file.now.summary.refused.items ≡ count_by is_refused (outcomes contents.payloads)
+  refused = ap length made.summary.refused_are ∙ refused_are contents.payloads
 
-  passed : c.passed_among-passed.result ≡ count_by is_passed found
-  passed = c.passed_among-passed.ensures ∙ ap (count_by (λ p. is_passed p.outcome)) c.fixed.ensures ∙ passed_are c.args.parts.now.day
-
-  refused : length c.args.refused.now ≡ count_by is_refused found
-  refused = ap length c.requires ∙ refused_are c.args.parts.now.day
+pub overflow_cast-refused : goal.overflow_cast-refused
+overflow_cast-refused g c =
+    let contents = c.requires.0 in
+    let made = c.requires.1 in
+    omega (arith, messages g c contents made, refused g c contents made, count_by-le-length is_refused (outcomes contents.payloads))
 
 pub overflow_sub-result : goal.overflow_sub-result
-overflow_sub-result g c = omega (arith, messages g c, passed g c, all_counted (outcomes c.args.parts.now.day))
+overflow_sub-result g c =
+    let contents = c.requires.0 in
+    let made = c.requires.1 in
+    omega (arith, messages g c contents made, made.passed_is, all_counted (outcomes contents.payloads))
 
 pub overflow_sub-result-2 : goal.overflow_sub-result-2
-overflow_sub-result-2 g c = omega (arith, messages g c, passed g c, refused g c, all_counted (outcomes c.args.parts.now.day))
+overflow_sub-result-2 g c =
+    let contents = c.requires.0 in
+    let made = c.requires.1 in
+    omega (arith, messages g c contents made, made.passed_is, refused g c contents made, all_counted (outcomes contents.payloads))
 
 pub returns : goal.returns
-returns g c = record {
-  messages = messages g c;
-  applied = omega (arith, messages g c, passed g c, refused g c, all_counted (outcomes c.args.parts.now.day));
-  passed = passed g c;
-  refused = refused g c;
+returns g c = λ contents made. record {
+  messages = messages g c contents made;
+  applied = omega (arith, messages g c contents made, made.passed_is, refused g c contents made, all_counted (outcomes contents.payloads));
+  passed = made.passed_is;
+  refused = omega (arith, c.len-refused.ensures, refused g c contents made);
 }

@@ -5,8 +5,8 @@ use Rattle.itch_table.specs.declared.outcome.Outcome.{Outcome}
 use Rattle.itch_table.specs.declared.outcome.Outcome.TheVariants.{Applied, Passed, Refused}
 use Rattle.day_core.specs.declared.merging.Piece.{Piece}
 use Rattle.day_core.specs.Replaying.{is_passed}
-use Rattle.itch_engine.proofs.report.messages.passed_among.Goals as goal
-use Rattle.itch_engine.proofs.report.messages.passed_among.Goals.{in-Passed, in_default}
+use Rattle.itch_engine.proofs.engines.replay.passed_among.Goals as goal
+use Rattle.itch_engine.proofs.engines.replay.passed_among.Goals.{in-Passed, in_default}
 
 abbrev passes : Piece → Bool
 passes p = is_passed p.outcome

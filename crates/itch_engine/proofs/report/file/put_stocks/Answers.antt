@@ -3,7 +3,7 @@ use Rattle.std.specs.List.{flat_map}
 use Rattle.std.proofs.lemmas.List.{flat_map_more, take_more}
 use Rattle.stock_machine.specs.StockRows.{StockMachine}
 use Rattle.itch_engine.specs.Report.{machine_lines}
-use Rattle.itch_engine.proofs.report.day.put_stocks.Goals as goal
+use Rattle.itch_engine.proofs.report.file.put_stocks.Goals as goal
 
 pub loop-stock-preserved : goal.loop-stock-preserved
 loop-stock-preserved g c =

@@ -1,0 +1,89 @@
+//! The engine that replays a day file while it reads it.
+ghost use Rattle.std.specs.Prelude.{◌≡◌, ◌+◌, ◌↔◌, IfErr, IfOk, IsErrOf};
+ghost use Rattle.binaryfile.specs.Devices.{GaveUpTo, HasFailed};
+ghost use Rattle.itch_engine.specs.declared.limits.TheConstants.{MOST_FILE_BYTES};
+ghost use Rattle.itch_engine.specs.Runs.{HasMade, Runs, StopsReading};
+ghost use Rattle.itch_engine.specs.ReplayEngines.{replayer};
+
+use crate::fault::ProgFault;
+use crate::limits::{MOST_FILE_BYTES, MOST_MESSAGES};
+use crate::report::file::{Report, report_of};
+use binaryfile::{Feed, Limits, Sink, send};
+use day_core::WorkerCount;
+use file_replay::{Progress, replay_file};
+use std::alloc::Allocator;
+use std::io::{Read, Write};
+use std::thread::Threads;
+
+// How many bytes are read at a time.
+const SEGMENT_BYTES: u32 = 1 << 24;
+
+// The report of a file that is replayed while it is read, and how many of its messages are refused.
+fn report_of_feed<T, A, R, P>(
+    rt: &T,
+    alloc: A,
+    feed: &mut Feed<R>,
+    threads: WorkerCount,
+    progress: &P,
+) -> Result<Report<A>, ProgFault>
+where
+    T: Threads + Sync,
+    A: Allocator + Copy + Send + Sync,
+    R: Read + Send,
+    P: Progress,
+    ensures report { IfOk result (λ report. HasMade replayer
+        (R.remaining feed.old.device) (R.remaining feed.new.device) report.text.items report.refused) }
+    ensures fault { IfErr result (
+        StopsReading replayer (R.remaining feed.old.device) (R.remaining feed.new.device)) }
+    // Whatever the result, no more is taken from the reader than the limit and one byte.
+    ensures taken { GaveUpTo (R.remaining feed.old.device) (R.remaining feed.new.device)
+        (MOST_FILE_BYTES + 1) }
+    ensures failed { IsErrOf result ProgFault.Read ↔ HasFailed feed.new }
+    ensures for_good { HasFailed feed.old → feed.new ≡ feed.old }
+{
+    let limits = Limits {
+        bytes: MOST_FILE_BYTES,
+        messages: MOST_MESSAGES,
+    };
+    let file = replay_file(rt, alloc, feed, limits, SEGMENT_BYTES, threads, progress)?;
+    Ok(report_of(alloc, &file)?)
+}
+
+/// Replays a day file while it is read, and writes the report, the same that [`replay_run`] writes. Returns how many
+/// messages were refused.
+///
+/// This many threads replay what was read, while one more reads; where none can be made, the work is done all the same.
+/// No more of the file is in memory than two segments of 16 MiB. `progress` is told after each segment how far it is.
+///
+/// The file is read to its end before anything is written, and the whole report is made in memory before it is sent.
+/// After [`ProgFault::Write`] the bytes that were taken are a prefix of the report; after another fault none was sent.
+/// [`ProgFault::Read`] comes exactly where the feed has failed, [`ProgFault::TooManyBytes`] above [`MOST_FILE_BYTES`]
+/// bytes, and [`ProgFault::TooManyMessages`] above [`MOST_MESSAGES`] messages, once the whole input was read.
+///
+/// ```text
+/// let mut feed = Feed::new(file);
+/// let mut sink = Sink::new(output);
+/// let refused = report_run(rt, rt.alloc(), &mut feed, &mut sink, WorkerCount::ONE, &Silent)?;
+/// ```
+///
+/// [`replay_run`]: crate::replay_run
+pub fn report_run<T, A, R, W, P>(
+    rt: &T,
+    alloc: A,
+    feed: &mut Feed<R>,
+    sink: &mut Sink<W>,
+    threads: WorkerCount,
+    progress: &P,
+) -> Result<u32, ProgFault>
+where
+    T: Threads + Sync,
+    A: Allocator + Copy + Send + Sync,
+    R: Read + Send,
+    W: Write,
+    P: Progress,
+    ensures { Runs replayer R.remaining W.contents feed.old feed.new sink.old sink.new result }
+{
+    let report = report_of_feed(rt, alloc, feed, threads, progress)?;
+    send(sink, &report.text)?;
+    Ok(report.refused)
+}
