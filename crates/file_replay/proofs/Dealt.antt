@@ -1,5 +1,5 @@
 -- What is known once the next segment was dealt, or not.
-use Rattle.std.proofs.Common.{◌≡◌, ℕ, ◌+◌, ◌*◌, ◌-◌, ◌<◌, ◌≤◌, ◌++◌, Ok, Err, List, length, sym, subst, refl, ap, ◌∙◌, arith}
+use Rattle.std.proofs.Common.{◌≡◌, ℕ, ◌+◌, ◌*◌, ◌-◌, ◌<◌, ◌≤◌, ◌++◌, Ok, Err, List, length, sym, subst, ap, ◌∙◌, arith}
 use Rattle.std.specs.Prelude.{IfErr, IfOk, MatchOption, None, Option, Result, Some}
 use Rattle.binaryfile.specs.Devices.{Device, HasFailed}
 use Rattle.binaryfile.specs.Entries.{Contents}

@@ -1,5 +1,5 @@
 -- A file that is replayed so far, of which the next segment is dealt.
-use Rattle.std.proofs.Common.{◌≡◌, ℕ, ◌+◌, ◌≤◌, ◌++◌, List, length, refl, sym, subst, arith}
+use Rattle.std.proofs.Common.{◌≡◌, ℕ, ◌≤◌, List, length, refl, sym, subst}
 use Rattle.std.specs.Prelude.{None, Option, Some}
 use Rattle.binaryfile.specs.Entries.{Contents}
 use Rattle.day_segments.specs.Reading.{HasRead, IsWholeFile, Reading, nothing_read}

@@ -1,7 +1,7 @@
-use Rattle.std.proofs.Common.{◌≡◌, ◌∙◌, ◌+◌, ◌≤◌, ◌<◌, Err, List, Option, ℕ, length, sym, subst, ap, arith, rules}
+use Rattle.std.proofs.Common.{◌≡◌, ◌∙◌, Err, ℕ, length, sym, subst, ap, arith, rules}
 use Rattle.std.proofs.lemmas.Result.{err_from_is_err_and}
 use Rattle.std.proofs.lemmas.List.{length-append}
-use Rattle.binaryfile.specs.Devices.{GaveMore, HasFailed}
+use Rattle.binaryfile.specs.Devices.{HasFailed}
 use Rattle.binaryfile.specs.Entries.{Contents}
 use Rattle.day_segments.specs.Reading.{IsWholeFile, followed_by, nothing_read}
 use Rattle.day_segments.proofs.SegmentCases.{all_of_it, none_more, one_more, took_within}

@@ -1,4 +1,4 @@
-use Rattle.std.proofs.Common.{◌≡◌, ◌∙◌, ◌+◌, ◌≤◌, Err, List, Option, ℕ, length, sym, subst, ap, refl, arith, rules}
+use Rattle.std.proofs.Common.{◌∙◌, ℕ, sym, subst, arith}
 use Rattle.std.proofs.lemmas.Result.{err_from_is_err_and}
 use Rattle.std.proofs.lemmas.List.{length-append}
 use Rattle.binaryfile.specs.Devices.{HasFailed}
