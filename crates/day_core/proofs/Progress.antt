@@ -4,8 +4,6 @@ use Rattle.std.specs.List.{range_with_len}
 use Rattle.std.proofs.lemmas.Bool.{cases_Bool, cases_lt, eq-eqb, ne_eqb}
 use Rattle.std.proofs.lemmas.List.{take_all}
 use Rattle.std.proofs.lemmas.List.Elements.{filter_more, filter_passes}
-use Rattle.std.proofs.lemmas.List.FromFn.{length-range_with_len}
-use Rattle.std.proofs.lemmas.List.Sums.{count_by-le-length, length-filter}
 use Rattle.std.proofs.lemmas.Nat.{mod_below}
 use Rattle.itch_table.specs.declared.outcome.Part.{Part}
 use Rattle.itch_table.specs.declared.outcome.Part.TheVariants.{Locate, Nowhere}
@@ -22,14 +20,6 @@ unfolding own_of
 own_within workers worker day i d lt =
     let within = kept_within (λ n. is_own workers worker (part_at day n)) 1 (length day) i d lt in
     (omega (arith, within), omega (arith, within))
-
--- a worker has no more messages than the day
-pub own_few : (workers worker : ℕ) (day : List (List ℕ)) → length (own_of workers worker day) ≤ length day
-unfolding own_of
-own_few workers worker day =
-    let p = λ (n : ℕ). is_own workers worker (part_at day n) in
-    let all = range_with_len 1 (length day) in
-    omega (arith, length-filter p all, count_by-le-length p all, length-range_with_len 1 (length day))
 
 pub own_passes : (workers worker : ℕ) (day : List (List ℕ)) (i d : ℕ) → i < length (own_of workers worker day)
     → is_own workers worker (part_at day (get_or (own_of workers worker day) i d)) ≡ true

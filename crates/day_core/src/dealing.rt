@@ -20,8 +20,8 @@ use std::thread::Threads;
 // In how many chunks the messages of a long day are dealt, each by one thread.
 const CHUNKS: u32 = 16;
 
-/// How many messages a day has at least to be dealt in chunks, and to be split for more workers than threads.
-pub(crate) const MANY: u32 = 1 << 17;
+// How many messages a day has at least to be dealt in chunks.
+const MANY: u32 = 1 << 17;
 
 /// The messages of a stretch of a day, dealt to the workers of their stocks.
 #[derive(Drop)]

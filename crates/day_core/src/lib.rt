@@ -3,8 +3,7 @@
 //! [`split`] says which messages each of 1 to 64 workers does, and [`replay_parts`] does them, one worker after
 //! another: the outcome of each message, and each stock's machine after the day. [`Parts::own`] gives a worker's
 //! messages one after another ([`OwnMessages`]), each by its number and its payload. [`parts_of`] is [`split`] for a
-//! number that is from 1 to 64 by its type ([`WorkerCount`]), and [`workers_for`] says for how many workers a day is
-//! split where some threads do several of them each.
+//! number that is from 1 to 64 by its type ([`WorkerCount`]).
 //!
 //! ```rust
 //! let parts = split(rt, alloc, &day, workers)?;
@@ -51,6 +50,6 @@ pub use refusals::{all_refused, note_refused, outcomes_with};
 pub use replaying::{ReplayedDay, replay_parts};
 pub use runner::{Runner, TURNS_AHEAD, Turned};
 pub use seeing::locates;
-pub use splitting::{MANY_WORKERS, SplitFault, parts_of, split, workers_for};
+pub use splitting::{MANY_WORKERS, SplitFault, parts_of, split};
 pub use turns::Turns;
 pub use worker_count::WorkerCount;

@@ -1,5 +1,5 @@
 //! A worker's messages of a day, one after another.
-ghost use Rattle.std.specs.Prelude.{ℕ, ◌≡◌, ◌<◌, ◌^◌, [], List, length, map, slice_index_or};
+ghost use Rattle.std.specs.Prelude.{ℕ, ◌≡◌, [], List, map, slice_index_or};
 ghost use Rattle.std.specs.Iterator.{YieldsFirstBy, item_count};
 ghost use Rattle.binaryfile.specs.EntryLists.{numbered_payloads};
 ghost use Rattle.day_core.specs.Stretches.{AreAllOf, AreOf, numbers_in, own_among};
@@ -46,28 +46,6 @@ fn payloads_in<'d, A: Allocator>(
         Some(list) => list.payloads(day),
         None => ListedPayloads::none(day),
     }
-}
-
-// How many messages a worker has in a stretch; none for a number that is no worker's.
-fn len_of<A: Allocator>(lists: &[EntryList<A>], worker: u32) -> usize
-    ensures { result ≡ length (slice_index_or (numbers_in lists.now) worker []) }
-{
-    match lists.get(worker as usize) {
-        Some(list) => list.len(),
-        None => 0,
-    }
-}
-
-/// How many messages a worker has in stretches that come one after another.
-pub(crate) fn count_of<A: Allocator>(stretches: &[Vec<EntryList<A>, A>], worker: u32) -> usize
-    requires { length (own_among worker (map (λ lists. lists.items) stretches.now)) < 2 ^ 32 }
-    ensures { result ≡ length (own_among worker (map (λ lists. lists.items) stretches.now)) }
-{
-    let mut count = 0;
-    for lists in stretches {
-        count += len_of(lists, worker);
-    }
-    count
 }
 
 impl<'d, A: Allocator> OwnMessages<'d, A> {

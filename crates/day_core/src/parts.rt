@@ -5,7 +5,7 @@ ghost use Rattle.itch_table.specs.Shows.{locates_of_day};
 ghost use Rattle.day_core.specs.Owners.{fixed_pieces, own_messages};
 
 use crate::merging::Piece;
-use crate::own_messages::{OwnMessages, count_of};
+use crate::own_messages::OwnMessages;
 use crate::worker_count::WorkerCount;
 use binaryfile::{Day, EntryList};
 use std::alloc::{AllocError, Allocator};
@@ -77,17 +77,6 @@ impl<'d, A: Allocator> Parts<'d, A> {
             return OwnMessages::new(self.day, &[], worker);
         }
         OwnMessages::new(self.day, &self.own, worker)
-    }
-
-    /// How many messages a worker's stocks have; none for a number that is no worker's. Workers are numbered from 0.
-    pub fn own_count(&self, worker: u32) -> u32
-        ensures { result ≡ length (own_messages self.now.workers worker self.now.day) }
-    {
-        // Nothing is known of the lists of such a number.
-        if worker >= self.workers.get() {
-            return 0;
-        }
-        count_of(&self.own, worker) as u32
     }
 
     /// The messages of no stock, with their outcomes, by rising number.

@@ -8,9 +8,6 @@ use binaryfile::Day;
 use itch_table::{LOCATES, Part, part};
 use std::alloc::{AllocError, Allocator};
 
-// How many messages are a day's first, among which its stocks are counted.
-const FIRST_MESSAGES: usize = 1 << 16;
-
 /// At each of this many locate codes that no message of its stock was seen.
 pub(crate) fn none_seen<A: Allocator + Copy>(
     alloc: A,
@@ -65,18 +62,4 @@ pub fn locates<A: Allocator + Copy>(alloc: A, day: &Day<A>) -> Result<Vec<u16, A
         }
     }
     locates_seen(alloc, &seen)
-}
-
-/// How many stocks have messages among a day's first.
-pub(crate) fn stocks_among_first<A: Allocator + Copy>(
-    alloc: A,
-    day: &Day<A>,
-) -> Result<usize, AllocError> {
-    let mut seen = none_seen(alloc, LOCATES)?;
-    for payload in day.payloads().take(FIRST_MESSAGES) {
-        if let Part::Locate(locate) = part(payload) {
-            seen[usize::from(locate)] = true;
-        }
-    }
-    Ok(seen.iter().filter(|is_seen| **is_seen).count())
 }

@@ -1,60 +1,67 @@
 -- What all workers make, by what each of them makes.
-use Rattle.std.proofs.Common.{◌≡◌, ℕ, ◌<◌, List, All, length, get_or, sym, ap, subst, ◌∙◌, arith}
-use Rattle.std.proofs.lemmas.List.{get_or-map, length-map}
-use Rattle.std.proofs.lemmas.List.FromFn.{get_or-map-range_with_len, length-map-range_with_len}
+use Rattle.std.proofs.Common.{◌≡◌, ℕ, ◌<◌, List, All, length, get_or, Result, Ok, Err, IfOk, sym, ap, subst, ◌∙◌, arith}
 use Rattle.std.specs.declared.alloc.AllocError.{AllocError}
-use Rattle.std.proofs.Common.{Result}
+use Rattle.std.proofs.lemmas.List.{get_or-map, get_or_default, length-map}
+use Rattle.std.proofs.lemmas.List.FromFn.{get_or-map-range_with_len, length-map-range_with_len}
 use Rattle.day_core.specs.Replaying.{for_own_stocks}
 use Rattle.day_core.specs.Splitting.{Split}
 use Rattle.top_cell.specs.Boards.{CellId, WriterAt}
 use Rattle.stock_workers.specs.declared.forking.Finished.{Finished}
 use Rattle.stock_workers.specs.declared.forking.Waiting.{Waiting}
-use Rattle.stock_workers.specs.Running.{AreFinished, AreMade, AreWaiting, HasOwnWriters, IsWaiting}
+use Rattle.stock_workers.specs.Running.{AreFinished, AreWaiting, IsFinished, IsWaiting}
+
+pub both_ok : {T E : Type 0} (r : Result T E) (P Q S : T → Type 0) → IfOk r P → IfOk r Q → ((x : T) → P x → Q x → S x) → IfOk r S
+both_ok (Ok x) P Q S p q f = f x p q
+both_ok (Err e) P Q S p q f = tt
+
+-- what a worker with these writers has made, or that memory was refused
+abbrev pub Made : {A : Type 0} → Split → ℕ → List WriterAt → Result (Finished A) AllocError → Type 0
+Made split worker writers made = IfOk made (λ m. IsFinished split worker writers m.refused.items m.stocks.items m.writers.items)
 
 -- how many workers wait
 many_wait : {A : Type 0} (split : Split) (writer : ℕ → WriterAt) (all : List (Waiting A)) → AreWaiting split writer all → length all ≡ split.workers
 many_wait {A} split writer all are = sym (length-map all (λ (w : Waiting A). w.worker)) ∙ ap length are.numbers_are ∙ length-map-range_with_len (λ (k : ℕ). k) 0 split.workers
 
 -- one of them
-module _ {A : Type 0} (split : Split) (writer : ℕ → WriterAt) (all : List (Waiting A)) (are : AreWaiting split writer all) (k : ℕ) (d : Waiting A) (room : k < length all) where
-  abbrev w : Waiting A
-  w = get_or all k d
-
-  below : k < split.workers
-  below = omega (arith, room, many_wait split writer all are)
+module _ {A : Type 0} (split : Split) (writer : ℕ → WriterAt) (all : List (Waiting A)) (are : AreWaiting split writer all) (k : ℕ) (w : Waiting A) (is : w ≡ get_or all k w) (lt : k < split.workers) where
+  room : k < length all
+  room = omega (arith, lt, many_wait split writer all are)
 
   number : w.worker ≡ k
   number =
-      sym (get_or-map (λ (v : Waiting A). v.worker) all k d w.worker room)
+      ap (λ (v : Waiting A). v.worker) is ∙ sym (get_or-map (λ (v : Waiting A). v.worker) all k w w.worker room)
       ∙ ap (λ (xs : List ℕ). get_or xs k w.worker) are.numbers_are
-      ∙ get_or-map-range_with_len (λ (n : ℕ). n) 0 split.workers k k w.worker below (omega arith)
+      ∙ get_or-map-range_with_len (λ (n : ℕ). n) 0 split.workers k k w.worker lt (omega arith)
 
   own : w.writers.items ≡ for_own_stocks writer split k
   own =
-      sym (get_or-map (λ (v : Waiting A). v.writers.items) all k d w.writers.items room)
+      ap (λ (v : Waiting A). v.writers.items) is ∙ sym (get_or-map (λ (v : Waiting A). v.writers.items) all k w w.writers.items room)
       ∙ ap (λ (xs : List (List WriterAt)). get_or xs k w.writers.items) are.writers_are
-      ∙ get_or-map-range_with_len (for_own_stocks writer split) 0 split.workers k k w.writers.items below (omega arith)
+      ∙ get_or-map-range_with_len (for_own_stocks writer split) 0 split.workers k k w.writers.items lt (omega arith)
 
-  has_own : HasOwnWriters split writer w
-  has_own = own ∙ ap (for_own_stocks writer split) (sym number)
+  -- what holds of its number and its writers, and of those that it has
+  told : (P : ℕ → List WriterAt → Type 0) → P w.worker w.writers.items → P k (for_own_stocks writer split k)
+  told P holds = subst (λ (n : ℕ). P n (for_own_stocks writer split k)) number (subst (λ (ws : List WriterAt). P w.worker ws) own holds)
 
-  may_wait : (board : List CellId) → ((n : ℕ) → n < split.workers → IsWaiting split board n (for_own_stocks writer split n)) → IsWaiting split board w.worker w.writers.items
-  may_wait board each =
-      subst (λ (ws : List WriterAt). IsWaiting split board w.worker ws) (sym own)
-      (subst (λ (n : ℕ). IsWaiting split board n (for_own_stocks writer split k)) (sym number) (each k below))
-
--- each has the writers of its stocks
-pub all_have_own : {A : Type 0} (split : Split) (writer : ℕ → WriterAt) (all : List (Waiting A)) → AreWaiting split writer all → All (HasOwnWriters split writer) all
-all_have_own split writer all are = λ k d lt. has_own split writer all are k d lt
+  known : (P : ℕ → List WriterAt → Type 0) → P k (for_own_stocks writer split k) → P w.worker w.writers.items
+  known P holds = subst (λ (ws : List WriterAt). P w.worker ws) (sym own) (subst (λ (n : ℕ). P n (for_own_stocks writer split k)) (sym number) holds)
 
 -- workers that wait may start
 pub all_may_start : {A : Type 0} (split : Split) (writer : ℕ → WriterAt) (all : List (Waiting A)) (board : List CellId) → AreWaiting split writer all
     → ((k : ℕ) → k < split.workers → IsWaiting split board k (for_own_stocks writer split k))
     → All (λ w. IsWaiting split board w.worker w.writers.items) all
-all_may_start split writer all board are each = λ k d lt. may_wait split writer all are k d lt board each
+all_may_start split writer all board are each = λ k d lt.
+    let w = get_or all k d in
+    let below : k < split.workers = omega (arith, lt, many_wait split writer all are) in
+    known split writer all are k w (get_or_default all k d w lt) below (λ n ws. IsWaiting split board n ws) (each k below)
 
--- what as many workers have made
+-- what each of them made
 pub all_finished : {A : Type 0} (split : Split) (writer : ℕ → WriterAt) (all : List (Waiting A)) (made : List (Result (Finished A) AllocError)) → AreWaiting split writer all → length made ≡ length all
-    → AreMade split writer made → AreFinished split writer made
+    → ((k : ℕ) (d : Result (Finished A) AllocError) → k < length all → (w : Waiting A) × (w ≡ get_or all k w) × Made split w.worker w.writers.items (get_or made k d))
+    → AreFinished split writer made
 all_finished split writer all made are long each =
-    record { long = long ∙ many_wait split writer all are; each = each }
+    let count = many_wait split writer all are in
+    record {
+      long = long ∙ count;
+      each = λ k d lt. let at = each k d (omega (arith, lt, count)) in told split writer all are k at.0 at.1 lt (λ n ws. Made split n ws (get_or made k d)) at.2;
+    }

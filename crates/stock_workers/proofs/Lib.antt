@@ -1,5 +1,4 @@
 mod Dealing
 mod Finishing
-mod Jobs
 mod Joined
 mod Writing

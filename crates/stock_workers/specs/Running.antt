@@ -1,5 +1,5 @@
 -- All workers of a day, and what each makes of its messages. All is of this project.
-use Rattle.std.specs.Prelude.{◌≡◌, ◌<◌, ℕ, List, All, IfOk, IfSome, Result, length, map, slice_index_or}
+use Rattle.std.specs.Prelude.{◌≡◌, ◌<◌, ℕ, List, All, IfOk, Result, length, map, slice_index_or}
 use Rattle.std.specs.declared.alloc.AllocError.{AllocError}
 use Rattle.stock_machine.specs.StockRows.{StockMachine}
 use Rattle.day_core.specs.declared.merging.Piece.{Piece}
@@ -9,7 +9,6 @@ use Rattle.day_core.specs.Splitting.{Split}
 use Rattle.top_cell.specs.Boards.{CellId, IsOn, WriterAt}
 use Rattle.stock_workers.specs.Working.{WritersAt}
 use Rattle.stock_workers.specs.declared.forking.Finished.{Finished}
-use Rattle.stock_workers.specs.declared.forking.Job.{Job}
 use Rattle.stock_workers.specs.declared.forking.Waiting.{Waiting}
 
 -- a worker of the day that hasn't started: the writers of its stocks have published nothing, and are of the
@@ -39,37 +38,12 @@ pub record IsFinished (split : Split) (worker : ℕ) (writers : List WriterAt) (
   pub stocks_are : stocks ≡ for_own_stocks (last_machine split.day) split worker
   pub writers_are : after ≡ map (at_last split.day) writers
 
--- a worker of a split day has the writers of its stocks
-abbrev pub HasOwnWriters : {A : Type 0} → Split → (ℕ → WriterAt) → Waiting A → Type 0
-HasOwnWriters split writer w = w.writers.items ≡ for_own_stocks writer split w.worker
-
--- what the worker of this number has made of a split day, where the writers of its stocks were these, or that memory was
--- refused
-abbrev pub IsMade : {A : Type 0} → Split → (ℕ → WriterAt) → ℕ → Result (Finished A) AllocError → Type 0
-IsMade split writer worker made = IfOk made (λ m. IsFinished split worker (for_own_stocks writer split worker)
-    m.refused.items m.stocks.items m.writers.items)
-
--- a job on a worker of a split day: where it hasn't started that worker waits, and what is made is the worker's
-pub record IsJob {A : Type 0} (split : Split) (writer : ℕ → WriterAt) (job : Job A) : Type 0 where
-  pub waits : IfSome job.waiting (λ w. (w.worker ≡ job.worker) × HasOwnWriters split writer w)
-  pub made_is : IsMade split writer job.worker job.made
-
--- a thread may come to a job
-abbrev pub MayStart : {A : Type 0} → Split → List CellId → Job A → Type 0
-MayStart split board job = IfSome job.waiting (λ w. IsWaiting split board w.worker w.writers.items)
-
--- jobs on workers of a split day are jobs on them afterwards
-abbrev pub AreStillJobs : {A : Type 0} → Split → List (Job A) → List (Job A) → Type 0
-AreStillJobs split old new =
-    (writer : ℕ → WriterAt) → All (IsJob split writer) old → All (IsJob split writer) new
-
--- what workers of a split day have made, each at its number
-abbrev pub AreMade : {A : Type 0} → Split → (ℕ → WriterAt) → List (Result (Finished A) AllocError) → Type 0
-AreMade {A} split writer made = (worker : ℕ) (d : Result (Finished A) AllocError) → worker < length made
-    → IsMade split writer worker (slice_index_or made worker d)
-
--- what all workers make, in the order of their numbers: the writers of their stocks were these, by locate code
+-- what all workers make, in the order of their numbers, where none was refused memory: the writers of their
+-- stocks were these, by locate code
 pub record AreFinished {A : Type 0} (split : Split) (writer : ℕ → WriterAt)
     (made : List (Result (Finished A) AllocError)) : Type 0 where
   pub long : length made ≡ split.workers
-  pub each : AreMade split writer made
+  pub each : (worker : ℕ) (d : Result (Finished A) AllocError) → worker < split.workers
+      → IfOk (slice_index_or made worker d)
+      (λ m. IsFinished split worker (for_own_stocks writer split worker) m.refused.items m.stocks.items
+      m.writers.items)

@@ -10,9 +10,7 @@ ghost use Rattle.stock_workers.specs.declared.running.RunFault.TheVariants.{Memo
 use crate::forking::{Finished, Waiting, finish_all};
 use crate::gate::Gate;
 use binaryfile::Day;
-use day_core::{
-    Parts, Piece, SplitFault, WorkerCount, all_refused, by_worker, in_order, outcomes_with, split,
-};
+use day_core::{Parts, Piece, SplitFault, all_refused, by_worker, in_order, outcomes_with, split};
 use itch_table::Outcome;
 use std::alloc::{AllocError, Allocator};
 use std::sync::Wait;
@@ -156,32 +154,8 @@ pub fn summarize_parts<R: Threads + Wait + Sync, A: Allocator + Copy + Send + Sy
     ensures writers { IfOk result (λ made.
         made.writers.items ≡ map (at_last parts.now.day) writers.items) }
 {
-    let threads = WorkerCount::new(parts.workers()).unwrap();
-    summarize_in_threads(rt, alloc, parts, threads, board, writers, gate)
-}
-
-/// The same as [`summarize_parts`] by so many threads at most, where the day may be split for more workers than that:
-/// each thread does a batch of the workers, each of them to the day's end before the next, so that the books of few
-/// stocks are in use at a time, and all batches have about as many messages. The gate is called with the number of the
-/// batch, from 0 and below the number of threads, in place of the worker's; where there are no more workers than threads
-/// it is the worker's. After an error the writers are gone.
-pub fn summarize_in_threads<R: Threads + Wait + Sync, A: Allocator + Copy + Send + Sync, G: Gate>(
-    rt: &R,
-    alloc: A,
-    parts: &Parts<'_, A>,
-    threads: WorkerCount,
-    board: &Board<A>,
-    writers: Vec<TopWriter, A>,
-    gate: &G,
-) -> Result<Summary<A>, AllocError>
-    requires { AreNew parts.now.day (locates_of_day parts.now.day) board.now writers.items }
-    ensures summary { IfOk result (λ made. IsSummary parts.now.day
-        made.refused.items made.stocks.items made.event) }
-    ensures writers { IfOk result (λ made.
-        made.writers.items ≡ map (at_last parts.now.day) writers.items) }
-{
     let waiting = waiting_workers(alloc, parts, writers)?;
-    let made = finish_all(rt, alloc, parts, threads, board, waiting, gate)?;
+    let made = finish_all(rt, alloc, parts, board, waiting, gate)?;
     let gathered = gather(alloc, parts, made)?;
     Ok(Summary {
         refused: all_refused(alloc, parts, gathered.refused)?,

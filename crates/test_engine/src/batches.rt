@@ -1,4 +1,4 @@
-//! A replay of a long day of many stocks, of whose workers each thread does several.
+//! A replay of a long day of many stocks, by one worker in each thread.
 use binaryfile::{Feed, Sink};
 use day_core::WorkerCount;
 use itch_engine::replay_run;
@@ -30,11 +30,11 @@ fn long_day<A: Allocator + Copy>(alloc: A) -> Result<Vec<u8, A>, AllocError> {
     Ok(bytes)
 }
 
-// Counts how often it is called with a number of a thread, and with another number; notes these numbers, as bits; and
+// Counts how often it is called with a number of a worker, and with another number; notes these numbers, as bits; and
 // counts how often it is called with a message that isn't after the one of the call before.
 #[derive(Drop)]
 struct Calls {
-    threads: u32,
+    workers: u32,
     within: AtomicU64,
     beyond: AtomicU64,
     numbers: AtomicU64,
@@ -44,7 +44,7 @@ struct Calls {
 
 impl Gate for Calls {
     fn at<R: Threads + Wait + Sync>(&self, _rt: &R, worker: u32, message: u32) {
-        let calls = if worker < self.threads {
+        let calls = if worker < self.workers {
             &self.within
         } else {
             &self.beyond
@@ -60,37 +60,37 @@ impl Gate for Calls {
 }
 
 #[test]
-fn a_long_day_of_many_stocks_is_the_same_for_all_numbers_of_threads(
+fn a_long_day_of_many_stocks_is_the_same_for_all_numbers_of_workers(
     rt: HostRuntime,
 ) -> Result<(), Fail> {
     let alloc = rt.alloc();
     let day = long_day(alloc)?;
     let mut first: Vec<u8> = Vec::new(alloc);
-    for (threads, numbers) in [(1, 0b1), (2, 0b11), (64, u64::MAX)] {
+    for (workers, numbers) in [(1, 0b1), (2, 0b11), (64, u64::MAX)] {
         let gate = Calls {
-            threads,
+            workers,
             within: AtomicU64::new(0),
             beyond: AtomicU64::new(0),
             numbers: AtomicU64::new(0),
             last: AtomicU64::new(0),
             falls: AtomicU64::new(0),
         };
-        let count = WorkerCount::new(threads).ok_or_else(|| Fail::new("1 to 64 threads"))?;
+        let count = WorkerCount::new(workers).ok_or_else(|| Fail::new("1 to 64 workers"))?;
         let mut report = Vec::new(alloc);
         let mut feed = Feed::new(day.as_slice());
         let mut sink = Sink::new(&mut report);
         let returned = replay_run(&rt, alloc, &mut feed, &mut sink, count, &gate);
-        same("a result", &(threads, returned), &(threads, Ok(0)))?;
+        same("a result", &(workers, returned), &(workers, Ok(0)))?;
         let within = gate.within.load(Ordering::SeqCst);
         let beyond = gate.beyond.load(Ordering::SeqCst);
         same("calls of the gate", &(within, beyond), &(131_072, 0))?;
         let called = gate.numbers.load(Ordering::SeqCst);
-        same("threads", &(threads, called), &(threads, numbers))?;
+        same("workers", &(workers, called), &(workers, numbers))?;
         let begins = report.get(..BEGINS.len()).unwrap_or(b"");
         same_bytes("the beginning of a report", begins, BEGINS)?;
-        if threads == 1 {
-            // The thread does 16 workers, each from its first message on.
-            same("falls", &gate.falls.load(Ordering::SeqCst), &15)?;
+        if workers == 1 {
+            // The only worker does all messages in their order.
+            same("falls", &gate.falls.load(Ordering::SeqCst), &0)?;
             first = report;
         } else {
             same_bytes("a report", &report, &first)?;

@@ -1,9 +1,7 @@
 //! Days that are split among workers.
 use crate::days::{add_entry, day_of, parts_of, two_stocks};
 use binaryfile::Day;
-use day_core::{
-    Event, Parts, Piece, Seen, SplitFault, Turns, WorkerCount, play, split, workers_for,
-};
+use day_core::{Event, Parts, Piece, Seen, SplitFault, Turns, WorkerCount, play, split};
 use itch_table::Outcome;
 use std::alloc::{Allocator, Global};
 use std::test::Fail;
@@ -220,40 +218,4 @@ fn a_long_day_without_memory_has_no_parts(rt: HostRuntime) -> Result<(), Fail> {
         }
     }
     Ok(())
-}
-
-// A day that is long enough to be dealt in chunks, with a message of each of this many stocks before all others.
-fn day_of_stocks<A: Allocator + Copy>(alloc: A, stocks: u16) -> Result<Day<A>, Fail> {
-    let mut file = Vec::new(alloc);
-    for locate in 0..stocks {
-        let stock = Ticker { locate, ..AAPL };
-        add_entry(alloc, &mut file, &stock.directory())?;
-    }
-    for _ in 0..1u32 << 17 {
-        file.extend_from_slice(UNKNOWN)?;
-    }
-    day_of(alloc, file)
-}
-
-#[test]
-fn threads_have_several_workers_where_a_day_has_many_stocks(rt: HostRuntime) -> Result<(), Fail> {
-    for (stocks, counts) in [
-        (2_047, [(1, 1), (16, 16), (64, 64)]),
-        (2_048, [(1, 16), (2, 16), (5, 5)]),
-        (9_000, [(1, 64), (3, 63), (33, 33)]),
-    ] {
-        let day = day_of_stocks(rt.alloc(), stocks)?;
-        for (threads, wanted) in counts {
-            let threads = WorkerCount::new(threads).unwrap_or(WorkerCount::ONE);
-            let workers = workers_for(rt.alloc(), &day, threads)?;
-            same(
-                "the workers of a day",
-                &(stocks, threads, workers.get()),
-                &(stocks, threads, wanted),
-            )?;
-        }
-    }
-    let short = two_stocks(rt.alloc())?;
-    let workers = workers_for(rt.alloc(), &short, WorkerCount::ONE)?;
-    same("the workers of a short day", &workers, &WorkerCount::ONE)
 }

@@ -4,15 +4,15 @@ ghost use Rattle.top_cell.specs.Boards.{AreNew, IsOn};
 
 use crate::screens::first_screen;
 use binaryfile::{Day, Feed, Sink};
-use day_core::{WorkerCount, parts_of};
+use day_core::WorkerCount;
 use itch_engine::replay_run;
 use std::alloc::{Allocator, Global};
 use std::sync::Wait;
 use std::sync::atomic::{AtomicU64, Ordering};
 use std::test::Fail;
 use std::thread::{Threads, join, yield_now};
-use stock_workers::{Gate, run, summarize_in_threads};
-use test_support::{AAPL, MSFT, Ticker, crossed_book, day_with, same};
+use stock_workers::{Gate, run};
+use test_support::{AAPL, MSFT, crossed_book, day_with, same};
 use top_cell::{Board, Reading, Screen};
 
 // How often a worker that is held looks whether it may go on, at most; each time other threads may run.
@@ -93,71 +93,6 @@ fn two_workers_of_a_report_run_beside_each_other(rt: HostRuntime) -> Result<(), 
         &(returned, met),
         &(Ok(0), 2),
     )
-}
-
-#[test]
-fn threads_of_several_workers_run_beside_each_other(rt: HostRuntime) -> Result<(), Fail> {
-    let alloc = rt.alloc();
-    // Of four workers in two threads, worker 2 has the first stock here, and worker 1 the second one.
-    let day = day_with(alloc, &[MSFT.directory(), AAPL.directory()])?;
-    let gate = Meeting::new();
-    let parts = parts_of(&rt, alloc, &day, WorkerCount::new(4).unwrap())?;
-    let threads = WorkerCount::new(2).unwrap();
-    let (board, writers) = Board::new(alloc, &day)?;
-    let done = summarize_in_threads(&rt, alloc, &parts, threads, &board, writers, &gate).is_ok();
-    let met = gate.met.load(Ordering::SeqCst);
-    same("who met the other in two threads", &(done, met), &(true, 2))
-}
-
-// Counts how often it was called with number 0, and with other numbers.
-#[derive(Drop)]
-struct Calls {
-    first: AtomicU64,
-    others: AtomicU64,
-}
-
-impl Gate for Calls {
-    fn at<R: Threads + Wait + Sync>(&self, _rt: &R, worker: u32, _message: u32) {
-        let calls = match worker {
-            0 => &self.first,
-            _ => &self.others,
-        };
-        calls.fetch_add(1, Ordering::SeqCst);
-    }
-}
-
-#[test]
-fn threads_have_as_many_messages_as_each_other(rt: HostRuntime) -> Result<(), Fail> {
-    let alloc = rt.alloc();
-    // Of four workers in two threads, that of number 0 has one message, the next two, then three and four.
-    let first = Ticker { locate: 4, ..AAPL };
-    let third = Ticker { locate: 3, ..AAPL };
-    let day = day_with(
-        alloc,
-        &[
-            first.directory(),
-            AAPL.directory(),
-            AAPL.directory(),
-            MSFT.directory(),
-            MSFT.directory(),
-            MSFT.directory(),
-            third.directory(),
-            third.directory(),
-            third.directory(),
-            third.directory(),
-        ],
-    )?;
-    let gate = Calls {
-        first: AtomicU64::new(0),
-        others: AtomicU64::new(0),
-    };
-    let parts = parts_of(&rt, alloc, &day, WorkerCount::new(4).unwrap())?;
-    let threads = WorkerCount::new(2).unwrap();
-    let (board, writers) = Board::new(alloc, &day)?;
-    let done = summarize_in_threads(&rt, alloc, &parts, threads, &board, writers, &gate).is_ok();
-    let first = gate.first.load(Ordering::SeqCst);
-    let others = gate.others.load(Ordering::SeqCst);
-    same("messages by thread", &(done, first, others), &(true, 5, 5))
 }
 
 // Holds the worker at message 2 until a screen has seen message 1.

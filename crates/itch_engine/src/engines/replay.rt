@@ -10,7 +10,7 @@ use crate::fault::ProgFault;
 use crate::limits::{MOST_FILE_BYTES, MOST_MESSAGES};
 use crate::report::file::{Report, report_of};
 use binaryfile::{Day, Feed, Sink, read_to_end, send};
-use day_core::{Piece, WorkerCount, parts_of, workers_for};
+use day_core::{Piece, WorkerCount, parts_of};
 use day_replay::Summary;
 use file_replay::FileSummary;
 use itch_table::Outcome;
@@ -18,7 +18,7 @@ use std::alloc::{AllocError, Allocator};
 use std::io::{Read, Write};
 use std::sync::Wait;
 use std::thread::Threads;
-use stock_workers::{Gate, summarize_in_threads};
+use stock_workers::{Gate, summarize_parts};
 use top_cell::Board;
 
 // How many of these messages were passed over.
@@ -35,20 +35,19 @@ fn passed_among(pieces: &[Piece]) -> u32
     passed
 }
 
-// What a day makes, replayed by this many threads on a board of its own, whose workers call the gate before each message. A
-// long day of many stocks is split for more workers, of which each thread does several one after another.
+// What a day makes, replayed by this many workers on a board of its own, which call the gate before each message.
 fn replay_day<R: Threads + Wait + Sync, A: Allocator + Copy + Send + Sync, G: Gate>(
     rt: &R,
     alloc: A,
     day: &Day<A>,
-    threads: WorkerCount,
+    workers: WorkerCount,
     gate: &G,
 ) -> Result<FileSummary<A>, AllocError>
     ensures { IfOk result (λ made. IsFileSummary day.now made) }
 {
-    let parts = parts_of(rt, alloc, day, workers_for(alloc, day, threads)?)?;
+    let parts = parts_of(rt, alloc, day, workers)?;
     let (board, writers) = Board::of_stocks(alloc, parts.day(), parts.locates())?;
-    let made = summarize_in_threads(rt, alloc, &parts, threads, &board, writers, gate)?;
+    let made = summarize_parts(rt, alloc, &parts, &board, writers, gate)?;
     Ok(FileSummary {
         summary: Summary {
             messages: day.len(),
@@ -88,10 +87,6 @@ pub(crate) fn report_of_file<R: Threads + Wait + Sync, A: Allocator + Copy + Sen
 /// [`MOST_FILE_BYTES`] bytes, and [`ProgFault::TooManyMessages`] above [`MOST_MESSAGES`] messages. The report is the
 /// same for every number of workers: each replays the messages of its stocks in a thread of its own, calls the gate
 /// before each of them, and may wait there. Where no thread can be made, the work is done all the same.
-///
-/// Where a long day has many stocks, a worker here is a batch of workers of fewer stocks each, which its thread does one
-/// after another, as [`stock_workers::summarize_in_threads`] says: each stock's messages come in their order, but not all
-/// of a batch's, and the gate is called with the batch's number.
 ///
 /// ```text
 /// let mut feed = Feed::new(file);

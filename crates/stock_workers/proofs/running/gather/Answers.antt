@@ -1,4 +1,4 @@
-use Rattle.std.proofs.Common.{◌≡◌, ℕ, length, map, get_or, sym, ap, ◌∙◌}
+use Rattle.std.proofs.Common.{◌≡◌, ℕ, length, map, get_or, sym, ap, ◌∙◌, arith}
 use Rattle.std.specs.List.{range_with_len}
 use Rattle.std.proofs.lemmas.Iterator.Adapters.{YieldsList-from_vec}
 use Rattle.std.proofs.lemmas.Iterator.Consumers.{YieldsList-end, YieldsList-turn}
@@ -29,12 +29,12 @@ loop-one-preserved g c =
     let turn = YieldsList-turn (YieldsList-from_vec {s = c.into_iter-one-iterator.result} made gives.0 (gives.1 ∙ c.args.made.ok.0)) before.yielded before.one-iterator before.yielded_by c.next.result c.next.new.self one c.in-Some.is c.next.ensures.steps in
     let here : one ≡ get_or made at one = turn.1 in
     let was = sym here ∙ c.in_ok-finished.was in
-    let has = IfOk-at_ok (λ m. IsFinished split at (for_own_stocks c.requires.0 split at) m.refused.items m.stocks.items m.writers.items) was (c.requires.1.each at one turn.0) in
+    let has = IfOk-at_ok (λ m. IsFinished split at (for_own_stocks c.requires.0 split at) m.refused.items m.stocks.items m.writers.items) was (c.requires.1.each at one (omega (arith, turn.0, c.requires.1.long))) in
     rw length_push record {
       refused = one_more (λ own. own.items) (refused_by split) before.refused.items _ _ at before.invariant.refused c.in_ok-push.ensures.items has.refused_are;
       stocks = one_more (λ own. own.items) (for_own_stocks (last_machine split.day) split) before.stocks.items _ _ at before.invariant.stocks c.in_ok-push-2.ensures.items has.stocks_are;
       writers = λ writer are.
-          let own = IfOk-at_ok (λ m. IsFinished split at (for_own_stocks writer split at) m.refused.items m.stocks.items m.writers.items) was (are.each at one turn.0) in
+          let own = IfOk-at_ok (λ m. IsFinished split at (for_own_stocks writer split at) m.refused.items m.stocks.items m.writers.items) was (are.each at one (omega (arith, turn.0, are.long))) in
           one_more (λ own. own.items) (for_own_stocks (λ l. at_last split.day (writer l)) split) before.writers.items _ _ at (before.invariant.writers writer are) c.in_ok-push-3.ensures.items
           (own.writers_are ∙ map_twice (at_last split.day) writer (own_locates split.workers at split.day));
     }

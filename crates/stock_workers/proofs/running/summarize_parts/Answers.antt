@@ -4,7 +4,7 @@ use Rattle.day_core.specs.Replaying.{last_machine}
 use Rattle.stock_workers.specs.Running.{at_last}
 use Rattle.stock_workers.proofs.Dealing.{all_at_last, find, found, waits}
 use Rattle.stock_workers.proofs.Joined.{all_may_start}
-use Rattle.stock_workers.proofs.running.summarize_in_threads.Goals as goal
+use Rattle.stock_workers.proofs.running.summarize_parts.Goals as goal
 
 pub finish_all-requires-clause-wait : goal.finish_all-requires-clause-wait
 finish_all-requires-clause-wait g c κs within =
