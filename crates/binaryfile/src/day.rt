@@ -27,20 +27,6 @@ pub struct Limits {
     pub messages: u32,
 }
 
-// How many lines of memory, of so many bytes, are read of an entry that comes later.
-const LINES: usize = 2;
-
-const LINE: usize = 64;
-
-// How far after a place bytes are read ahead, in bytes.
-const TOUCH_FROM: usize = 2048;
-
-// How many of them are read.
-const TOUCHES: usize = 16;
-
-// How many bytes apart: two lines of memory, which many processors fetch together.
-const TOUCH_STEP: usize = 128;
-
 /// A whole file in memory, seen as its payloads in order, whether an end marker follows them, and its tail: the bytes
 /// after all that.
 #[derive(Drop)]
@@ -215,32 +201,6 @@ impl<A: Allocator> Day<A> {
         let (payload, next) = payload_and_next(&self.bytes, *place);
         *place = next;
         payload
-    }
-
-    /// Reads bytes that stand a little after a place, so that the processor has fetched that memory when a caller comes
-    /// there. It changes nothing, and what it returns means nothing: it is there to be used, so that the reads aren't
-    /// left out.
-    pub(crate) fn touch_after(&self, near: &Place) -> u64 {
-        let start = near.at.saturating_add(TOUCH_FROM);
-        let mut sum: u64 = 0;
-        for step in 0..TOUCHES {
-            if let Some(byte) = self.bytes.get(start.saturating_add(step * TOUCH_STEP)) {
-                sum = sum.wrapping_add(u64::from(*byte));
-            }
-        }
-        sum
-    }
-
-    /// Reads the first byte of the entry at a place and the one a line of memory after it, where they are, in the same
-    /// way: an entry of a message lies in the lines of both.
-    pub(crate) fn touch_at(&self, place: &Place) -> u64 {
-        let mut sum: u64 = 0;
-        for line in 0..LINES {
-            if let Some(byte) = self.bytes.get(place.at.saturating_add(line * LINE)) {
-                sum = sum.wrapping_add(u64::from(*byte));
-            }
-        }
-        sum
     }
 
     /// All payloads in their order, borrowed and not copied.

@@ -178,25 +178,6 @@ impl<'d, A: Allocator> ListedPayloads<'d, A> {
             distances: &[],
         }
     }
-
-    /// Reads bytes of the day that stand a little after the last payload that was taken, so that the processor has fetched
-    /// that memory when its caller comes there. It changes nothing, and what it returns means nothing: it is there to be
-    /// used, so that the reads aren't left out.
-    pub fn touch(&self) -> u64 {
-        self.day.touch_after(&self.near)
-    }
-
-    /// Reads the first bytes of the entries to which the next distances lead, `count` of them at most, in the same way;
-    /// after a distance whose bytes don't fit it reads elsewhere.
-    pub fn touch_next(&self, count: usize) -> u64 {
-        let mut sum: u64 = 0;
-        let mut place = self.near;
-        for distance in self.distances.iter().take(count) {
-            place.at = place.at.saturating_add(distance.bytes as usize);
-            sum = sum.wrapping_add(self.day.touch_at(&place));
-        }
-        sum
-    }
 }
 
 impl<'d, A: Allocator> Iterator for ListedPayloads<'d, A> {

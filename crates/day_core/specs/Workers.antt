@@ -1,19 +1,17 @@
 -- Where a worker stands in a day: how many of its own messages it has done says all. Of this project.
-use Rattle.std.specs.Prelude.{◌≡◌, ◌+◌, ◌++◌, ◌<◌, ◌≤◌, ◌^◌, ℕ, All, IfNone, IfSome, IsTrue, List, [], Option, Some, None, drop, length, map, slice_index}
-use Rattle.std.specs.List.{Contains}
-use Rattle.std.specs.Option.{option_to_list}
+use Rattle.std.specs.Prelude.{◌≡◌, ◌+◌, ◌<◌, ◌≤◌, ◌^◌, ℕ, IsTrue, List, Option, Some, None, drop, length, map, slice_get, slice_index}
+use Rattle.std.specs.Option.{option_map}
+use Rattle.binaryfile.specs.declared.entry_list.NumberedPayload.{NumberedPayload}
 use Rattle.itch_layouts.specs.Shapes.{shape_of}
 use Rattle.itch_table.specs.declared.outcome.Outcome.TheVariants.{Applied}
 use Rattle.itch_table.specs.declared.outcome.Part.TheVariants.{Locate}
 use Rattle.itch_table.specs.After.{outcome}
 use Rattle.itch_table.specs.Machine.{shape_adds_row}
-use Rattle.itch_table.specs.Parts.{part}
 use Rattle.itch_table.specs.Projection.{payload_at}
 use Rattle.itch_table.specs.World.{empty_world}
 use Rattle.stock_machine.specs.StockRows.{StockMachine}
 use Rattle.day_core.specs.Owners.{machine_of, own_locates, own_messages, own_of, part_at, piece_of, progress}
 use Rattle.day_core.specs.Splitting.{Split}
-use Rattle.day_core.specs.declared.runner.FoundMessage.{FoundMessage}
 use Rattle.day_core.specs.declared.runner.Turned.{Turned}
 
 -- one of the workers of a day, and how many of its own messages it has done
@@ -76,33 +74,11 @@ pub record MayGrowNext (s : WorkerState) : Type 0 where
   pub adds : (locate : ℕ) → part_at s.day (next_message s) ≡ Locate locate
       → IsTrue (shape_adds_row (Some locate) (shape_of (payload_at s.day (next_message s))))
 
--- messages, each by its number and its payload, are of these stocks: the locate code of each, where it fits two
--- bytes, is among theirs
-abbrev pub AreOfStocks : List ℕ → List (ℕ × List ℕ) → Type 0
-AreOfStocks locates messages =
-    All (λ m. (locate : ℕ) × (part m.1 ≡ Locate locate)
-    × (locate < 0x1_0000 → Contains locates locate)) messages
-
--- a message as it was found: which of these stocks it is of
-pub record IsFound (locates : List ℕ) (payload : List ℕ) (index : ℕ) : Type 0 where
-  pub within : index < length locates
-  pub stock_is : part payload ≡ Locate (slice_index locates index)
-
--- messages that were found, each by its number and its payload
-abbrev pub numbered : List FoundMessage → List (ℕ × List ℕ)
-numbered found = map (λ f. (f.number, f.payload.now)) found
-
--- what a runner has of its messages, after those that it has done: the next one, those that were found after
--- it, of which this many were taken, and those that are left to be found
-pub record AreAhead (s : WorkerState) (locates : List ℕ) (next : Option FoundMessage)
-    (ahead : List FoundMessage) (taken : ℕ) (left : List (ℕ × List ℕ)) : Type 0 where
-  pub within : taken ≤ length ahead
-  pub all : numbered (option_to_list next ++ drop taken ahead) ++ left
-      ≡ drop s.done (own_messages s.workers s.worker s.day)
-  pub none : IfNone next ((drop taken ahead ≡ []) × (left ≡ []))
-  pub next_found : IfSome next (λ f. IsFound locates f.payload.now f.index)
-  pub found : All (λ f. IsFound locates f.payload.now f.index) ahead
-  pub left_are : AreOfStocks locates left
+-- what a runner has left of its messages, after those that it has done: the next one, and those after it
+pub record HasLeft (s : WorkerState) (next : Option NumberedPayload) (left : List (ℕ × List ℕ)) : Type 0 where
+  pub next_is : option_map (λ m. (m.number, m.payload.now)) next
+      ≡ slice_get (own_messages s.workers s.worker s.day) s.done
+  pub left_is : left ≡ drop (s.done + 1) (own_messages s.workers s.worker s.day)
 
 -- what a runner keeps, of a day of fewer than 2^32 messages: its stocks' locate codes, and their machines as far as it
 -- has come

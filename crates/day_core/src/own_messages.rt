@@ -66,17 +66,6 @@ impl<'d, A: Allocator> OwnMessages<'d, A> {
             later: stretches,
         }
     }
-
-    /// Reads bytes of the day a little after the last message that was taken, as [`ListedPayloads::touch`] does.
-    pub(crate) fn touch(&self) -> u64 {
-        self.payloads.touch()
-    }
-
-    /// Reads bytes of the next messages, `count` of them at most and as far as they are in the same stretch, as
-    /// [`ListedPayloads::touch_next`] does.
-    pub(crate) fn touch_next(&self, count: usize) -> u64 {
-        self.payloads.touch_next(count)
-    }
 }
 
 impl<'d, A: Allocator> Iterator for OwnMessages<'d, A> {

@@ -11,9 +11,6 @@ use binaryfile::Day;
 use std::alloc::{AllocError, Allocator};
 use std::thread::Threads;
 
-/// How many workers share a day at least for the messages of each to lie so far apart that it finds them ahead.
-pub const MANY_WORKERS: u32 = 16;
-
 /// Why a day isn't split.
 #[derive(Debug, Clone, Copy, PartialEq, Eq)]
 pub enum SplitFault {

@@ -79,24 +79,6 @@ impl<A: Allocator + Copy> Book<A> {
         self.orders.find(reference)
     }
 
-    /// Reads what stands in the book itself, so that the processor has fetched that memory when a message comes. It
-    /// changes nothing, and what it returns means nothing: it is there to be used, so that the reads aren't left out.
-    pub fn touch(&self) -> u64 {
-        self.orders
-            .touch()
-            .wrapping_add(u64::from(self.count()))
-            .wrapping_add(self.levels.touch())
-    }
-
-    /// Reads the orders and levels that most messages look for first, in the same way.
-    pub fn touch_rows(&self) -> u64 {
-        let top = self.top();
-        self.orders
-            .touch_rows()
-            .wrapping_add(top.bid_shares)
-            .wrapping_add(top.ask_shares)
-    }
-
     /// How many orders live: at most 2^32 - 1.
     pub fn count(&self) -> u32
         ensures { result ≡ maps.len self.now }

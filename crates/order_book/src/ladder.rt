@@ -133,11 +133,6 @@ impl<A: Allocator + Copy> Ladder<A> {
         })
     }
 
-    /// Reads what stands in the value itself. What it returns means nothing.
-    pub fn touch(&self) -> u64 {
-        self.levels.len() as u64
-    }
-
     /// The levels, with the best first.
     pub fn list(&self, alloc: A) -> Result<Vec<Level, A>, AllocError>
         ensures { IfOk result (λ list. list.items ≡ shown self.now.side self.now.levels) }

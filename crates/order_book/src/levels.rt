@@ -70,11 +70,6 @@ impl<A: Allocator + Copy> Levels<A> {
         }
     }
 
-    /// Reads what stands in the value itself. What it returns means nothing.
-    pub fn touch(&self) -> u64 {
-        self.bids.touch().wrapping_add(self.asks.touch())
-    }
-
     /// A side's levels, with the best first.
     pub fn list(&self, alloc: A, side: Side) -> Result<Vec<Level, A>, AllocError>
         ensures { IfOk result (λ list. list.items ≡ shown side (levels_on self.now side)) }

@@ -276,23 +276,6 @@ impl<A: Allocator + Copy> RisingOrders<A> {
         })
     }
 
-    /// Reads what stands in the value itself. What it returns means nothing.
-    pub fn touch(&self) -> u64 {
-        self.rows.len() as u64
-    }
-
-    /// Reads orders near the end of the list that searches look at first. What it returns means nothing.
-    pub fn touch_rows(&self) -> u64 {
-        let len = self.rows.len();
-        let mut sum: u64 = 0;
-        for back in [1, 7, 15] {
-            if let Some(row) = self.rows.get(len.saturating_sub(back)) {
-                sum = sum.wrapping_add(u64::from(row.distance));
-            }
-        }
-        sum
-    }
-
     /// Adds an order that has shares, and returns true; or returns false where its reference isn't above those of all
     /// in the list, or is too far above the first, or where a row can't have its price or its attribution. An error
     /// leaves the orders as they were.

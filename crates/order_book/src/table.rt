@@ -89,16 +89,6 @@ impl<A: Allocator + Copy> OrderTable<A> {
         }
     }
 
-    /// Reads what stands in the value itself. What it returns means nothing.
-    pub fn touch(&self) -> u64 {
-        self.rising.touch()
-    }
-
-    /// Reads orders that came late. What it returns means nothing.
-    pub fn touch_rows(&self) -> u64 {
-        self.rising.touch_rows()
-    }
-
     /// How many orders live.
     pub fn len(&self) -> usize
         ensures { result ≡ maps.len self.now }

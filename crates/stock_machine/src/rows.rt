@@ -67,19 +67,6 @@ impl<A: Allocator + Copy> Rows<A> {
         self.book.order(reference)
     }
 
-    /// Reads what stands in the value itself and messages are likely to need. What it returns means nothing.
-    pub fn touch(&self) -> u64 {
-        self.book
-            .touch()
-            .wrapping_add(u64::from(self.known.is_some()))
-            .wrapping_add(self.spent.touch())
-    }
-
-    /// Reads rows that messages are likely to look for first. What it returns means nothing.
-    pub fn touch_rows(&self) -> u64 {
-        self.book.touch_rows().wrapping_add(self.spent.touch_rows())
-    }
-
     /// Whether an order has had a reference.
     pub fn is_spent(&self, reference: u64) -> bool
         ensures { result ≡ is_spent self.now.world self.now.locate reference }

@@ -126,19 +126,6 @@ impl<A: Allocator + Copy> SpentReferences<A> {
         has_risen(self.first, &self.distances, reference) || self.others.contains(&reference)
     }
 
-    /// Reads what stands in the value itself. What it returns means nothing.
-    pub fn touch(&self) -> u64 {
-        self.distances.len() as u64
-    }
-
-    /// Reads the reference that rose last. What it returns means nothing.
-    pub fn touch_rows(&self) -> u64 {
-        match self.distances.last() {
-            Some(distance) => u64::from(*distance),
-            None => 0,
-        }
-    }
-
     /// Adds a reference. An error leaves the references as they were.
     #[inline(always)]
     pub fn insert(&mut self, reference: u64) -> Result<(), AllocError>

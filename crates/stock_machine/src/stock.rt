@@ -69,18 +69,6 @@ impl<A: Allocator + Copy> Stock<A> {
         self.steps
     }
 
-    /// Reads what stands in the machine itself and messages are likely to need, so that the processor has fetched that
-    /// memory when one comes. It changes nothing, and what it returns means nothing: it is there to be used, so that
-    /// the reads aren't left out.
-    pub fn touch(&self) -> u64 {
-        self.rows.touch().wrapping_add(u64::from(self.steps))
-    }
-
-    /// Reads rows that messages are likely to look for first, in the same way.
-    pub fn touch_rows(&self) -> u64 {
-        self.rows.touch_rows()
-    }
-
     /// The order that lives under a reference.
     pub fn order(&self, reference: u64) -> Option<Order>
         ensures { result ≡ order self.now.world self.now.locate reference }

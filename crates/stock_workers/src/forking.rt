@@ -1,5 +1,5 @@
 //! All turns of all workers of a day, by threads.
-ghost use Rattle.std.specs.Prelude.{◌≡◌, ℕ, All, IfOk};
+ghost use Rattle.std.specs.Prelude.{ℕ, All, IfOk};
 ghost use Rattle.std.specs.Thread.{IsSend, IsSync};
 ghost use denote.Param.Send.{Frees};
 ghost use Rattle.top_cell.specs.Boards.{WriterAt};
@@ -45,10 +45,8 @@ fn finish<R: Threads + Wait + Sync, A: Allocator + Copy, G: Gate>(
 {
     let mut refused = Vec::new(alloc);
     let mut worker = Worker::new(alloc, parts, waiting.worker, waiting.writers)?;
-    let mut wait = 0;
     while let Some(piece) = worker.turn(rt, board, gate)? {
         note_refused(&mut refused, piece)?;
-        wait = worker.look_ahead(board, wait);
     }
     let (stocks, writers) = worker.into_stocks();
     Ok(Finished {

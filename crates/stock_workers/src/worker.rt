@@ -8,7 +8,7 @@ ghost use Rattle.top_cell.specs.Boards.{IsOn};
 ghost use Rattle.stock_workers.specs.Working.{PublishesTurn, ShowsTurn, WritersAt, WritersStand, stands, writer_state};
 
 use crate::gate::Gate;
-use day_core::{MANY_WORKERS, Parts, Piece, Runner, TURNS_AHEAD};
+use day_core::{Parts, Piece, Runner};
 use itch_table::Top;
 use std::alloc::{AllocError, Allocator};
 use std::marker::Model;
@@ -16,9 +16,6 @@ use std::sync::Wait;
 use std::thread::Threads;
 use stock_machine::Stock;
 use top_cell::{Board, TopWriter};
-
-// How many stocks a worker has at least to look ahead. Those of fewer stay in the processor's caches by themselves.
-const MANY_STOCKS: usize = 512;
 
 /// One worker of a day that is split, with the writers of its stocks' cells: whatever it has done is shown there.
 ///
@@ -101,76 +98,6 @@ impl<'p, A: Allocator + Copy> Worker<'p, A> {
         let best = self.runner.stock_at(turned.index).top();
         show(&mut self.writers[turned.index], board, turned.piece, best);
         Ok(Some(turned.piece))
-    }
-}
-
-impl<'p, A: Allocator + Copy> Worker<'p, A> {
-    /// Finds messages that the worker comes to soon and reads what they are likely to need, where `wait` is 0, so that
-    /// the processor fetches the memory of all of them at once: a publish waits for all reads before it, so turns by
-    /// themselves would wait for the memory of one message after another. First the machines are read, then the cells,
-    /// and then the rows of the next turns, where the machines that the call before has read lead, each in a loop of
-    /// its own, so short that the processor is in all of its rounds at once. A worker of few stocks does without these;
-    /// where many workers share the day, it finds its messages ahead all the same, as one of many stocks does.
-    /// Nothing that is seen of the worker changes. It returns what `wait` is after the next turn; the number depends on
-    /// what was read, so that the reads aren't left out.
-    pub(crate) fn look_ahead(&mut self, board: &Board<A>, wait: usize) -> usize
-        requires { All (IsOn board.now) self.old.places }
-        ensures { self.new ≡ self.old }
-    {
-        if wait > 0 {
-            return wait - 1;
-        }
-        if self.runner.stock_count() < MANY_STOCKS {
-            return self.find_ahead();
-        }
-        self.runner.look_ahead();
-        let machines = self.runner.touch_ahead();
-        let cells = self.touch_cells(board);
-        let rows = self.runner.touch_rows_ahead();
-        let messages = self.touch_messages();
-        let sum = machines.wrapping_add(cells).wrapping_add(rows);
-        if sum.wrapping_add(messages) == u64::MAX {
-            0
-        } else {
-            TURNS_AHEAD - 1
-        }
-    }
-
-    // The same for a worker of few stocks, whose machines, cells and rows mostly stay in the processor's caches: only its
-    // messages are found ahead, where many workers share the day.
-    fn find_ahead(&mut self) -> usize
-        ensures { self.new ≡ self.old }
-    {
-        if self.runner.workers() < MANY_WORKERS {
-            return TURNS_AHEAD - 1;
-        }
-        self.runner.look_ahead();
-        if self.touch_messages() == u64::MAX {
-            0
-        } else {
-            TURNS_AHEAD - 1
-        }
-    }
-
-    // Reads the day's bytes of the messages to be found next, where many workers share the day.
-    fn touch_messages(&self) -> u64 {
-        if self.runner.workers() < MANY_WORKERS {
-            return 0;
-        }
-        self.runner.touch_messages_ahead()
-    }
-
-    // Reads the cells of the messages whose machines are read.
-    fn touch_cells(&self, board: &Board<A>) -> u64
-        requires { All (IsOn board.now) self.now.places }
-    {
-        let mut sum: u64 = 0;
-        for index in TURNS_AHEAD..2 * TURNS_AHEAD {
-            if let Some(stock) = self.runner.stock_ahead(index) {
-                sum = sum.wrapping_add(self.writers[stock].touch(board));
-            }
-        }
-        sum
     }
 }
 

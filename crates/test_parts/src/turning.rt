@@ -1,5 +1,5 @@
 //! Turns of workers, one by one and all of a day.
-use crate::days::{add_entry, day_of, parts_of, two_stocks};
+use crate::days::{parts_of, two_stocks};
 use crate::showing::{Shown, bid, shown_by, stock_with};
 use day_core::{Piece, ReplayedDay, Runner, Turned, Turns, replay_parts};
 use itch_table::{Fault, Outcome, Top};
@@ -241,60 +241,6 @@ fn try_turn<R: Threads + Sync>(
     let parts = parts_of(rt, heap, &day, 1)?;
     let mut runner = Runner::new(heap, &parts, 0)?;
     turn_under(heap, &mut runner, earlier, *wanted, refusal)
-}
-
-// The worker of the two stocks looks ahead before its turns and after some of them. Where it has found messages, it
-// says of which stocks they are.
-#[test]
-fn messages_that_were_found_ahead_take_their_turns(rt: HostRuntime) -> Result<(), Fail> {
-    let day = two_stocks(rt.alloc())?;
-    let parts = parts_of(&rt, rt.alloc(), &day, 1)?;
-    let mut runner = Runner::new(rt.alloc(), &parts, 0)?;
-    same("nothing ahead", &runner.stock_ahead(0), &None)?;
-    runner.look_ahead();
-    for (index, stock) in [1, 0, 1, 0, 2, 0].into_iter().enumerate() {
-        same("a stock ahead", &runner.stock_ahead(index), &Some(stock))?;
-    }
-    same("the end", &runner.stock_ahead(6), &None)?;
-    for (index, (wanted, _, _)) in turns_of_two_stocks().into_iter().enumerate() {
-        take("a turn", &mut runner, wanted)?;
-        if index % 3 == 1 {
-            runner.look_ahead();
-        }
-    }
-    Ok(())
-}
-
-// A worker of 40 messages of a stock that has no directory message finds 32 after its first one ahead, and when it has
-// done 17 of them the last ones.
-#[test]
-fn messages_ahead_are_32(rt: HostRuntime) -> Result<(), Fail> {
-    let mut file = Vec::new(rt.alloc());
-    for reference in 0..40 {
-        add_entry(rt.alloc(), &mut file, &AAPL.delete(reference))?;
-    }
-    let day = day_of(rt.alloc(), file)?;
-    let parts = parts_of(&rt, rt.alloc(), &day, 1)?;
-    let mut runner = Runner::new(rt.alloc(), &parts, 0)?;
-    for message in 1..41 {
-        let found = match message {
-            1 => Some(32),
-            18 => Some(22),
-            _ => None,
-        };
-        if let Some(found) = found {
-            runner.look_ahead();
-            let last = (runner.stock_ahead(found - 1), runner.stock_ahead(found));
-            same(
-                "messages ahead",
-                &(message, last),
-                &(message, (Some(0), None)),
-            )?;
-        }
-        let refused = turned(message, Outcome::Refused(Fault::NoDirectory), 0);
-        take("a turn", &mut runner, refused)?;
-    }
-    take("the end", &mut runner, None)
 }
 
 // Only the two orders need memory.

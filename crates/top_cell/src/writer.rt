@@ -69,14 +69,6 @@ impl TopWriter {
         self.message = message;
     }
 
-    /// Reads the cell's count, so that the processor fetches the cell's memory before it is published to. It changes
-    /// nothing, and what it returns means nothing. The caller passes the writer's own board.
-    pub fn touch<A: Allocator>(&self, board: &Board<A>) -> u64
-        requires { IsOn board.now self.now.place }
-    {
-        self.seat.peek(board.cells(), 0)
-    }
-
     /// A screen of the writer's stock, which stands where the writer stands: it never shows an earlier message. The
     /// caller passes the writer's own board.
     pub fn screen<A: Allocator>(&mut self, board: &Board<A>) -> Screen

@@ -1,23 +1,14 @@
-use Rattle.std.proofs.Common.{subst, sym, ◌∙◌}
-use Rattle.stock_workers.specs.Working.{Working}
-use Rattle.stock_workers.proofs.Finishing.{IsUnderWay, finished, on_board, under_way_more, waiting}
+use Rattle.stock_workers.proofs.Finishing.{finished, on_board, under_way_more, waiting}
 use Rattle.stock_workers.proofs.forking.finish.Goals as goal
 
 pub turn-requires-after_bounds : goal.turn-requires-after_bounds
 turn-requires-after_bounds g c κs within =
     on_board c.args.board.now c.args.waiting.writers.items c.loop-worker.worker c.requires.on_board c.loop-worker.invariant.same_places
 
-pub look_ahead-wait-requires : goal.look_ahead-wait-requires
-look_ahead-wait-requires g c =
-    let turned = rw c.in-Some.is at c.in_ok-piece.ensures.turned in
-    on_board c.args.board.now c.args.waiting.writers.items c.turn.new.self c.requires.on_board (turned.2 ∙ c.loop-worker.invariant.same_places)
-
 pub loop-worker-preserved : goal.loop-worker-preserved
 loop-worker-preserved g c =
-    let first = waiting c.args.parts.now c.args.waiting.worker c.args.waiting.writers.items in
-    subst (λ (w : Working). IsUnderWay first w c.note_refused.new.refused.items) (sym c.look_ahead-wait.ensures)
-    (under_way_more first c.loop-worker.worker c.turn.new.self c.in-Some.piece c.loop-worker.refused.items c.note_refused.new.refused.items c.loop-worker.invariant
-    (rw c.in-Some.is at c.in_ok-piece.ensures.turned) (c.in_ok-note_refused.ensures {u = tt}).ok)
+    under_way_more (waiting c.args.parts.now c.args.waiting.worker c.args.waiting.writers.items) c.loop-worker.worker c.turn.new.self c.in-Some.piece c.loop-worker.refused.items c.note_refused.new.refused.items c.loop-worker.invariant
+    (rw c.in-Some.is at c.in_ok-piece.ensures.turned) (c.in_ok-note_refused.ensures {u = tt}).ok
 
 pub returns : goal.returns
 returns g c =

@@ -7,5 +7,5 @@ use Rattle.day_core.proofs.runner.Runner.next_message.Goals as goal
 
 pub returns : goal.returns
 returns g c =
-    ap (option_map (λ f. f.number)) (sym (c.in_ok-found.was {u = tt})) ∙ next_is _ _ _ _ _ _ c.self.invariant.1 c.self.invariant.0.within
+    ap (option_map (λ m. m.number)) (sym (c.in_ok-next.was {u = tt})) ∙ next_is _ _ _ c.self.invariant.1
     ∙ ap (λ (s : WorkerState). slice_get (worker_messages s) s.done) c.self.view_is
