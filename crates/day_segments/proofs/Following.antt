@@ -11,8 +11,9 @@ use Rattle.std.specs.List.{All, flat_map}
 use Rattle.binaryfile.specs.Devices.{GaveAll, GaveMore, GaveUpTo}
 use Rattle.byte_strings.specs.Bytes.{AreBytes, IsByte}
 use Rattle.binaryfile.specs.Entries.{Contents, IsPayload, Splits, entry, marker}
-use Rattle.binaryfile.proofs.Splitting.{splits_contents}
-use Rattle.day_segments.proofs.Carried.{entries_long}
+use Rattle.binaryfile.specs.Scanned.{contents_of}
+use Rattle.binaryfile.proofs.Splitting.{contents_splits, splits_contents}
+use Rattle.day_segments.proofs.Carried.{after, entries_long}
 use Rattle.day_segments.specs.Segments.{IsSegment, carry_after, carry_by}
 use Rattle.day_segments.specs.Reading.{IsReadTo, followed_by, nothing_read}
 
@@ -43,7 +44,7 @@ goes_on bytes given tail payloads next before after =
     }
 
 -- after an end marker there are no entries
-after_marker : (given : List ℕ) (next : Contents) → Splits (0 ∷ 0 ∷ given) next → next ≡ contents [] true given
+pub after_marker : (given : List ℕ) (next : Contents) → Splits (0 ∷ 0 ∷ given) next → next ≡ contents [] true given
 after_marker given next split = splits_contents (0 ∷ 0 ∷ given) next split
 
 -- a file that has come to a marker stays as it is, but for its tail
@@ -63,6 +64,37 @@ carry_stays : (given tail : List ℕ) (payloads : List (List ℕ)) (next : Conte
     → carry_after next ≡ carry_after (followed_by (contents payloads true tail) next)
 carry_stays given tail payloads next is =
     subst (λ (next : Contents). carry_after next ≡ carry_after (followed_by (contents payloads true tail) next)) (sym is) refl
+
+-- every file that begins with these bytes has their contents, followed by those of what is carried over and of the rest
+pub record GoesOn (rest : List ℕ) (before whole : Contents) : Type 0 where
+  pub next : Contents
+  pub split : Splits (carry_after before ++ rest) next
+  pub is : whole ≡ followed_by before next
+
+goes_on_by : (bytes rest tail : List ℕ) (payloads : List (List ℕ)) (marked : Bool) (whole : Contents) → AreBytes (bytes ++ rest) → Splits bytes (contents payloads marked tail) → Splits (bytes ++ rest) whole
+    → GoesOn rest (contents payloads marked tail) whole
+goes_on_by bytes rest tail payloads true whole are before split =
+    let next = contents [] true rest in
+    let all = stays bytes rest tail payloads next before refl in
+    record {
+      next = next;
+      split = record { whole = refl; each = All-nil IsPayload; partial = λ unmarked. absurd (true≢false unmarked) };
+      is = splits_contents (bytes ++ rest) whole split ∙ sym (splits_contents (bytes ++ rest) (followed_by (contents payloads true tail) next) all);
+    }
+goes_on_by bytes rest tail payloads false whole are before split =
+    let front : List ℕ = flat_map entry payloads in
+    let joined = ap (λ (all : List ℕ). all ++ rest) before.whole ∙ append_assoc front tail rest in
+    let next = contents_of (tail ++ rest) in
+    let here = contents_splits (tail ++ rest) (after front (tail ++ rest) (subst AreBytes joined are)) in
+    let all = goes_on bytes rest tail payloads next before here in
+    record {
+      next = next;
+      split = here;
+      is = splits_contents (bytes ++ rest) whole split ∙ sym (splits_contents (bytes ++ rest) (followed_by (contents payloads false tail) next) all);
+    }
+
+pub every_file_goes_on : (bytes rest : List ℕ) (before whole : Contents) → AreBytes (bytes ++ rest) → Splits bytes before → Splits (bytes ++ rest) whole → GoesOn rest before whole
+every_file_goes_on bytes rest before whole = goes_on_by bytes rest before.tail before.payloads before.marked whole
 
 module _ (start now next : Option (List ℕ)) (carried : List ℕ) (size most : ℕ) (c : Contents) (segment : IsSegment now next carried size most c) where
   follows : (payloads : List (List ℕ)) (given : ℕ) (bytes tail : List ℕ) (marked : Bool) → Consumes start now bytes → AreBytes bytes → Splits bytes (contents payloads marked tail) → carried ≡ carry_by marked tail → given ≡ length bytes

@@ -1,5 +1,5 @@
 mod Filled
 mod Carried
-mod Following
+pub mod Following
 mod FurtherReading
 pub mod SegmentCases

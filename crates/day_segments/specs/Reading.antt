@@ -56,6 +56,12 @@ pub record HasRead (start now : Option (List ℕ)) (contents : Contents) (readin
   pub messages_are : reading.messages ≡ length contents.payloads
   pub within : reading.given ≤ reading.most
 
+-- what was carried over and the bytes that the reader gave next are split into this segment
+pub record Continues (old new : Option (List ℕ)) (carried : List ℕ) (segment : Contents) : Type 0 where
+  pub bytes : List ℕ
+  pub gave : Consumes old new bytes
+  pub split : Splits (carried ++ bytes) segment
+
 -- the reader gave a whole file of no more than so many bytes, with these contents
 pub record IsWholeFile (start now : Option (List ℕ)) (most : ℕ) (contents : Contents) : Type 0 where
   pub input : List ℕ

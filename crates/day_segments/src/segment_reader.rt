@@ -1,8 +1,8 @@
 //! A file that is read segment by segment, from its first byte on.
-ghost use Rattle.std.specs.Prelude.{◌≡◌, ◌≢◌, ◌≤◌, ◌<◌, ◌+◌, ◌^◌, ◌↔◌, Err, IfOk, IsErrOf, List, MatchOption, Option, ℕ, length};
+ghost use Rattle.std.specs.Prelude.{◌≡◌, ◌≢◌, ◌≤◌, ◌<◌, ◌+◌, ◌-◌, ◌^◌, ◌↔◌, Err, IfOk, IfSome, IsErrOf, List, MatchOption, Option, ℕ, length};
 ghost use Rattle.binaryfile.specs.Devices.{GaveMore, GaveUpTo, HasFailed};
 ghost use Rattle.binaryfile.specs.Entries.{Contents};
-ghost use Rattle.day_segments.specs.Reading.{HasRead, IsWholeFile, followed_by, nothing_read};
+ghost use Rattle.day_segments.specs.Reading.{Continues, HasRead, IsWholeFile, followed_by, nothing_read};
 
 use crate::reading::{carry_after, read_segment};
 use binaryfile::{Day, Feed, LoadFault};
@@ -91,6 +91,14 @@ impl<A: Allocator + Copy> SegmentReader<A> {
         ensures taken { (start : Option (List ℕ)) (before : Contents)
             → HasRead start (R.remaining feed.old.device) before self.old
             → GaveUpTo start (R.remaining feed.new.device) (self.old.most + 1) }
+        // What this call alone takes: a segment is split from what was carried over and from it.
+        ensures continues { IfOk result (λ found. IfSome found (
+            Continues (R.remaining feed.old.device) (R.remaining feed.new.device) self.old.carried)) }
+        ensures took { GaveUpTo (R.remaining feed.old.device) (R.remaining feed.new.device)
+            (self.old.most - self.old.given + 1) }
+        ensures took_more { IsErrOf result LoadFault.TooManyBytes
+            → GaveMore (R.remaining feed.old.device) (R.remaining feed.new.device)
+            (self.old.most - self.old.given) }
     {
         let left = self.most - self.given;
         let Some(segment) = read_segment(alloc, feed, &self.carried, self.size, left)? else {
@@ -110,6 +118,14 @@ impl<A: Allocator> SegmentReader<A> {
         ensures { result ≡ self.now.messages }
     {
         self.messages
+    }
+
+    /// What is carried over to the next segment: the bytes of an entry that the last segment has only in part, which are
+    /// the tail of the file where it ends there, or an end marker.
+    pub fn carried(&self) -> &[u8]
+        ensures { result.now ≡ self.now.carried }
+    {
+        &self.carried
     }
 
     /// How many bytes the feed has given so far.

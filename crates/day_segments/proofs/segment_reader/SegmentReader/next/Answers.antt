@@ -1,12 +1,9 @@
-use Rattle.std.proofs.Common.{◌≡◌, ◌∙◌, ◌+◌, ◌-◌, ◌^◌, ◌≤◌, ◌++◌, Err, List, ℕ, length, sym, subst, ap, refl, arith}
-use Rattle.std.proofs.lemmas.List.{length-append}
+use Rattle.std.proofs.Common.{◌≡◌, ◌∙◌, ◌+◌, ◌-◌, ◌++◌, Err, List, ℕ, length, sym, subst, ap, arith}
 use Rattle.std.proofs.lemmas.Result.{err_from_is_err_and}
-use Rattle.std.specs.Prelude.{MatchOption, Option, []}
-use Rattle.binaryfile.specs.Devices.{GaveAll}
-use Rattle.binaryfile.specs.Entries.{Contents}
+use Rattle.binaryfile.specs.Devices.{GaveMore, GaveUpTo}
+use Rattle.binaryfile.specs.Entries.{Contents, Splits}
 use Rattle.binaryfile.specs.declared.load.LoadFault.TheVariants.{TooManyBytes}
 use Rattle.day_segments.specs.Reading.{Reading}
-use Rattle.day_segments.specs.Segments.{IsSegment}
 use Rattle.day_segments.proofs.FurtherReading.{counted_on, found, has_read_on, segment_long, took_more, took_up_to}
 use Rattle.day_segments.proofs.segment_reader.SegmentReader.next.Goals as goal
 
@@ -66,3 +63,38 @@ returns-clause-further g c =
     let long = segment_long c.deref.result.now is.bytes c.bytes.result.now segment c.bytes.ensures.split is.split in
     let given = ap (λ (r : Reading). r.given) (sym c.self.view_is) in
     (omega (arith, long, is.some, given, c.len.ensures, ap length c.deref.ensures.value), omega (arith, long, is.within, c.self.invariant.within, c.len.ensures, ap length c.deref.ensures.value))
+
+pub returns-in_err-segment-clause-took : goal.returns-in_err-segment-clause-took
+returns-in_err-segment-clause-took g c =
+    let left = g.R.Read.remaining in
+    subst (λ (n : ℕ). GaveUpTo (left c.args.feed.now.device) (left c.read_segment.new.feed.device) (n + 1)) (ap (λ (r : Reading). r.most - r.given) c.self.view_is) c.read_segment.ensures.taken
+
+pub returns-in_err-segment-clause-took_more : goal.returns-in_err-segment-clause-took_more
+returns-in_err-segment-clause-took_more g c = λ too_many.
+    let left = g.R.Read.remaining in
+    let same = err_from_is_err_and c.from_residual.result c.from_residual.ensures.1 in
+    let told = rw same.1 at too_many in
+    let is : same.0 ≡ TooManyBytes = cc in
+    subst (GaveMore (left c.args.feed.now.device) (left c.read_segment.new.feed.device)) (ap (λ (r : Reading). r.most - r.given) c.self.view_is)
+    ((c.in_err-segment.ensures {u = tt}).too_many_bytes (ap Err (sym same.2 ∙ is)))
+
+pub returns-in_err-carried-clause-took : goal.returns-in_err-carried-clause-took
+returns-in_err-carried-clause-took g c =
+    let left = g.R.Read.remaining in
+    subst (λ (n : ℕ). GaveUpTo (left c.args.feed.now.device) (left c.read_segment.new.feed.device) (n + 1)) (ap (λ (r : Reading). r.most - r.given) c.self.view_is) c.read_segment.ensures.taken
+
+pub returns-clause-took : goal.returns-clause-took
+returns-clause-took g c =
+    let left = g.R.Read.remaining in
+    subst (λ (n : ℕ). GaveUpTo (left c.args.feed.now.device) (left c.read_segment.new.feed.device) (n + 1)) (ap (λ (r : Reading). r.most - r.given) c.self.view_is) c.read_segment.ensures.taken
+
+pub returns-clause-continues : goal.returns-clause-continues
+returns-clause-continues g c =
+    let segment : Contents = c.in-Some.segment in
+    let is = found (g.R.Read.remaining c.args.feed.now.device) (g.R.Read.remaining c.read_segment.new.feed.device) c.deref.result.now c.self.inside.size (c.self.inside.most - c.self.inside.given)
+    _ segment c.in-Some.is (c.in_ok-segment.ensures {u = tt}).segment in
+    record {
+      bytes = is.bytes;
+      gave = is.gave;
+      split = subst (λ (carried : List ℕ). Splits (carried ++ is.bytes) segment) (c.deref.ensures.value ∙ ap (λ (r : Reading). r.carried) c.self.view_is) is.split;
+    }
