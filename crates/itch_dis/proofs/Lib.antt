@@ -1,0 +1,6 @@
+mod TextParts
+mod SoFar
+mod Printed
+mod Extended
+mod Steps
+mod Results

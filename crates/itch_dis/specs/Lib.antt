@@ -1,0 +1,3 @@
+pub mod TextEnds
+pub mod Printers
+pub mod Extents
