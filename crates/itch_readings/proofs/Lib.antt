@@ -1,6 +1,13 @@
 mod GoesOn
 mod NextMoment
 mod Listing
-mod Named
 mod Segmented
 mod WordNames
+mod DirectoryRows
+mod LongerDays
+mod Searched
+mod LinesSoFar
+mod TopsRead
+mod Found
+mod TopsAlong
+mod TopsNext

@@ -1,5 +1,5 @@
 -- The stocks of a file that is read segment by segment.
-use Rattle.std.proofs.Common.{◌≡◌, ◌≢◌, ℕ, ◌+◌, ◌-◌, ◌^◌, ◌<◌, ◌≤◌, List, [], ◌++◌, length, refl, sym, subst, arith}
+use Rattle.std.proofs.Common.{◌≡◌, ◌≢◌, ℕ, ◌+◌, ◌-◌, ◌^◌, ◌<◌, ◌≤◌, List, [], ◌++◌, length, refl, arith}
 use Rattle.std.proofs.lemmas.List.{length-append}
 use Rattle.std.specs.Prelude.{Option}
 use Rattle.binaryfile.specs.Devices.{GaveMore}
@@ -9,7 +9,7 @@ use Rattle.binaryfile.specs.declared.load.LoadFault.{LoadFault}
 use Rattle.binaryfile.specs.declared.load.LoadFault.TheVariants.{Memory, Read, TooManyBytes, TooManyMessages as LoadedTooMany}
 use Rattle.itch_engine.specs.FaultOrigins.{fault_of_load}
 use Rattle.itch_engine.specs.declared.fault.ProgFault.TheVariants.{TooManyMessages}
-use Rattle.itch_engine.specs.Runs.{StopsReading}
+use Rattle.itch_engine.specs.Runs.{Engine, StopsReading}
 use Rattle.itch_readings.specs.Engines.{GaveStocks, stock_lister}
 use Rattle.itch_readings.specs.Naming.{AreListed}
 use Rattle.itch_readings.specs.declared.naming.Listed.{Listed}
@@ -74,8 +74,8 @@ module _ (start now : Option (List ℕ)) (reading : Reading) (listed : List List
 
 -- ---- a fault
 
-pub halts : (start next : Option (List ℕ)) (fault : LoadFault) → (fault ≡ TooManyBytes → GaveMore start next (2 ^ 40)) → fault ≢ LoadedTooMany → StopsReading stock_lister start next (fault_of_load fault)
-halts start next Memory more few = tt
-halts start next Read more few = tt
-halts start next TooManyBytes more few = more refl
-halts start next LoadedTooMany more few = absurd (few refl)
+pub halts : {A : Type 0} (engine : Engine A) (start next : Option (List ℕ)) (fault : LoadFault) → (fault ≡ TooManyBytes → GaveMore start next engine.most) → fault ≢ LoadedTooMany → StopsReading engine start next (fault_of_load fault)
+halts engine start next Memory more few = tt
+halts engine start next Read more few = tt
+halts engine start next TooManyBytes more few = more refl
+halts engine start next LoadedTooMany more few = absurd (few refl)

@@ -1,14 +1,13 @@
 -- What the engines of readings make of an input, and the faults that they find in one.
-use Rattle.std.specs.Prelude.{◌≡◌, ◌^◌, ◌-◌, ◌≤◌, ℕ, List, Option, Some, None, Result, Ok, Err, length}
+use Rattle.std.specs.Prelude.{◌≡◌, ◌^◌, ◌-◌, ◌≤◌, ℕ, List, Option, Result, Ok, Err, length}
 use Rattle.binaryfile.specs.Devices.{Device, GaveAll, HasFailed}
 use Rattle.binaryfile.specs.Entries.{Contents, Splits}
 use Rattle.itch_engine.specs.ReplayEngines.{HasTooManyMessages}
 use Rattle.itch_engine.specs.Runs.{Engine, Runs}
-use Rattle.itch_engine.specs.declared.fault.ProgFault.{ProgFault}
-use Rattle.itch_readings.specs.Naming.{AreListed, locate_of}
+use Rattle.itch_readings.specs.Naming.{AreListed, NamesNone, NamesStock}
 use Rattle.itch_readings.specs.StockLines.{listed_lines}
 use Rattle.itch_readings.specs.TopLines.{tops_text}
-use Rattle.itch_readings.specs.Tops.{tops_of}
+use Rattle.itch_readings.specs.Tops.{tops_from}
 use Rattle.itch_readings.specs.declared.fault.StockFault.{StockFault}
 use Rattle.itch_readings.specs.declared.fault.StockFault.TheVariants.{NoStock, Engine as OfEngine}
 use Rattle.itch_readings.specs.declared.naming.Listed.{Listed}
@@ -36,21 +35,30 @@ pub record ListsStocks (input text : List ℕ) : Type 0 where
   pub stocks : HasStocks input contents listed
   pub printed : text ≡ listed_lines 0 listed
 
--- The file has the stock that is named, and the text is that of the stock's moments.
+-- The file has the stock that is named, and the text is that of the stock's moments from the message on with which it
+-- begins.
 pub record PrintsTops (name : StockName) (selection : Selection) (input text : List ℕ) : Type 0 where
   pub contents : Contents
-  pub listed : List Listed
-  pub stocks : HasStocks input contents listed
+  pub split : Splits input contents
+  pub few : length contents.payloads ≤ 2 ^ 32 - 1
+  pub message : ℕ
   pub locate : ℕ
-  pub named : locate_of listed name ≡ Some locate
-  pub printed : text ≡ tops_text selection (tops_of contents.payloads locate)
+  pub named : NamesStock contents.payloads name message locate
+  pub printed : text ≡ tops_text selection (tops_from contents.payloads locate message)
 
--- The file has no message of the stock that is named.
+-- The file hasn't the stock that is named.
 pub record LacksStock (name : StockName) (input : List ℕ) : Type 0 where
   pub contents : Contents
-  pub listed : List Listed
-  pub stocks : HasStocks input contents listed
-  pub none : locate_of listed name ≡ None
+  pub split : Splits input contents
+  pub few : length contents.payloads ≤ 2 ^ 32 - 1
+  pub none : NamesNone contents.payloads name
+
+-- The reader gave a whole input of no more than 2^40 bytes, which lacks the stock.
+pub record GaveNoStock (old new : Option (List ℕ)) (name : StockName) : Type 0 where
+  pub input : List ℕ
+  pub gave : GaveAll old new input
+  pub within : length input ≤ 2 ^ 40
+  pub lacks : LacksStock name input
 
 -- The reader, which hadn't failed before, gave a whole input of no more bytes than the engine takes, which lacks the
 -- stock, and nothing was sent.

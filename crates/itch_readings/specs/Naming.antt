@@ -1,17 +1,20 @@
 -- The stocks of a day, and how they are named. The directory message is Nasdaq TotalView-ITCH 5.0's "Stock Directory";
 -- the rest is of this project.
-use Rattle.std.specs.Prelude.{◌≡◌, ◌+◌, ◌<◌, ◌&&◌, ℕ, zero, suc, Bool, false, nat_lt, nat_le, if◌then◌else◌, List, [], ◌∷◌, length, Option, Some, None, option_map, slice_get, slice_index_or, unwrap_or}
+use Rattle.std.specs.Prelude.{◌≡◌, ◌<◌, ◌≤◌, ◌&&◌, ℕ, zero, suc, nat_lt, nat_le, if◌then◌else◌, List, [], length, Option, Some, None, option_map, slice_index_or, unwrap_or}
 use Rattle.std.specs.Char.{is_ascii_digit}
 use Rattle.std.specs.List.{list_all}
 use Rattle.std.specs.Option.{option_or}
-use Rattle.std.specs.Str.{bytes_eq}
 use Rattle.std.specs.Str.Parse.{digits_value}
 use Rattle.itch_layouts.specs.Shapes.{shape_of}
 use Rattle.itch_layouts.specs.declared.message.Msg.TheVariants.{Directory}
 use Rattle.itch_layouts.specs.declared.shape.Shape.{Shape}
 use Rattle.itch_layouts.specs.declared.shape.Shape.TheVariants.{Known}
-use Rattle.itch_table.specs.Projection.{is_of_stock, steps_of}
-use Rattle.itch_table.specs.Shows.{HasMessage}
+use Rattle.itch_table.specs.declared.outcome.Outcome.{Outcome}
+use Rattle.itch_table.specs.declared.outcome.Outcome.TheVariants.{Applied}
+use Rattle.itch_table.specs.declared.outcome.Part.TheVariants.{Locate as OfStock}
+use Rattle.itch_table.specs.After.{outcome}
+use Rattle.itch_table.specs.Parts.{part}
+use Rattle.itch_table.specs.Projection.{is_of_stock, payload_at, steps_of}
 use Rattle.itch_text.specs.Parsing.{between_quotes}
 use Rattle.itch_text.specs.Values.{padded}
 use Rattle.itch_readings.specs.declared.naming.Listed.{Listed}
@@ -74,33 +77,24 @@ named_by word =
 
 -- ---- the stock that is named
 
--- whether a stock has this symbol
-abbrev pub is_symbol : List ℕ → Option (List ℕ) → Bool
-is_symbol symbol None = false
-is_symbol symbol (Some own) = bytes_eq own symbol
+-- a message, which has this outcome, is one with which a stock of that name begins: by a locate code any message of that
+-- code, and by a symbol a directory message that gives it and is applied
+abbrev pub BeginsBy : StockName → List ℕ → Outcome → Type 0
+BeginsBy (Locate locate) payload found = part payload ≡ OfStock locate
+BeginsBy (Symbol symbol) payload found = (symbol_by payload ≡ Some symbol) × (found ≡ Applied)
 
-abbrev pub has_symbol : List ℕ → Listed → Bool
-has_symbol symbol known = is_symbol symbol known.symbol
+-- message n of a day is such a one
+abbrev pub Begins : List (List ℕ) → StockName → ℕ → Type 0
+Begins day name n = BeginsBy name (payload_at day n) (outcome day n)
 
--- whether a stock has a message
-abbrev pub has_messages : Option Listed → Bool
-has_messages None = false
-has_messages (Some known) = nat_lt 0 known.messages
+-- the name is that of the stock with this locate code, which begins with message n of the day: the first such one
+pub record NamesStock (day : List (List ℕ)) (name : StockName) (n locate : ℕ) : Type 0 where
+  pub some : 0 < n
+  pub within : n ≤ length day
+  pub begins : Begins day name n
+  pub own : part (payload_at day n) ≡ OfStock locate
+  pub first : (m : ℕ) → 0 < m → m < n → ¬ Begins day name m
 
--- the first locate code, from this one on, whose stock has a symbol
-abbrev pub first_with : List ℕ → ℕ → List Listed → Option ℕ
-first_with symbol locate [] = None
-first_with symbol locate (known ∷ rest) =
-    if has_symbol symbol known then Some locate else first_with symbol (locate + 1) rest
-
--- the locate code of a stock that is named, by what a day says of each stock: where it has a message, or else by its
--- symbol, which is that of the first such stock
-abbrev pub locate_of : List Listed → StockName → Option ℕ
-locate_of listed (Locate code) = if has_messages (slice_get listed code) then Some code else None
-locate_of listed (Symbol symbol) = first_with symbol 0 listed
-
--- a stock that is named has a message in the day
-abbrev pub NamedHaveMessages : Type 0
-NamedHaveMessages =
-    (day : List (List ℕ)) (listed : List Listed) (name : StockName) (locate : ℕ)
-    → AreListed day (length day) listed → locate_of listed name ≡ Some locate → HasMessage day locate
+-- the name is that of no stock of the day
+abbrev pub NamesNone : List (List ℕ) → StockName → Type 0
+NamesNone day name = (n : ℕ) → 0 < n → n ≤ length day → ¬ Begins day name n

@@ -29,13 +29,24 @@ moment_line at =
     decimal at.message ++ codes "," ++ decimal at.time ++ side_fields at.top.bid_price at.top.bid_shares
     ++ side_fields at.top.ask_price at.top.ask_shares ++ codes "\n"
 
+-- the line of a moment, if it has one, by the top before it
+abbrev pub shown_line : Selection → Top → Moment → List ℕ
+shown_line selection before at = if is_shown selection before at.top then moment_line at else []
+
 -- the lines of a stock's moments, whose top was this one before them
 abbrev pub moment_lines : Selection → Top → List Moment → List ℕ
 moment_lines selection before [] = []
-moment_lines selection before (at ∷ rest) =
-    (if is_shown selection before at.top then moment_line at else []) ++ moment_lines selection at.top rest
+moment_lines selection before (at ∷ rest) = shown_line selection before at ++ moment_lines selection at.top rest
+
+-- the names of the fields
+abbrev pub field_names : List ℕ
+field_names = codes "message,time,bid_price,bid_shares,ask_price,ask_shares\n"
 
 -- the names of the fields, and the lines of all moments of a stock
 abbrev pub tops_text : Selection → List Moment → List ℕ
-tops_text selection moments =
-    codes "message,time,bid_price,bid_shares,ask_price,ask_shares\n" ++ moment_lines selection no_top moments
+tops_text selection moments = field_names ++ moment_lines selection no_top moments
+
+-- the top after some moments of a stock, whose top was this one before them
+abbrev pub last_top : Top → List Moment → Top
+last_top before [] = before
+last_top before (at ∷ rest) = last_top at.top rest

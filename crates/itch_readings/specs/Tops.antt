@@ -1,5 +1,5 @@
 -- The top of one stock after each of its messages.
-use Rattle.std.specs.Prelude.{ℕ, Bool, List, length, map, filter}
+use Rattle.std.specs.Prelude.{ℕ, ◌+◌, ◌-◌, Bool, List, length, map, filter}
 use Rattle.std.specs.List.{range_with_len}
 use Rattle.itch_layouts.specs.Means.{fields_of}
 use Rattle.itch_layouts.specs.Shapes.{shape_of}
@@ -25,10 +25,18 @@ moment day locate n = record { message = n; time = time_of (payload_at day n); t
 abbrev pub is_own : List (List ℕ) → ℕ → Moment → Bool
 is_own day locate at = is_of_stock locate (payload_at day at.message)
 
--- the moments of the stock among the first n messages
-abbrev pub tops_until : List (List ℕ) → ℕ → ℕ → List Moment
-tops_until day locate n = filter (is_own day locate) (map (moment day locate) (range_with_len 1 n))
+-- the moments of the stock among so many messages from message n on
+abbrev pub tops_among : List (List ℕ) → ℕ → ℕ → ℕ → List Moment
+tops_among day locate n count = filter (is_own day locate) (map (moment day locate) (range_with_len n count))
 
--- the moments of the stock in the whole day
+-- among the first n messages
+abbrev pub tops_until : List (List ℕ) → ℕ → ℕ → List Moment
+tops_until day locate n = tops_among day locate 1 n
+
+-- in the whole day
 abbrev pub tops_of : List (List ℕ) → ℕ → List Moment
 tops_of day locate = tops_until day locate (length day)
+
+-- from message n on
+abbrev pub tops_from : List (List ℕ) → ℕ → ℕ → List Moment
+tops_from day locate n = tops_among day locate n (length day + 1 - n)

@@ -1,24 +1,21 @@
-//! The engines that read a day file and write of its stocks.
-ghost use Rattle.std.specs.Prelude.{◌≡◌, ◌+◌, ◌↔◌, IfOk, IfErr, IsErrOf, MatchOption};
+//! The engine that lists the stocks of a day file.
+ghost use Rattle.std.specs.Prelude.{◌≡◌, ◌+◌, ◌↔◌, IfOk, IfErr, IsErrOf};
 ghost use Rattle.binaryfile.specs.Devices.{GaveUpTo, HasFailed};
 ghost use Rattle.itch_engine.specs.declared.limits.TheConstants.{MOST_FILE_BYTES};
-ghost use Rattle.itch_engine.specs.Runs.{Fails, Runs, StopsReading};
-ghost use Rattle.itch_readings.specs.Engines.{GaveStocks, LacksStock, PrintsTops, RunsOnStock, stock_lister, tops_printer};
+ghost use Rattle.itch_engine.specs.Runs.{Runs, StopsReading};
+ghost use Rattle.itch_readings.specs.Engines.{GaveStocks, stock_lister};
 
-use crate::fault::StockFault;
-use crate::moments::tops;
-use crate::naming::{Listed, StockName, list_more, list_stocks, locate_of, unlisted};
+use crate::naming::{Listed, list_more, unlisted};
 use crate::stock_lines::put_stocks;
-use crate::top_lines::{Selection, put_tops};
-use binaryfile::{Day, Feed, Sink, read_to_end, send};
+use binaryfile::{Feed, Sink, send};
 use day_segments::SegmentReader;
 use itch_engine::ProgFault;
 use itch_engine::limits::{MOST_FILE_BYTES, MOST_MESSAGES};
 use std::alloc::Allocator;
 use std::io::{Read, Write};
 
-// How many bytes are read at a time.
-const SEGMENT_BYTES: u32 = 1 << 20;
+/// How many bytes are read at a time.
+pub(crate) const SEGMENT_BYTES: u32 = 1 << 20;
 
 // What a file says of each of its stocks. No more of it is in memory than a segment.
 fn listed_of_file<A: Allocator + Copy, R: Read>(
@@ -69,54 +66,6 @@ pub fn stocks_run<A: Allocator + Copy, R: Read, W: Write>(
     let listed = listed_of_file(alloc, feed)?;
     let mut text = Vec::new(alloc);
     put_stocks(&mut text, &listed)?;
-    send(sink, &text)?;
-    Ok(())
-}
-
-// The lines of the best bid and ask of a file's stock; none where the file hasn't the stock.
-fn tops_of_file<A: Allocator + Copy>(
-    alloc: A,
-    input: Vec<u8, A>,
-    name: StockName,
-    selection: Selection,
-) -> Result<Option<Vec<u8, A>>, ProgFault>
-    ensures text { IfOk result (λ found. MatchOption found
-        (LacksStock name input.items)
-        (λ text. PrintsTops name selection input.items text.items)) }
-    ensures fault { IfErr result (Fails (tops_printer name selection) input.items) }
-{
-    let day = Day::from_bytes(alloc, input, MOST_MESSAGES)?;
-    let listed = list_stocks(alloc, &day)?;
-    let Some(locate) = locate_of(&listed, name) else {
-        return Ok(None);
-    };
-    let moments = tops(alloc, &day, locate)?;
-    let mut text = Vec::new(alloc);
-    put_tops(&mut text, selection, &moments)?;
-    Ok(Some(text))
-}
-
-/// Reads a day file and writes the best bid and ask of one of its stocks after each message of the stock that changes
-/// them, or after each of its messages, as comma-separated fields with a line of their names first: the number of the
-/// message, its time in nanoseconds since midnight, the bid's price and shares, and the ask's. Prices are in 1/10,000
-/// of a currency unit; the fields of an empty side are empty.
-///
-/// One machine takes the messages of this stock alone. [`StockFault::NoStock`] comes where the day has no message of the
-/// stock, and nothing was sent then; other faults are those of [`stocks_run`].
-pub fn tops_run<A: Allocator + Copy, R: Read, W: Write>(
-    alloc: A,
-    feed: &mut Feed<R>,
-    sink: &mut Sink<W>,
-    name: StockName,
-    selection: Selection,
-) -> Result<(), StockFault>
-    ensures { RunsOnStock (tops_printer name selection) name
-        R.remaining W.contents feed.old feed.new sink.old sink.new result }
-{
-    let input = read_to_end(alloc, feed, MOST_FILE_BYTES)?;
-    let Some(text) = tops_of_file(alloc, input, name, selection)? else {
-        return Err(StockFault::NoStock);
-    };
     send(sink, &text)?;
     Ok(())
 }

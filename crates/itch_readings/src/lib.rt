@@ -8,14 +8,12 @@
 //! They meet the contract of the engines of `itch_engine`, `Runs`, but that [`tops_run`] may find that the day hasn't the
 //! stock ([`StockFault`]).
 //!
-//! [`tops`] is the best bid and ask of a stock after each of its messages, and [`list_stocks`] has the symbol and the
-//! number of messages of each stock; [`StockName::of_word`] reads the name of a stock, and [`locate_of`] finds the stock
-//! that it names in that list.
+//! [`tops`] is the best bid and ask of a stock after each of its messages. [`StockName::of_word`] reads the name of a
+//! stock, and [`find_stock`] finds the stock of a day that it names. A [`StockSearch`] does so message by message.
 //!
 //! ```rust
-//! let listed = list_stocks(alloc, &day)?;
 //! if let Some(name) = StockName::of_word("AAPL")
-//!     && let Some(locate) = locate_of(&listed, name)
+//!     && let Some(locate) = find_stock(alloc, &day, name)?
 //! {
 //!     let moments = tops(alloc, &day, locate)?;
 //! }
@@ -29,11 +27,16 @@ mod engines;
 mod fault;
 mod moments;
 mod naming;
+mod search;
 mod stock_lines;
 mod top_lines;
+mod tops_engine;
+mod tops_text;
 
-pub use engines::{stocks_run, tops_run};
+pub use engines::stocks_run;
 pub use fault::StockFault;
 pub use moments::{Moment, tops};
-pub use naming::{Listed, StockName, list_stocks, locate_of, named_stocks_have_messages};
+pub use naming::StockName;
+pub use search::{StockSearch, find_stock};
 pub use top_lines::Selection;
+pub use tops_engine::tops_run;

@@ -19,8 +19,8 @@ pub struct Moment {
     pub top: Top,
 }
 
-// When a message was made, in nanoseconds since midnight; 0 where the payload is no message.
-fn time_in(payload: &[u8]) -> u64
+/// When a message was made, in nanoseconds since midnight; 0 where the payload is no message.
+pub(crate) fn time_in(payload: &[u8]) -> u64
     ensures { result ≡ time_of payload.now }
 {
     match read_msg(payload) {

@@ -1,8 +1,7 @@
 //! The lines of a stock's best bid and ask along a day.
 ghost use Rattle.std.specs.Prelude.{◌≡◌, ◌++◌, OnOk};
 ghost use Rattle.byte_strings.specs.Extending.{Extends};
-ghost use Rattle.itch_table.specs.Shows.{no_top};
-ghost use Rattle.itch_readings.specs.TopLines.{differs, is_shown, moment_line, moment_lines, side_fields, tops_text};
+ghost use Rattle.itch_readings.specs.TopLines.{differs, field_names, is_shown, moment_line, shown_line, side_fields};
 
 use crate::moments::Moment;
 use itch_engine::put_count;
@@ -61,37 +60,24 @@ fn put_moment<A: Allocator>(text: &mut Vec<u8, A>, moment: &Moment) -> Result<()
     Ok(())
 }
 
-// Adds the lines of a stock's moments, whose book is empty before the first.
-fn put_moments<A: Allocator>(
-    text: &mut Vec<u8, A>,
-    selection: Selection,
-    moments: &[Moment],
-) -> Result<(), AllocError>
-    ensures { Extends text.old text.new (moment_lines selection no_top moments.now) result }
+/// Adds the names of the fields.
+pub(crate) fn put_field_names<A: Allocator>(text: &mut Vec<u8, A>) -> Result<(), AllocError>
+    ensures { Extends text.old text.new field_names result }
 {
-    let mut before = Top {
-        bid_price: 0,
-        bid_shares: 0,
-        ask_price: 0,
-        ask_shares: 0,
-    };
-    for moment in moments {
-        if is_shown(selection, &before, &moment.top) {
-            put_moment(text, moment)?;
-        }
-        before = moment.top;
-    }
-    Ok(())
+    text.extend_from_slice(b"message,time,bid_price,bid_shares,ask_price,ask_shares\n")
 }
 
-/// Adds the names of the fields, and the lines of a stock's moments.
-pub(crate) fn put_tops<A: Allocator>(
+/// Adds the line of a moment, where it has one, by the top before it.
+pub(crate) fn put_shown<A: Allocator>(
     text: &mut Vec<u8, A>,
     selection: Selection,
-    moments: &[Moment],
+    before: &Top,
+    moment: &Moment,
 ) -> Result<(), AllocError>
-    ensures { Extends text.old text.new (tops_text selection moments.now) result }
+    ensures { Extends text.old text.new (shown_line selection before.now moment.now) result }
 {
-    text.extend_from_slice(b"message,time,bid_price,bid_shares,ask_price,ask_shares\n")?;
-    put_moments(text, selection, moments)
+    if is_shown(selection, before, &moment.top) {
+        put_moment(text, moment)?;
+    }
+    Ok(())
 }

@@ -1,11 +1,9 @@
 -- What the engine of a screen makes of an input, and the faults that it finds in one.
-use Rattle.std.specs.Prelude.{◌≡◌, ◌^◌, ℕ, List, Some}
-use Rattle.binaryfile.specs.Entries.{Contents}
+use Rattle.std.specs.Prelude.{◌≡◌, ◌^◌, ◌-◌, ◌≤◌, ℕ, List, length}
+use Rattle.binaryfile.specs.Entries.{Contents, Splits}
 use Rattle.itch_engine.specs.ReplayEngines.{HasTooManyMessages}
 use Rattle.itch_engine.specs.Runs.{Engine}
-use Rattle.itch_readings.specs.Engines.{HasStocks}
-use Rattle.itch_readings.specs.Naming.{locate_of}
-use Rattle.itch_readings.specs.declared.naming.Listed.{Listed}
+use Rattle.itch_readings.specs.Naming.{NamesStock}
 use Rattle.itch_readings.specs.declared.naming.StockName.{StockName}
 use Rattle.top_cell.specs.declared.reading.Reading.{Reading}
 use Rattle.itch_watch.specs.Lines.{reading_lines}
@@ -14,10 +12,11 @@ use Rattle.itch_watch.specs.Watching.{AreSeenToTheEnd}
 -- The file has the stock that is named, and the text is what a screen has seen of it to the end of the day.
 pub record PrintsSeen (name : StockName) (input text : List ℕ) : Type 0 where
   pub contents : Contents
-  pub listed : List Listed
-  pub stocks : HasStocks input contents listed
+  pub split : Splits input contents
+  pub few : length contents.payloads ≤ 2 ^ 32 - 1
+  pub message : ℕ
   pub locate : ℕ
-  pub named : locate_of listed name ≡ Some locate
+  pub named : NamesStock contents.payloads name message locate
   pub readings : List Reading
   pub seen : AreSeenToTheEnd contents.payloads locate readings
   pub printed : text ≡ reading_lines readings

@@ -10,7 +10,7 @@ use binaryfile::{Day, Feed, Sink, read_to_end, send};
 use day_core::WorkerCount;
 use itch_engine::ProgFault;
 use itch_engine::limits::{MOST_FILE_BYTES, MOST_MESSAGES};
-use itch_readings::{StockFault, StockName, list_stocks, locate_of, named_stocks_have_messages};
+use itch_readings::{StockFault, StockName, find_stock};
 use std::alloc::Allocator;
 use std::io::{Read, Write};
 use std::sync::Wait;
@@ -32,11 +32,8 @@ fn seen_of_file<R: Threads + Wait + Sync, A: Allocator + Copy + Send + Sync, G: 
         (LacksStock name input.items) (λ text. PrintsSeen name input.items text.items)) }
     ensures fault { IfErr result (Fails (watcher name) input.items) }
 {
-    // A law that the proof cites: it does nothing.
-    named_stocks_have_messages();
     let day = Day::from_bytes(alloc, input, MOST_MESSAGES)?;
-    let listed = list_stocks(alloc, &day)?;
-    let Some(locate) = locate_of(&listed, name) else {
+    let Some(locate) = find_stock(alloc, &day, name)? else {
         return Ok(None);
     };
     let readings = watch_stock(rt, alloc, &day, locate, workers, gate, seen)?;
@@ -54,8 +51,8 @@ fn seen_of_file<R: Threads + Wait + Sync, A: Allocator + Copy + Send + Sync, G: 
 /// The screen has a thread of its own beside those of the workers; each worker calls the gate before each of its
 /// messages, and may wait there. What `seen` is for, and what such a gate has to heed, is said at
 /// [`crate::watch_stock`].
-/// [`StockFault::NoStock`] comes where the day has no message of the stock, and nothing was sent then; other faults are
-/// those of [`itch_engine::replay_run`].
+/// The stock is the one that [`itch_readings::tops_run`] finds by this name. [`StockFault::NoStock`] comes where the day
+/// hasn't the stock, and nothing was sent then; other faults are those of [`itch_engine::replay_run`].
 pub fn watch_run<
     T: Threads + Wait + Sync,
     A: Allocator + Copy + Send + Sync,

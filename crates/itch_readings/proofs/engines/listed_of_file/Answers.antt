@@ -1,4 +1,4 @@
-use Rattle.std.proofs.Common.{◌≡◌, ◌∙◌, ◌++◌, ◌+◌, ◌-◌, ◌^◌, Vec, Err, List, ℕ, length, arith, refl, sym, ap, subst}
+use Rattle.std.proofs.Common.{◌∙◌, ◌++◌, ◌^◌, Vec, Err, List, length, arith, refl, sym, ap, subst}
 use Rattle.std.proofs.lemmas.Result.{err_from_is_err_and}
 use Rattle.binaryfile.specs.Devices.{GaveMore, HasFailed}
 use Rattle.binaryfile.specs.Entries.{Contents}
@@ -27,7 +27,7 @@ returns-in_err-segment-clause-fault g c =
     let before = c.loop-reader.invariant.so_far in
     let found = c.in_err-segment.ensures {u = tt} in
     let same = err_from_is_err_and c.from_residual-in_err-segment.result c.from_residual-in_err-segment.ensures.1 in
-    rw same.1 (subst (StopsReading stock_lister start next) (sym same.2) (halts start next c.in_err-segment.field-0.0
+    rw same.1 (subst (StopsReading stock_lister start next) (sym same.2) (halts stock_lister start next c.in_err-segment.field-0.0
     (λ is. subst (GaveMore start next) before.most (found.too_many_bytes (ap Err is) start before.contents before.read)) (λ is. found.not_messages (ap Err is))))
 
 pub returns-in_err-segment-clause-taken : goal.returns-in_err-segment-clause-taken

@@ -12,8 +12,5 @@ watch_stock-requires-clause-bytes g c =
 
 pub watch_stock-requires-clause-stock : goal.watch_stock-requires-clause-stock
 watch_stock-requires-clause-stock g c =
-    let found = c.locate_of.ensures in
-    let some = c.in-Some.is in
-    let value = c.deref.ensures.value in
-    λ _ _. c.named_stocks_have_messages.ensures c.in_ok-day.day.payloads c.in_ok-listed.listed.items c.args.name c.in-Some.locate
-    c.in_ok-listed.ensures cc
+    let found = rw c.in-Some.is at (c.in_ok-locate.ensures {u = tt}) in
+    λ _ _. (found.0, found.1.some, found.1.within, found.1.own)

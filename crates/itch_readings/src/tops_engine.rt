@@ -1,0 +1,85 @@
+//! The engine that writes the best bid and ask of one stock of a day file.
+ghost use Rattle.std.specs.Prelude.{◌≡◌, ◌+◌, ◌↔◌, IfOk, IfErr, IsErrOf, MatchOption};
+ghost use Rattle.binaryfile.specs.Devices.{GaveUpTo, HasFailed};
+ghost use Rattle.itch_engine.specs.declared.limits.TheConstants.{MOST_FILE_BYTES};
+ghost use Rattle.itch_engine.specs.Runs.{HasMade, StopsReading};
+ghost use Rattle.itch_readings.specs.Engines.{GaveNoStock, RunsOnStock, tops_printer};
+
+use crate::engines::SEGMENT_BYTES;
+use crate::fault::StockFault;
+use crate::naming::StockName;
+use crate::top_lines::Selection;
+use crate::tops_text::TopsText;
+use binaryfile::{Feed, Sink, send};
+use day_segments::SegmentReader;
+use itch_engine::ProgFault;
+use itch_engine::limits::{MOST_FILE_BYTES, MOST_MESSAGES};
+use std::alloc::Allocator;
+use std::io::{Read, Write};
+
+// The lines of the best bid and ask of a file's stock; none where the file hasn't the stock. No more of the file is in
+// memory than a segment.
+fn tops_of_file<A: Allocator + Copy, R: Read>(
+    alloc: A,
+    feed: &mut Feed<R>,
+    name: StockName,
+    selection: Selection,
+) -> Result<Option<Vec<u8, A>>, ProgFault>
+    ensures found { IfOk result (λ found. MatchOption found
+        (GaveNoStock (R.remaining feed.old.device) (R.remaining feed.new.device) name)
+        (λ text. HasMade (tops_printer name selection)
+        (R.remaining feed.old.device) (R.remaining feed.new.device) text.items tt)) }
+    ensures fault { IfErr result (StopsReading (tops_printer name selection)
+        (R.remaining feed.old.device) (R.remaining feed.new.device)) }
+    // Whatever the result, no more is taken from the reader than the limit and one byte.
+    ensures taken { GaveUpTo (R.remaining feed.old.device) (R.remaining feed.new.device)
+        (MOST_FILE_BYTES + 1) }
+    ensures failed { IsErrOf result ProgFault.Read ↔ HasFailed feed.new }
+    ensures for_good { HasFailed feed.old → feed.new ≡ feed.old }
+{
+    if feed.failed() {
+        return Err(ProgFault::Read);
+    }
+    let mut tops = TopsText::new(alloc, name, selection)?;
+    let mut reader = SegmentReader::new(alloc, SEGMENT_BYTES, MOST_FILE_BYTES);
+    while let Some(segment) = reader.next(alloc, feed)? {
+        if reader.messages() <= u64::from(MOST_MESSAGES) {
+            tops.take_all(alloc, &segment)?;
+        }
+    }
+    if reader.messages() > u64::from(MOST_MESSAGES) {
+        return Err(ProgFault::TooManyMessages);
+    }
+    Ok(tops.into_text())
+}
+
+/// Reads a day file and writes the best bid and ask of one of its stocks after each message of the stock that changes
+/// them, or after each of its messages, as comma-separated fields with a line of their names first: the number of the
+/// message, its time in nanoseconds since midnight, the bid's price and shares, and the ask's. Prices are in 1/10,000
+/// of a currency unit; the fields of an empty side are empty.
+///
+/// A locate code names its stock, whose lines begin at its first message. A symbol names the stock of the first directory
+/// message that gives the symbol and is applied, and its lines begin at that message ([`StockSearch`]).
+///
+/// The file is read once, and no more is in memory than some 1 MiB of it, the machine of this stock, and the text, which is
+/// made before it is sent. [`StockFault::NoStock`] comes where the day hasn't the stock, and nothing was sent then; other
+/// faults are those of [`stocks_run`].
+///
+/// [`StockSearch`]: crate::StockSearch
+/// [`stocks_run`]: crate::stocks_run
+pub fn tops_run<A: Allocator + Copy, R: Read, W: Write>(
+    alloc: A,
+    feed: &mut Feed<R>,
+    sink: &mut Sink<W>,
+    name: StockName,
+    selection: Selection,
+) -> Result<(), StockFault>
+    ensures { RunsOnStock (tops_printer name selection) name
+        R.remaining W.contents feed.old feed.new sink.old sink.new result }
+{
+    let Some(text) = tops_of_file(alloc, feed, name, selection)? else {
+        return Err(StockFault::NoStock);
+    };
+    send(sink, &text)?;
+    Ok(())
+}
