@@ -39,7 +39,7 @@ pub use crate::entry_list::{EntryList, ListedPayloads, NumberedPayload};
 pub use crate::feed::Feed;
 pub use crate::load::{LoadFault, read_to_end};
 pub use crate::payloads::Payloads;
-pub use crate::scan::Place;
+pub use crate::scan::{Place, split_first_payload};
 pub use crate::sink::{Sink, WriteFault, send};
 
 /// One entry in every 8 has its place in the index of a day, so the index has a byte a message.

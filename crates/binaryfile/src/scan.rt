@@ -33,8 +33,10 @@ impl Place {
     }
 }
 
-/// The payload of the first entry and the bytes after that entry, where a whole one stands there.
-pub(crate) fn split_first_payload(bytes: &[u8]) -> Option<(&[u8], &[u8])>
+/// The payload of the first entry and the bytes after that entry, where a whole one stands there; none where an end marker
+/// or less than a whole entry does.
+#[inline(always)]
+pub fn split_first_payload(bytes: &[u8]) -> Option<(&[u8], &[u8])>
     ensures { MatchOption result (payloads_of bytes.now ≡ [])
         (λ first. payloads_of bytes.now ≡ first.0.now ∷ payloads_of first.1.now) }
 {

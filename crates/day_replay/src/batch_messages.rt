@@ -1,10 +1,9 @@
 //! The messages of one batch in a segment, copied.
-ghost use Rattle.std.specs.Prelude.{◌≡◌, ◌++◌, ◌∷◌, [], MatchOption, OnOk};
+ghost use Rattle.std.specs.Prelude.{◌≡◌, ◌++◌, ◌∷◌, [], OnOk};
 ghost use Rattle.std.specs.Iterator.{YieldsFirstBy, item_count};
 ghost use Rattle.binaryfile.specs.Entries.{IsPayload};
-ghost use Rattle.binaryfile.specs.Index.{payloads_of};
 
-use binaryfile::NumberedPayload;
+use binaryfile::{NumberedPayload, split_first_payload};
 use std::alloc::{AllocError, Allocator};
 use std::marker::Model;
 
@@ -88,19 +87,6 @@ impl<'m> Model for MessagesLeft<'m> {
     ghost Value = { List (ℕ × List ℕ) };
 
     ghost view = { λ it. zip it.numbers.now (payloads_of it.bytes.now) };
-}
-
-// The payload of the first entry and the bytes after that entry, where a whole one stands there.
-fn split_first_payload(bytes: &[u8]) -> Option<(&[u8], &[u8])>
-    ensures { MatchOption result (payloads_of bytes.now ≡ [])
-        (λ first. payloads_of bytes.now ≡ first.0.now ∷ payloads_of first.1.now) }
-{
-    let (head, rest) = bytes.split_first_chunk::<2>()?;
-    let length = u16::from_be_bytes(*head) as usize;
-    if length == 0 || length > rest.len() {
-        return None;
-    }
-    Some(rest.split_at(length))
 }
 
 impl<'m> Iterator for MessagesLeft<'m> {
