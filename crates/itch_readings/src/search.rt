@@ -36,7 +36,7 @@ fn begun_with(listed: &mut [bool], symbol: &[u8; 8], payload: &[u8]) -> Option<u
 ///
 /// A locate code names its stock, which begins with its first message. A symbol names the stock of the first directory
 /// message (Nasdaq TotalView-ITCH 5.0, "Stock Directory") that gives the symbol and is applied; the stock begins with that
-/// message, and every message of its before is refused or changes nothing.
+/// message, and its messages before are all refused.
 ///
 /// ```rust
 /// let mut search = StockSearch::new(alloc, StockName::Symbol(*b"AAPL    "))?;

@@ -11,6 +11,8 @@ mod faults;
 #[cfg(test)]
 mod moments;
 #[cfg(test)]
+mod names;
+#[cfg(test)]
 mod runs;
 #[cfg(test)]
 mod watching;
