@@ -43,11 +43,11 @@ pub enum Task<'a> {
     Disassemble {
         file: &'a str,
     },
-    /// To write the lines of a file's messages from one number to another.
+    /// To write the lines of a file's messages from one number on, to another or to the file's end.
     DisassembleBetween {
         file: &'a str,
         first: u32,
-        last: u32,
+        last: Option<u32>,
     },
     /// To list a file's stocks.
     Stocks {
@@ -231,7 +231,7 @@ fn disassembling<'a>(dis: &ArgMatches<'a>, file: &'a str) -> Task<'a> {
         (first, last) => Task::DisassembleBetween {
             file,
             first: first.unwrap_or(1),
-            last: last.unwrap_or(u32::MAX),
+            last,
         },
     }
 }

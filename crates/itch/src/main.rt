@@ -13,8 +13,9 @@ use clap::error::ErrorKind;
 use day_core::WorkerCount;
 use file_replay::Silent;
 use itch_debug::debug_run;
+use itch_dis::{SEGMENT_BYTES, dis_part_run, dis_stream_run};
 use itch_engine::limits::{MOST_FILE_BYTES, MOST_MESSAGES};
-use itch_engine::{ProgFault, asm_run, dis_between_run, dis_run, hex_run, report_run, status};
+use itch_engine::{ProgFault, asm_run, hex_run, report_run, status};
 use itch_readings::{Selection, StockFault, StockName, stocks_run, tops_run};
 use itch_watch::watch_run;
 use named_files::{Failure, Named, Replacement, is_same_file};
@@ -131,7 +132,7 @@ where
     ended(run, &day, &output)
 }
 
-// Writes the text of a file on standard output.
+// Writes the text of a file on standard output, while it reads the file.
 fn disassemble<'a, R: Runtime + AllocGlobal>(
     rt: &R,
     terminals: Terminals,
@@ -139,29 +140,33 @@ fn disassemble<'a, R: Runtime + AllocGlobal>(
 ) -> Ended<'a> {
     let mut day = open_day(rt, terminals, path)?;
     let mut output = standard_output(rt);
-    let run = dis_run(
+    let run = dis_stream_run(
         rt.alloc(),
         &mut Feed::new(&mut day),
         &mut Sink::new(&mut output),
+        SEGMENT_BYTES,
     );
     ended(run.map(|()| 0), &day, &output)
 }
 
-// Writes the lines of a file's messages from one number to another on standard output.
+// Writes the lines of a file's messages from one number on, to another or to the file's end, on standard output, while it
+// reads the file.
 fn disassemble_between<'a, R: Runtime + AllocGlobal>(
     rt: &R,
     terminals: Terminals,
     path: &'a str,
     first: u32,
-    last: u32,
+    last: Option<u32>,
 ) -> Ended<'a> {
-    if last < first {
+    if let Some(last) = last
+        && last < first
+    {
         return Err(Stop::Misuse("--to is before --from"));
     }
     let mut day = open_day(rt, terminals, path)?;
     let mut output = standard_output(rt);
     let (mut feed, mut sink) = (Feed::new(&mut day), Sink::new(&mut output));
-    let run = dis_between_run(rt.alloc(), &mut feed, &mut sink, first, last);
+    let run = dis_part_run(rt.alloc(), &mut feed, &mut sink, SEGMENT_BYTES, first, last);
     ended(run.map(|()| 0), &day, &output)
 }
 

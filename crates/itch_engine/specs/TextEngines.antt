@@ -5,7 +5,7 @@ use Rattle.itch_text.specs.Blames.{Blames, DenotesNothing}
 use Rattle.itch_text.specs.Text.{Text}
 use Rattle.itch_text.specs.declared.assembler.AsmFault.{AsmFault}
 use Rattle.itch_text.specs.declared.assembler.AsmFault.TheVariants.{Memory as AsmMemory}
-use Rattle.itch_print.specs.Disassembly.{lines_between, text_of}
+use Rattle.itch_print.specs.Disassembly.{text_of}
 use Rattle.itch_engine.specs.Runs.{Engine}
 use Rattle.itch_engine.specs.ReplayEngines.{HasTooManyMessages}
 use Rattle.itch_engine.specs.declared.fault.ProgFault.{ProgFault}
@@ -18,13 +18,6 @@ pub record Disassembles (input text : List ℕ) : Type 0 where
   pub few : length contents.payloads ≤ 2 ^ 32 - 1
   pub printed : text ≡ text_of contents
   pub denotes : Text text input
-
--- The input is a file, and the text is that of its messages from number first to number last.
-pub record DisassemblesBetween (first last : ℕ) (input text : List ℕ) : Type 0 where
-  pub contents : Contents
-  pub split : Splits input contents
-  pub few : length contents.payloads ≤ 2 ^ 32 - 1
-  pub printed : text ≡ lines_between contents first last
 
 -- The first faulty line of the text has this fault, and the text denotes nothing.
 pub record HasFaultyLine (text : List ℕ) (fault : ProgFault) : Type 0 where
@@ -39,14 +32,6 @@ abbrev pub disassembler : Engine (Unit {0})
 disassembler = record {
   most = 2 ^ 40;
   Makes = λ input output _. Disassembles input output;
-  Finds = HasTooManyMessages;
-}
-
--- the engine that reads a day file and writes the lines of its messages from number first to number last
-abbrev pub part_disassembler : ℕ → ℕ → Engine (Unit {0})
-part_disassembler first last = record {
-  most = 2 ^ 40;
-  Makes = λ input output _. DisassemblesBetween first last input output;
   Finds = HasTooManyMessages;
 }
 

@@ -8,7 +8,6 @@
 //! | [`replay_run`] | a day file | its report |
 //! | [`hex_run`] | a day file in hexadecimal digits | its report |
 //! | [`dis_run`] | a day file | its text |
-//! | [`dis_between_run`] | a day file | the lines of some of its messages |
 //! | [`asm_run`] | a text | the file that the text denotes |
 //!
 //! ```rust
@@ -38,7 +37,7 @@ mod report;
 
 pub use engines::asm::asm_run;
 pub use engines::digits::hex_run;
-pub use engines::dis::{dis_between_run, dis_run};
+pub use engines::dis::dis_run;
 pub use engines::replay::replay_run;
 pub use engines::report::report_run;
 pub use exit_status::status;

@@ -2,7 +2,7 @@
 use binaryfile::{Feed, Sink};
 use day_core::WorkerCount;
 use file_replay::Silent;
-use itch_engine::{asm_run, dis_between_run, dis_run, hex_run, replay_run, report_run};
+use itch_engine::{asm_run, dis_run, hex_run, replay_run, report_run};
 use itch_readings::{Selection, StockFault, StockName, stocks_run, tops_run};
 use itch_watch::watch_run;
 use std::alloc::Allocator;
@@ -26,8 +26,6 @@ pub(crate) enum Engine {
     TwoThreads,
     Digits,
     Disassembler,
-    /// The disassembler of messages 2 and 3.
-    Between,
     Assembler,
     Stocks,
     /// The tops of the file's stock, by its symbol.
@@ -37,12 +35,11 @@ pub(crate) enum Engine {
 }
 
 /// All of them, where the replay has one worker.
-pub(crate) const ENGINES: [Engine; 9] = [
+pub(crate) const ENGINES: [Engine; 8] = [
     Engine::Replay,
     Engine::Report,
     Engine::Digits,
     Engine::Disassembler,
-    Engine::Between,
     Engine::Assembler,
     Engine::Stocks,
     Engine::Tops,
@@ -69,11 +66,6 @@ const TWO_STOCKS_REPORT: &[u8] = b"message 6 refused F2\n\
       bid 200 20\n\
       trades 0 shares 0 notional 0 unprinted 0\n";
 
-// The lines of the worked file's messages 2 and 3.
-const BETWEEN: &[u8] =
-    b"add locate=1 tracking=0 time=1 reference=1 side=\"B\" shares=100 stock=\"AAPL\" price=1010000\n\
-      raw 41\n";
-
 // The lines of the worked file's stocks.
 const STOCKS: &[u8] = b"stock 1 \"AAPL\" messages 2\n";
 
@@ -91,7 +83,6 @@ impl Engine {
             Engine::Replay
             | Engine::Report
             | Engine::Disassembler
-            | Engine::Between
             | Engine::Stocks
             | Engine::Tops => FILE,
             Engine::TwoWorkers | Engine::TwoThreads | Engine::Watch => TWO_STOCKS,
@@ -106,7 +97,6 @@ impl Engine {
             Engine::Replay | Engine::Report | Engine::Digits => REPORT,
             Engine::TwoWorkers | Engine::TwoThreads => TWO_STOCKS_REPORT,
             Engine::Disassembler => TEXT,
-            Engine::Between => BETWEEN,
             Engine::Assembler => FILE,
             Engine::Stocks => STOCKS,
             Engine::Tops => TOPS,
@@ -120,7 +110,6 @@ impl Engine {
             Engine::Replay | Engine::Report | Engine::Digits => Ok(1),
             Engine::TwoWorkers | Engine::TwoThreads => Ok(2),
             Engine::Disassembler
-            | Engine::Between
             | Engine::Assembler
             | Engine::Stocks
             | Engine::Tops
@@ -145,7 +134,6 @@ impl Engine {
             Engine::TwoThreads => report_run(rt, alloc, &mut feed, &mut sink, two, &Silent),
             Engine::Digits => hex_run(rt, alloc, &mut feed, &mut sink),
             Engine::Disassembler => dis_run(alloc, &mut feed, &mut sink).map(|()| 0),
-            Engine::Between => dis_between_run(alloc, &mut feed, &mut sink, 2, 3).map(|()| 0),
             Engine::Assembler => asm_run(alloc, &mut feed, &mut sink).map(|()| 0),
             Engine::Stocks => stocks_run(alloc, &mut feed, &mut sink).map(|()| 0),
             Engine::Tops => {

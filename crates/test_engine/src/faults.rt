@@ -78,13 +78,12 @@ fn engines_send_nothing_for_a_faulty_input(rt: HostRuntime) -> Result<(), Fail> 
 fn engines_take_an_empty_input(rt: HostRuntime) -> Result<(), Fail> {
     let report =
         b"messages 0 applied 0 passed 0 refused 0 marked no tail 0 event none\n".as_slice();
-    let cases: [(Engine, &[u8], &[u8]); 8] = [
+    let cases: [(Engine, &[u8], &[u8]); 7] = [
         (Engine::Replay, b"", report),
         (Engine::Digits, b"", report),
         (Engine::Digits, b" \n", report),
         (Engine::Digits, b"\n\n   \n", report),
         (Engine::Disassembler, b"", b""),
-        (Engine::Between, b"", b""),
         (Engine::Stocks, b"", b""),
         (Engine::Assembler, b"", b""),
     ];

@@ -311,7 +311,6 @@ fn engines_send_nothing_without_memory(rt: HostRuntime) -> Result<(), Fail> {
         Engine::Report,
         Engine::Digits,
         Engine::Disassembler,
-        Engine::Between,
         Engine::Assembler,
         Engine::Stocks,
         Engine::Tops,

@@ -2,12 +2,12 @@
 ghost use Rattle.std.specs.Prelude.{◌≡◌, ◌-◌, ◌^◌, Err, IfOk, IfErr};
 ghost use Rattle.binaryfile.specs.Loading.{HasMoreMessages};
 ghost use Rattle.itch_engine.specs.Runs.{Fails, Runs};
-ghost use Rattle.itch_engine.specs.TextEngines.{Disassembles, DisassemblesBetween, disassembler, part_disassembler};
+ghost use Rattle.itch_engine.specs.TextEngines.{Disassembles, disassembler};
 
 use crate::fault::ProgFault;
 use crate::limits::{MOST_FILE_BYTES, MOST_MESSAGES};
 use binaryfile::{Day, Feed, Sink, read_to_end, send};
-use itch_print::{disassemble, disassemble_between};
+use itch_print::disassemble;
 use std::alloc::Allocator;
 use std::io::{Read, Write};
 
@@ -37,42 +37,6 @@ pub fn dis_run<A: Allocator + Copy, R: Read, W: Write>(
 {
     let input = read_to_end(alloc, feed, MOST_FILE_BYTES)?;
     let text = text_of_file(alloc, input)?;
-    send(sink, &text)?;
-    Ok(())
-}
-
-// The lines of a file's messages from one number to another.
-fn part_of_file<A: Allocator + Copy>(
-    alloc: A,
-    input: Vec<u8, A>,
-    first: u32,
-    last: u32,
-) -> Result<Vec<u8, A>, ProgFault>
-    ensures text { IfOk result (λ text. DisassemblesBetween first last input.items text.items) }
-    ensures fault { IfErr result (Fails (part_disassembler first last) input.items) }
-    // Whatever memory is left.
-    ensures judged { HasMoreMessages input.items (2 ^ 32 - 1) → result ≡ Err ProgFault.TooManyMessages }
-{
-    let day = Day::from_bytes(alloc, input, MOST_MESSAGES)?;
-    Ok(disassemble_between(alloc, &day, first, last)?)
-}
-
-/// Reads a day file and writes the lines of its messages from number `first` to number `last`, counted from 1, as
-/// [`dis_run`] writes them, without the lines of the file's end. A number beyond the last message has no line.
-///
-/// Faults are those of [`dis_run`]. The text in memory is that of these lines alone.
-pub fn dis_between_run<A: Allocator + Copy, R: Read, W: Write>(
-    alloc: A,
-    feed: &mut Feed<R>,
-    sink: &mut Sink<W>,
-    first: u32,
-    last: u32,
-) -> Result<(), ProgFault>
-    ensures { Runs (part_disassembler first last)
-        R.remaining W.contents feed.old feed.new sink.old sink.new result }
-{
-    let input = read_to_end(alloc, feed, MOST_FILE_BYTES)?;
-    let text = part_of_file(alloc, input, first, last)?;
     send(sink, &text)?;
     Ok(())
 }
