@@ -34,10 +34,10 @@ pub(crate) enum Engine {
     Watch,
 }
 
-/// All of them, where the replay has one worker.
-pub(crate) const ENGINES: [Engine; 8] = [
+/// All of them, where the replay has one worker, but the replay of a file while it is read: that one takes memory for a
+/// segment and all batches at each run, so fewer runs of it are tried.
+pub(crate) const ENGINES: [Engine; 7] = [
     Engine::Replay,
-    Engine::Report,
     Engine::Digits,
     Engine::Disassembler,
     Engine::Assembler,

@@ -39,7 +39,8 @@ fn engines_write_their_output(rt: HostRuntime) -> Result<(), Fail> {
             try_pieces(&rt, engine, most)?;
         }
     }
-    Ok(())
+    try_pieces(&rt, Engine::Report, 1)?;
+    try_pieces(&rt, Engine::TwoThreads, 7)
 }
 
 // Counts how often workers come to a message, and how often the one of this number does, and adds up the numbers of
@@ -232,9 +233,15 @@ fn engines_send_nothing_after_a_failed_read(rt: HostRuntime) -> Result<(), Fail>
             try_read(&rt, engine, failing)?;
         }
     }
-    for engine in [Engine::Stocks, Engine::Report] {
-        let reads = (engine.input().len() as u64).saturating_add(2);
-        try_read(&rt, engine, reads)?;
+    let stocks = Engine::Stocks;
+    try_read(&rt, stocks, (stocks.input().len() as u64).saturating_add(2))
+}
+
+#[test]
+fn a_report_is_not_sent_after_a_failed_read(rt: HostRuntime) -> Result<(), Fail> {
+    let engine = Engine::Report;
+    for failing in 1..=(engine.input().len() as u64).saturating_add(2) {
+        try_read(&rt, engine, failing)?;
     }
     Ok(())
 }
@@ -273,6 +280,11 @@ fn engines_have_sent_a_prefix_after_a_failed_write(rt: HostRuntime) -> Result<()
             try_write(&rt, engine, taken, Failure::TakesNone)?;
         }
     }
+    let engine = Engine::Report;
+    for taken in [0, 1, engine.output().len().saturating_sub(1)] {
+        try_write(&rt, engine, taken, Failure::Error(ErrorKind::Other))?;
+        try_write(&rt, engine, taken, Failure::TakesNone)?;
+    }
     Ok(())
 }
 
@@ -306,9 +318,7 @@ fn try_refusal<T: AllocGlobal + Threads + Wait + Sync>(
 fn engines_send_nothing_without_memory(rt: HostRuntime) -> Result<(), Fail> {
     for engine in [
         Engine::TwoWorkers,
-        Engine::TwoThreads,
         Engine::Replay,
-        Engine::Report,
         Engine::Digits,
         Engine::Disassembler,
         Engine::Assembler,
@@ -326,4 +336,13 @@ fn engines_send_nothing_without_memory(rt: HostRuntime) -> Result<(), Fail> {
         )?;
     }
     Ok(())
+}
+
+#[test]
+fn a_report_is_not_sent_without_memory(rt: HostRuntime) -> Result<(), Fail> {
+    let engine = Engine::Report;
+    let growths = refuse_each(|refusal: Refusal| -> Result<Tried, Fail> {
+        try_refusal(&rt, engine, refusal)
+    })?;
+    same("that there are growths", &(growths > 128), &true)
 }
