@@ -46,8 +46,8 @@ Shows given BadHex = ⊥
 Shows given Write = Unit {0}
 Shows given (Asm fault) = ⊥
 
--- The reader gave a whole input within the limits, whose messages don't suffice before its end, and what was written is its
--- text, and nothing else.
+-- The reader gave a whole input within the limits, which hasn't so many messages that they suffice, and what was written is
+-- its text, and nothing else.
 pub record PrintsWhole (printer : Printer) (traffic : Traffic) : Type 0 where
   pub input : List ℕ
   pub contents : Contents
