@@ -80,8 +80,8 @@ pub record IsFileSummary {A : Type 0} (contents : Contents) (made : FileSummary 
 
 -- the reader gave a whole file, of no more than so many bytes and messages, and this is what it makes
 pub record IsReplayedFile {A : Type 0} (start now : Option (List ℕ)) (bytes messages : ℕ) (made : FileSummary A) : Type 0
-    where
-  pub contents : Contents
-  pub whole : IsWholeFile start now bytes contents
-  pub few : length contents.payloads ≤ messages
-  pub makes : IsFileSummary contents made
+  where
+    pub contents : Contents
+    pub whole : IsWholeFile start now bytes contents
+    pub few : length contents.payloads ≤ messages
+    pub makes : IsFileSummary contents made

@@ -112,9 +112,7 @@ fn replay_command<'a>(alloc: Global) -> Result<Command<'a>, AllocError> {
             Arg::new(alloc, "progress")
                 .long("progress")
                 .action(ArgAction::SetTrue)
-                .help(
-                    "Says on standard error how far it is, at most once a second and at the end",
-                ),
+                .help("Says on standard error how far it is, at most once a second and at the end"),
         )
 }
 

@@ -65,7 +65,9 @@ impl<'a, R: Runtime> ProgressLines<'a, R> {
     // Whether it is time for another line.
     fn is_due(&self) -> bool {
         match self.last.get() {
-            Some(last) => last.elapsed(self.rt).is_ok_and(|passed| passed.as_secs() >= PAUSE),
+            Some(last) => last
+                .elapsed(self.rt)
+                .is_ok_and(|passed| passed.as_secs() >= PAUSE),
             None => false,
         }
     }

@@ -36,11 +36,11 @@ pub record Takes {A : Type 0} (engine : Engine A) (traffic : Traffic) (input : L
 -- The reader gave a whole input, of no more bytes than the engine takes, of which the engine makes this output and this
 -- result.
 pub record HasMade {A : Type 0} (engine : Engine A) (old new : Option (List ℕ)) (output : List ℕ) (result : A) : Type 0
-    where
-  pub input : List ℕ
-  pub gave : GaveAll old new input
-  pub within : length input ≤ engine.most
-  pub makes : engine.Makes input output result
+  where
+    pub input : List ℕ
+    pub gave : GaveAll old new input
+    pub within : length input ≤ engine.most
+    pub makes : engine.Makes input output result
 
 -- What the reader gave where an engine stops at a fault before it writes, so that the fault isn't that of a write: out of
 -- memory and a failed read say nothing of it, else it is more bytes than the engine takes, or a whole input in which the

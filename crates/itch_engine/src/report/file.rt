@@ -70,13 +70,7 @@ fn report_text<A: Allocator + Copy>(
 {
     let mut text = Vec::new(alloc);
     put_refused_lines(&mut text, &file.summary.refused)?;
-    put_file_line(
-        &mut text,
-        tally,
-        file.marked,
-        file.tail,
-        file.summary.event,
-    )?;
+    put_file_line(&mut text, tally, file.marked, file.tail, file.summary.event)?;
     put_stocks(alloc, &mut text, &file.summary.stocks)?;
     Ok(text)
 }
