@@ -1,6 +1,6 @@
 -- A buffer that is filled from its beginning on.
 use Rattle.std.proofs.Common.{◌≡◌, ℕ, ◌+◌, ◌-◌, ◌≤◌, List, ◌++◌, length, take, drop, sym, ap, ◌∙◌, arith}
-use Rattle.std.proofs.lemmas.List.{length-append, length-drop, length-take-le, take-append-le, take-take}
+use Rattle.std.proofs.lemmas.List.{length-append, length-drop, length-take-le, take-append-le, take-take, take_all, take_at}
 use Rattle.std.proofs.Math.Seq.{take-append-add}
 use Rattle.std.specs.Prelude.{Option, Ok}
 use Rattle.day_segments.specs.Segments.{Fills, Follows}
@@ -26,19 +26,24 @@ pub rest_long : (at : ℕ) (buffer written : List ℕ) → length written ≡ le
 rest_long at buffer written same =
     same ∙ length-take-le (length buffer - at) (drop at buffer) (omega (arith, length-drop at buffer))
 
--- what is carried of a file, and after it what the reader gave next, in a vector that was cut after them
-pub followed : (old new : Option (List ℕ)) (carried whole buffer bytes more : List ℕ) (room space place most count : ℕ) → Fills old new buffer space (Ok count) → length buffer ≡ space
-    → space ≡ room → place ≡ room → most ≡ length whole → length whole ≡ length carried + room → take (length carried) whole ≡ carried
-    → bytes ≡ take (length carried + count) (take most (put_mid (length carried) place whole buffer ++ more)) → Follows old new carried room bytes
-followed old new carried whole buffer bytes more room space place most count fills long spacious placed whole_most all first are =
+-- what stood in a vector before it was filled up
+pub kept : (at long : ℕ) (old new more : List ℕ) → length old ≡ at → at ≤ long → new ≡ take long old ++ more → take at new ≡ old
+kept at long old new more first longer is =
+    ap (take at) (is ∙ ap (λ (front : List ℕ). front ++ more) (take_all long old (omega (arith, first, longer)))) ∙ take_at old more at first
+
+-- what stood in a vector up to a place, and after it what the reader gave next, where the vector was cut after them
+pub followed : (old new : Option (List ℕ)) (carried whole buffer bytes more : List ℕ) (at room space place most count : ℕ) → Fills old new buffer space (Ok count) → length buffer ≡ space
+    → space ≡ room → place ≡ room → most ≡ length whole → length whole ≡ at + room → take at whole ≡ carried
+    → bytes ≡ take (at + count) (take most (put_mid at place whole buffer ++ more)) → Follows old new carried room bytes
+followed old new carried whole buffer bytes more at room space place most count fills long spacious placed whole_most all first are =
     let some : length (take count buffer) ≡ count = length-take-le count buffer (omega (arith, fills.0, long)) in
-    let filled = put_mid (length carried) place whole buffer in
-    let full : length filled ≡ length whole = filled_long (length carried) place whole buffer (omega (arith, placed, all)) (omega (arith, long, spacious, placed)) in
+    let filled = put_mid at place whole buffer in
+    let full : length filled ≡ length whole = filled_long at place whole buffer (omega (arith, placed, all)) (omega (arith, long, spacious, placed)) in
     record {
       given = take count buffer;
       gave = fills.1;
       within = omega (arith, some, fills.0, spacious);
       ended = λ few. fills.2 (omega (arith, some, few, spacious));
-      are = are ∙ take-take (length carried + count) most (filled ++ more) (omega (arith, all, fills.0, spacious, whole_most)) ∙ take-append-le (length carried + count) filled more (omega (arith, full, all, fills.0, spacious))
-          ∙ filled_more (length carried) place count whole buffer (omega (arith, all)) (omega (arith, fills.0, long)) ∙ ap (λ (front : List ℕ). front ++ take count buffer) first;
+      are = are ∙ take-take (at + count) most (filled ++ more) (omega (arith, all, fills.0, spacious, whole_most)) ∙ take-append-le (at + count) filled more (omega (arith, full, all, fills.0, spacious))
+          ∙ filled_more at place count whole buffer (omega (arith, all)) (omega (arith, fills.0, long)) ∙ ap (λ (front : List ℕ). front ++ take count buffer) first;
     }

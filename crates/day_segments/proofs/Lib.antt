@@ -1,4 +1,5 @@
 mod Filled
+mod Joined
 mod Carried
 pub mod Following
 mod FurtherReading

@@ -1,5 +1,5 @@
 -- What is known after a segment, and at the end of a file, for loops over segments.
-use Rattle.std.proofs.Common.{◌≡◌, ℕ, ◌+◌, ◌≤◌, List, length, subst, ap, arith}
+use Rattle.std.proofs.Common.{◌≡◌, ℕ, ◌+◌, ◌≤◌, List, length, subst, arith}
 use Rattle.std.specs.Prelude.{MatchOption, None, Option, Some}
 use Rattle.binaryfile.specs.Devices.{GaveUpTo}
 use Rattle.binaryfile.specs.Entries.{Contents}

@@ -1,17 +1,18 @@
 -- A file that is read segment by segment. All is of this project.
 use Rattle.std.specs.Prelude.{◌≡◌, ◌+◌, ◌<◌, ◌≤◌, ◌^◌, ◌++◌, ℕ, Bool, true, false, List, [], length, Option}
-use Rattle.std.specs.Io.KnownBytes.{Consumes}
+use Rattle.std.specs.Io.KnownBytes.{Consumes, IsAtEnd}
 use Rattle.byte_strings.specs.Bytes.{AreBytes}
 use Rattle.binaryfile.specs.Devices.{GaveAll}
 use Rattle.binaryfile.specs.Entries.{Contents, Splits}
 use Rattle.day_segments.specs.Segments.{carry_after}
 
--- how far a file was read: what is carried over to the next segment, how many bytes and messages were read, and how many
--- bytes the file may have
+-- how far a file was read: what is carried over to the next segment, how many bytes and messages were read, how many bytes
+-- a segment takes, and how many the file may have
 pub record Reading : Type 0 where
   pub carried : List ℕ
   pub given : ℕ
   pub messages : ℕ
+  pub size : ℕ
   pub most : ℕ
 
 -- no more than an entry is carried over, and each message took a byte at least; a segment takes this many bytes
@@ -42,7 +43,8 @@ followed_by before segment = record {
 
 -- the reader gave so many bytes from the start on, which are split into these contents, and this is carried over to the
 -- next segment
-pub record IsReadTo (start now : Option (List ℕ)) (contents : Contents) (carried : List ℕ) (given : ℕ) : Type 0 where
+pub record IsReadTo (start now : Option (List ℕ)) (contents : Contents) (carried : List ℕ)
+    (given : ℕ) : Type 0 where
   pub bytes : List ℕ
   pub gave : Consumes start now bytes
   pub are : AreBytes bytes
@@ -56,10 +58,14 @@ pub record HasRead (start now : Option (List ℕ)) (contents : Contents) (readin
   pub messages_are : reading.messages ≡ length contents.payloads
   pub within : reading.given ≤ reading.most
 
--- what was carried over and the bytes that the reader gave next are split into this segment
-pub record Continues (old new : Option (List ℕ)) (carried : List ℕ) (segment : Contents) : Type 0 where
+-- what was carried over and the bytes that the reader gave next are split into this segment: so many bytes, and fewer only
+-- where the reader has ended
+pub record Continues (old new : Option (List ℕ)) (carried : List ℕ) (size : ℕ)
+    (segment : Contents) : Type 0 where
   pub bytes : List ℕ
   pub gave : Consumes old new bytes
+  pub fits : length bytes ≤ size
+  pub full : length bytes < size → IsAtEnd new
   pub split : Splits (carried ++ bytes) segment
 
 -- the reader gave a whole file of no more than so many bytes, with these contents

@@ -32,7 +32,8 @@ carry_after contents = carry_by contents.marked contents.tail
 -- a segment: what was carried over from the one before, and the bytes that the reader gave next, are split into these
 -- contents. There is one such byte at least, no more than `most`, and as many as `size` says unless the reader has
 -- ended.
-pub record IsSegment (old new : Option (List ℕ)) (carried : List ℕ) (size most : ℕ) (contents : Contents) : Type 0 where
+pub record IsSegment (old new : Option (List ℕ)) (carried : List ℕ) (size most : ℕ)
+    (contents : Contents) : Type 0 where
   pub bytes : List ℕ
   pub gave : Consumes old new bytes
   pub some : 0 < length bytes

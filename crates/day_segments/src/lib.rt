@@ -4,7 +4,7 @@
 //! entry that is cut between two segments is in the second, and after an end marker there are no entries.
 //!
 //! ```rust
-//! let mut reader = SegmentReader::new(alloc, 1 << 20, MOST);
+//! let mut reader = SegmentReader::new(alloc, SEGMENT_BYTES, MOST);
 //! while let Some(segment) = reader.next(alloc, &mut feed)? {
 //!     for payload in segment.payloads() {
 //!         take(payload);
@@ -20,4 +20,4 @@
 mod reading;
 mod segment_reader;
 
-pub use segment_reader::SegmentReader;
+pub use segment_reader::{SEGMENT_BYTES, SegmentReader};

@@ -1,5 +1,5 @@
 //! Reading the next segment of a file.
-ghost use Rattle.std.specs.Prelude.{◌≡◌, ◌≢◌, ◌≤◌, ◌<◌, ◌⊎◌, ◌+◌, ◌^◌, ◌↔◌, Err, IfErr, IfOk, IsErrOf, MatchOption, [], false, length, take};
+ghost use Rattle.std.specs.Prelude.{◌≡◌, ◌≢◌, ◌≤◌, ◌<◌, ◌⊎◌, ◌+◌, ◌^◌, ◌↔◌, Err, IfErr, IfOk, IsErrOf, MatchOption, OnOk, [], false, length};
 ghost use Rattle.std.specs.Io.KnownBytes.{Consumes, IsAtEnd};
 ghost use Rattle.binaryfile.specs.Devices.{GaveAll, GaveMore, GaveUpTo, HasFailed};
 ghost use Rattle.day_segments.specs.Segments.{Fills, Follows, IsSegment, carry_after};
@@ -7,6 +7,9 @@ ghost use Rattle.day_segments.specs.Segments.{Fills, Follows, IsSegment, carry_a
 use binaryfile::{Day, Feed, LoadFault};
 use std::alloc::{AllocError, Allocator};
 use std::io::Read;
+
+// How many bytes of a segment are read at a time.
+const PIECE: usize = 1 << 18;
 
 // Fills a buffer with what the feed gives next, and returns how many bytes came: fewer than it has room for only at the
 // end of the input.
@@ -29,26 +32,35 @@ fn fill<R: Read>(feed: &mut Feed<R>, buffer: &mut [u8]) -> Result<usize, LoadFau
     Ok(at)
 }
 
-// These bytes, and room for more after them.
-fn with_room<A: Allocator>(alloc: A, first: &[u8], room: usize) -> Result<Vec<u8, A>, AllocError>
-    requires { length first.now + room < 2 ^ 32 }
-    ensures long { IfOk result (λ bytes. length bytes.items ≡ length first.now + room) }
-    ensures first { IfOk result (λ bytes. take (length first.now) bytes.items ≡ first.now) }
+// Adds to these bytes what the feed gives next, as far as it fits so much room.
+fn add_next<R: Read, A: Allocator>(
+    feed: &mut Feed<R>,
+    bytes: &mut Vec<u8, A>,
+    room: usize,
+) -> Result<(), LoadFault>
+    requires few { length bytes.old.items + room < 2 ^ 32 }
+    requires working { feed.old.failed ≡ false }
+    ensures bytes { OnOk result (Follows (R.remaining feed.old.device) (R.remaining feed.new.device)
+        bytes.old.items room bytes.new.items) }
+    ensures taken { GaveUpTo (R.remaining feed.old.device) (R.remaining feed.new.device) room }
+    ensures failed { IsErrOf result LoadFault.Read ↔ HasFailed feed.new }
+    ensures only { IfErr result (λ fault. (fault ≡ LoadFault.Read) ⊎ (fault ≡ LoadFault.Memory)) }
 {
-    let mut bytes = Vec::with_capacity(alloc, first.len() + room)?;
-    bytes.extend_from_slice(first)?;
-    bytes.resize(first.len() + room, 0)?;
-    Ok(bytes)
+    let before = bytes.len();
+    bytes.resize(before + room, 0)?;
+    let came = fill(feed, &mut bytes[before..])?;
+    bytes.truncate(before + came);
+    Ok(())
 }
 
-// What is carried over to a segment, and after it what the feed gives next, as far as there is room for it.
+// What is carried over to a segment, and after it what the feed gives next, as far as there is room for it. It is read
+// piece by piece, so that a short file doesn't pay for the memory of a whole segment.
 fn next_bytes<R: Read, A: Allocator>(
     alloc: A,
     feed: &mut Feed<R>,
     carried: &[u8],
     room: usize,
 ) -> Result<Vec<u8, A>, LoadFault>
-    requires room { 0 < room }
     requires few { length carried.now + room < 2 ^ 32 }
     requires working { feed.old.failed ≡ false }
     ensures bytes { IfOk result (λ bytes. Follows (R.remaining feed.old.device) (R.remaining feed.new.device)
@@ -57,9 +69,18 @@ fn next_bytes<R: Read, A: Allocator>(
     ensures failed { IsErrOf result LoadFault.Read ↔ HasFailed feed.new }
     ensures only { IfErr result (λ fault. (fault ≡ LoadFault.Read) ⊎ (fault ≡ LoadFault.Memory)) }
 {
-    let mut bytes = with_room(alloc, carried, room)?;
-    let came = fill(feed, &mut bytes[carried.len()..])?;
-    bytes.truncate(carried.len() + came);
+    let mut bytes = Vec::with_capacity(alloc, carried.len() + room)?;
+    bytes.extend_from_slice(carried)?;
+    let mut left = room;
+    'pieces: while left > 0 {
+        let before = bytes.len();
+        let piece = left.min(PIECE);
+        add_next(feed, &mut bytes, piece)?;
+        if bytes.len() - before < piece {
+            return Ok(bytes);
+        }
+        left -= piece;
+    }
     Ok(bytes)
 }
 

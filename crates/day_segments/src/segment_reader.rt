@@ -10,8 +10,11 @@ use std::alloc::Allocator;
 use std::io::Read;
 use std::marker::Model;
 
+/// How many bytes a segment takes, for a caller who has no reason for another number.
+pub const SEGMENT_BYTES: u32 = 1 << 20;
+
 /// How far a day file was read, segment by segment. It is seen as what is carried over to the next segment, how many bytes
-/// and messages were read, and how many bytes the file may have.
+/// and messages were read, how many bytes a segment takes, and how many the file may have.
 #[derive(Drop)]
 pub struct SegmentReader<A: Allocator> {
     // The bytes of an entry that the last segment has only in part, or an end marker.
@@ -32,6 +35,7 @@ impl<A: Allocator> Model for SegmentReader<A> {
       carried = r.carried.items;
       given = r.given;
       messages = r.messages;
+      size = r.size;
       most = r.most;
     } };
 
@@ -45,6 +49,7 @@ impl<A: Allocator + Copy> SegmentReader<A> {
         requires size { (0 < size) × (size ≤ 2 ^ 30) }
         requires most { most ≤ 2 ^ 40 }
         ensures read { (start : Option (List ℕ)) → HasRead start start nothing_read result }
+        ensures size { result.size ≡ size }
         ensures most { result.most ≡ most }
     {
         SegmentReader {
@@ -74,6 +79,7 @@ impl<A: Allocator + Copy> SegmentReader<A> {
             → MatchOption found
             (IsWholeFile start (R.remaining feed.new.device) self.old.most before)
             (λ segment. HasRead start (R.remaining feed.new.device) (followed_by before segment) self.new)) }
+        ensures size { self.new.size ≡ self.old.size }
         ensures most { self.new.most ≡ self.old.most }
         ensures further { IfOk result (λ found. MatchOption found
             (self.new ≡ self.old)
@@ -92,8 +98,8 @@ impl<A: Allocator + Copy> SegmentReader<A> {
             → HasRead start (R.remaining feed.old.device) before self.old
             → GaveUpTo start (R.remaining feed.new.device) (self.old.most + 1) }
         // What this call alone takes: a segment is split from what was carried over and from it.
-        ensures continues { IfOk result (λ found. IfSome found (
-            Continues (R.remaining feed.old.device) (R.remaining feed.new.device) self.old.carried)) }
+        ensures continues { IfOk result (λ found. IfSome found (Continues
+            (R.remaining feed.old.device) (R.remaining feed.new.device) self.old.carried self.old.size)) }
         ensures took { GaveUpTo (R.remaining feed.old.device) (R.remaining feed.new.device)
             (self.old.most - self.old.given + 1) }
         ensures took_more { IsErrOf result LoadFault.TooManyBytes

@@ -93,8 +93,11 @@ returns-clause-continues g c =
     let segment : Contents = c.in-Some.segment in
     let is = found (g.R.Read.remaining c.args.feed.now.device) (g.R.Read.remaining c.read_segment.new.feed.device) c.deref.result.now c.self.inside.size (c.self.inside.most - c.self.inside.given)
     _ segment c.in-Some.is (c.in_ok-segment.ensures {u = tt}).segment in
+    let size = ap (λ (r : Reading). r.size) c.self.view_is in
     record {
       bytes = is.bytes;
       gave = is.gave;
+      fits = omega (arith, is.fits, size);
+      full = λ few. is.full (omega (arith, few, size));
       split = subst (λ (carried : List ℕ). Splits (carried ++ is.bytes) segment) (c.deref.ensures.value ∙ ap (λ (r : Reading). r.carried) c.self.view_is) is.split;
     }
