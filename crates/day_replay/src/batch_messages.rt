@@ -40,12 +40,21 @@ impl<A: Allocator> BatchMessages<A> {
         }
     }
 
-    /// Removes all messages, and keeps the memory.
-    pub fn clear(&mut self)
+    /// Removes all messages. The memory is kept, or given back.
+    pub fn clear(&mut self, keep: bool)
         ensures { self.new ≡ [] }
     {
         self.numbers.clear();
         self.bytes.clear();
+        if !keep {
+            self.numbers.shrink_to_fit();
+            self.bytes.shrink_to_fit();
+        }
+    }
+
+    /// For how many bytes of entries there is memory.
+    pub fn room(&self) -> usize {
+        self.bytes.capacity()
     }
 
     /// Adds a copy of a message. An error says that memory was refused.

@@ -11,6 +11,12 @@ use itch_table::{Part, part};
 use std::alloc::{AllocError, Allocator};
 use std::marker::Model;
 
+// How many times the bytes of a segment the buffers of its entries may have room for, before their memory is given back.
+const MOST_ROOM: usize = 8;
+
+// A segment of fewer bytes counts as one of so many, since 128 buffers are larger than their entries then.
+const LEAST_BYTES: usize = 1 << 20;
+
 /// The messages of a segment of a day, dealt to the batches of their stocks: for each batch copies of its messages, and
 /// what is known of those of no stock. It is seen as these.
 ///
@@ -53,12 +59,21 @@ impl<A: Allocator> DealtSegment<A> {
         })
     }
 
-    // Removes all messages, and keeps the memory.
-    fn clear(&mut self)
+    // For how many bytes of entries its batches have memory.
+    fn room(&self) -> usize {
+        let mut room = 0usize;
+        for batch in &self.batches {
+            room = room.saturating_add(batch.room());
+        }
+        room
+    }
+
+    // Removes all messages. The memory is kept, or given back.
+    fn clear(&mut self, keep: bool)
         ensures { (before : ℕ) → before < 2 ^ 32 → IsDealt before [] self.new }
     {
         for batch in 0..BATCHES {
-            self.batches[batch].clear();
+            self.batches[batch].clear(keep);
         }
         self.no_stock.clear();
         self.messages = 0;
@@ -84,17 +99,18 @@ impl<A: Allocator> DealtSegment<A> {
         Ok(())
     }
 
-    /// Deals the messages of a segment in place of those that it had, whose memory it keeps. `before` is how many
-    /// messages of the day come before the segment; with it the day has fewer than 2^32.
+    /// Deals the messages of a segment in place of those that it had. `before` is how many messages of the day come before
+    /// the segment; with it the day has fewer than 2^32. The memory of its buffers is kept, unless they have grown to far
+    /// more than the segment needs, as they do where the messages of a segment are of other stocks than those before.
     ///
     /// An error says that memory was refused. Then it may hold anything, and a segment can be dealt to it anew.
     pub fn deal(&mut self, before: u32, segment: &Day<A>) -> Result<(), AllocError>
         requires few { before + length segment.now.payloads < 2 ^ 32 }
         ensures dealt { OnOk result (IsDealt before segment.now.payloads self.new) }
     {
-        self.clear();
-        // For the proof alone: it says that each is the payload of an entry.
-        let _bytes = segment.bytes();
+        // The bytes also say, for the proof, that each is the payload of an entry.
+        let bytes = segment.bytes().len().max(LEAST_BYTES);
+        self.clear(self.room() / MOST_ROOM <= bytes);
         for payload in segment.payloads() {
             self.push(before, payload)?;
         }

@@ -16,7 +16,7 @@
 //! ```
 //!
 //! Dealing is apart from replaying, so that a caller may deal the next segment into a second [`DealtSegment`] while the
-//! one before it is replayed, by `std::thread::join`.
+//! one before it is replayed, by `std::thread::join_mut`.
 //!
 //! The effects of messages are those of Nasdaq TotalView-ITCH 5.0; segments and batches are of this project. An
 //! `AllocError` says that memory was refused.

@@ -14,15 +14,16 @@ use Rattle.file_replay.specs.declared.file_end.FileEnd.{FileEnd}
 use Rattle.file_replay.specs.declared.replaying.FileSummary.{FileSummary}
 
 -- a file was read so far, and ends so as far as it was read
-pub record IsSoFar (start now : Option (List ℕ)) (contents : Contents) (reading : Reading) (end : FileEnd) : Type 0 where
+pub record IsSoFar (start now : Option (List ℕ)) (contents : Contents) (reading : Reading)
+    (end : FileEnd) : Type 0 where
   pub read : HasRead start now contents reading
   pub marked_is : end.marked ≡ contents.marked
   pub tail_is : end.tail ≡ length contents.tail
 
 -- a segment more was read of a file with these contents, and its messages are dealt; with them there are no more than so
 -- many
-pub record IsFurther (start now : Option (List ℕ)) (messages : ℕ) (before : Contents) (reading : Reading) (end : FileEnd)
-    (dealt : Dealt) : Type 0 where
+pub record IsFurther (start now : Option (List ℕ)) (messages : ℕ) (before : Contents) (reading : Reading)
+    (end : FileEnd) (dealt : Dealt) : Type 0 where
   pub segment : Contents
   pub so_far : IsSoFar start now (followed_by before segment) reading end
   pub dealt_is : IsDealt (length before.payloads) segment.payloads dealt
@@ -31,7 +32,8 @@ pub record IsFurther (start now : Option (List ℕ)) (messages : ℕ) (before : 
 -- what comes after these contents of a file: a segment more, or its end
 abbrev pub Next : Option (List ℕ) → Option (List ℕ) → ℕ → Contents → Reading → Dealt → Option FileEnd → Type 0
 Next start now messages before reading dealt None = IsWholeFile start now reading.most before
-Next start now messages before reading dealt (Some end) = IsFurther start now messages before reading end dealt
+Next start now messages before reading dealt (Some end) =
+    IsFurther start now messages before reading end dealt
 
 -- why a file that may have so many bytes and messages isn't replayed
 abbrev pub Stops : Option (List ℕ) → Option (List ℕ) → ℕ → ℕ → LoadFault → Type 0
@@ -43,8 +45,9 @@ Stops start now bytes messages TooManyMessages =
 
 -- the next segment of a file that ends so as far as it was read is read and dealt, or the file was read whole, or it stops:
 -- what the feed, the reader and the dealt messages were before, and are then
-pub record DealsNext {R : Type 0} (left : R → Option (List ℕ)) (messages : ℕ) (end : FileEnd) (feed fed : Device R)
-    (old new : Reading) (dealt : Dealt) (result : Result (Option FileEnd) LoadFault) : Type 0 where
+pub record DealsNext {R : Type 0} (left : R → Option (List ℕ)) (messages : ℕ) (end : FileEnd)
+    (feed fed : Device R) (old new : Reading) (dealt : Dealt)
+    (result : Result (Option FileEnd) LoadFault) : Type 0 where
   pub next : IfOk result (λ found. (start : Option (List ℕ)) (before : Contents)
       → IsSoFar start (left feed.device) before old end
       → Next start (left fed.device) messages before new dealt found)
@@ -74,12 +77,14 @@ GoesOn old new dealt result =
 pub record IsFileSummary {A : Type 0} (contents : Contents) (made : FileSummary A) : Type 0 where
   pub count_is : made.summary.messages ≡ length contents.payloads
   pub passed_is : made.summary.passed ≡ count_by is_passed (outcomes contents.payloads)
-  pub summary : IsSummary contents.payloads made.summary.refused.items made.summary.stocks.items made.summary.event
+  pub summary : IsSummary contents.payloads made.summary.refused.items made.summary.stocks.items
+      made.summary.event
   pub marked_is : made.marked ≡ contents.marked
   pub tail_is : made.tail ≡ length contents.tail
 
 -- the reader gave a whole file, of no more than so many bytes and messages, and this is what it makes
-pub record IsReplayedFile {A : Type 0} (start now : Option (List ℕ)) (bytes messages : ℕ) (made : FileSummary A) : Type 0
+pub record IsReplayedFile {A : Type 0} (start now : Option (List ℕ)) (bytes messages : ℕ)
+    (made : FileSummary A) : Type 0
   where
     pub contents : Contents
     pub whole : IsWholeFile start now bytes contents

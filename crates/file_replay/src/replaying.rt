@@ -20,6 +20,10 @@ use std::io::Read;
 use std::mem;
 use std::thread::{Threads, join_mut};
 
+/// How many bytes a segment takes, for a caller who has no reason for another number: shorter segments take longer, and
+/// longer ones gain nothing.
+pub const REPLAY_SEGMENT_BYTES: u32 = 1 << 24;
+
 /// What a whole file makes, in short.
 #[derive(Drop)]
 pub struct FileSummary<A: Allocator> {
@@ -71,8 +75,8 @@ fn go_on<T: Threads + Sync, A: Allocator + Copy + Send + Sync, R: Read + Send>(
     join_mut(rt, &mut work, &mut read)
 }
 
-/// Replays a day file by at most so many threads, while one more reads it. `segment` is how many bytes are read at a time,
-/// 1 to 2^30. `progress` is told after each segment how far it is.
+/// Replays a day file by at most so many threads, while one more reads it. `segment` is how many bytes a segment takes, 1 to
+/// 2^30. `progress` is told after each segment how far it is.
 ///
 /// No file is refused for its form. In the course of reading the first of these is returned: [`LoadFault::Read`] where the
 /// feed fails (at once, and with no memory, where it had failed before), [`LoadFault::Memory`] where memory is refused,

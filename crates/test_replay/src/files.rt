@@ -32,17 +32,22 @@ fn file_of<A: Allocator + Copy>(alloc: A, day: &Day<A>) -> Result<Vec<u8, A>, Fa
     Ok(file)
 }
 
-// Knows how far it was told last that a replay is.
+// Knows how often it was told how far a replay is, how often it was told less than before, and what it was told last.
 #[derive(Drop)]
 struct Told {
+    calls: AtomicU64,
+    falls: AtomicU64,
     messages: AtomicU64,
     bytes: AtomicU64,
 }
 
 impl Progress for Told {
     fn at(&self, messages: u32, bytes: u64) {
-        self.messages.store(u64::from(messages), Ordering::SeqCst);
-        self.bytes.store(bytes, Ordering::SeqCst);
+        self.calls.fetch_add(1, Ordering::SeqCst);
+        let before = self.messages.swap(u64::from(messages), Ordering::SeqCst);
+        if before > u64::from(messages) || self.bytes.swap(bytes, Ordering::SeqCst) > bytes {
+            self.falls.fetch_add(1, Ordering::SeqCst);
+        }
     }
 }
 
@@ -76,6 +81,8 @@ fn compare<T: Threads + Sync, A: Allocator + Copy + Send + Sync>(
     threads: u32,
 ) -> Result<(), Fail> {
     let told = Told {
+        calls: AtomicU64::new(0),
+        falls: AtomicU64::new(0),
         messages: AtomicU64::new(0),
         bytes: AtomicU64::new(0),
     };
@@ -92,6 +99,19 @@ fn compare<T: Threads + Sync, A: Allocator + Copy + Send + Sync>(
     )?;
     let messages = told.messages.load(Ordering::SeqCst);
     let bytes = told.bytes.load(Ordering::SeqCst);
+    let size = u64::from(segment);
+    let segments = (file.len() as u64)
+        .saturating_add(size.saturating_sub(1))
+        .checked_div(size)
+        .unwrap_or(0);
+    same(
+        "how often it was told, once for each segment, and how often less than before",
+        &(
+            told.calls.load(Ordering::SeqCst),
+            told.falls.load(Ordering::SeqCst),
+        ),
+        &(segments, 0),
+    )?;
     same(
         "how far it was at last",
         &(messages, bytes),
@@ -176,12 +196,13 @@ fn a_file_has_no_more_than_its_limits(rt: HostRuntime) -> Result<(), Fail> {
     Ok(())
 }
 
-// The first read that fails stops it, and the reader isn't asked again.
+// The first read that fails stops it, and the reader isn't asked again. Of 227 bytes in segments of 60 and pieces of 30,
+// eight calls give some; two more give the end, in the last segment and after it.
 #[test]
 fn a_file_stops_where_its_feed_fails(rt: HostRuntime) -> Result<(), Fail> {
     let alloc = rt.alloc();
     let file = file_of(alloc, &two_stocks(alloc)?)?;
-    for call in 1..10u64 {
+    for call in 1..=10u64 {
         let mut pieces = Pieces::failing(&file, 30, call, ErrorKind::Interrupted);
         let mut feed = Feed::new(&mut pieces);
         let fault = replay(&rt, alloc, &mut feed, MOST, 60, 2, &Silent)?.err();
@@ -192,17 +213,18 @@ fn a_file_stops_where_its_feed_fails(rt: HostRuntime) -> Result<(), Fail> {
     Ok(())
 }
 
-// Replays a file under a refusal. Where it is refused, the fault says so, and the feed hasn't failed.
+// Replays a file of several segments under a refusal. Where it is refused, the fault says so, and the feed hasn't failed.
 fn try_file<T: Threads + Sync>(
     rt: &T,
     heap: &Refusing<Global>,
+    threads: u32,
     refusal: Refusal,
 ) -> Result<Tried, Fail> {
     let day = two_stocks(heap)?;
     let file = file_of(heap, &day)?;
     let mut feed = Feed::new(file.as_slice());
     heap.restart(refusal);
-    let made = replay(rt, heap, &mut feed, MOST, 300, 1, &Silent)?;
+    let made = replay(rt, heap, &mut feed, MOST, 60, threads, &Silent)?;
     let tried = heap.tried(made.is_err());
     same("a feed", &(refusal, feed.failed()), &(refusal, false))?;
     match made {
@@ -215,6 +237,10 @@ fn try_file<T: Threads + Sync>(
 #[test]
 fn a_file_without_memory_makes_nothing(rt: HostRuntime) -> Result<(), Fail> {
     let heap = Refusing::new(rt.alloc(), Refusal::Never);
-    refuse_each(|refusal: Refusal| -> Result<Tried, Fail> { try_file(&rt, &heap, refusal) })?;
+    for threads in [1, 2] {
+        refuse_each(|refusal: Refusal| -> Result<Tried, Fail> {
+            try_file(&rt, &heap, threads, refusal)
+        })?;
+    }
     Ok(())
 }
