@@ -1,5 +1,5 @@
 -- What is written so far, by how much of a file is written.
-use Rattle.std.proofs.Common.{◌≡◌, ℕ, ◌-◌, ◌^◌, ◌≤◌, true, false, List, [], ◌++◌, length, None, Some, refl, sym, subst, ap, ◌∙◌, append-nil, arith}
+use Rattle.std.proofs.Common.{◌≡◌, ◌⊎◌, ℕ, ◌-◌, ◌^◌, ◌≤◌, true, false, List, [], ◌++◌, length, None, Some, refl, sym, subst, ap, ◌∙◌, append-nil, arith}
 use Rattle.std.proofs.Math.Dec.{leb}
 use Rattle.std.proofs.lemmas.Bool.{false≢true, le-leb, leb-true}
 use Rattle.std.specs.Prelude.{Option}
@@ -11,7 +11,7 @@ use Rattle.day_segments.proofs.Following.{every_file_goes_on}
 use Rattle.itch_print.specs.Disassembly.{lines_between}
 use Rattle.itch_print.proofs.PrintedFiles.{disassembly_denotes}
 use Rattle.itch_dis.specs.Extents.{closing_text, printer_of, segment_text}
-use Rattle.itch_dis.specs.Printers.{PrintsEnough, last_number}
+use Rattle.itch_dis.specs.Printers.{NeedsLast, PrintsEnough, last_number}
 use Rattle.itch_dis.specs.TextEnds.{added_by, text_end_of}
 use Rattle.itch_dis.specs.declared.extent.Extent.{Extent}
 use Rattle.itch_dis.specs.declared.extent.Extent.TheVariants.{Whole, Messages}
@@ -63,9 +63,9 @@ same_text (Messages first last) c next suffices =
     ∙ ap (λ (back : List ℕ). lines_between c first (last_number last) ++ back) (no_more_lines next (first - length c.payloads) (last_number last - length c.payloads) (omega (arith, number, suffices.reached)))
     ∙ append-nil (lines_between c first (last_number last)))
 
-pub prints_enough : (extent : Extent) (start now taken taken_now : Option (List ℕ)) (reading : Reading) (before : IsPrintedTo (so_far_of extent) start now reading taken taken_now) → (printer_of extent).Suffices reading.messages
-    → PrintsEnough (printer_of extent) (traffic start now taken taken_now)
-prints_enough extent start now taken taken_now reading before suffices =
+pub prints_enough : (extent : Extent) (segment : ℕ) (start now taken taken_now : Option (List ℕ)) (reading : Reading) (before : IsPrintedTo (so_far_of extent) start now reading taken taken_now)
+    → (now ≡ start) ⊎ NeedsLast (printer_of extent) start now segment → (printer_of extent).Suffices reading.messages → PrintsEnough (printer_of extent) segment (traffic start now taken taken_now)
+prints_enough extent segment start now taken taken_now reading before needed suffices =
     let c = before.contents in
     let enough = subst (printer_of extent).Suffices before.read.messages_are suffices in
     record {
@@ -74,6 +74,7 @@ prints_enough extent start now taken taken_now reading before suffices =
       gave = before.read.read.gave;
       split = before.read.read.split;
       suffices = enough;
+      needed = needed;
       written = so_far_of extent c;
       wrote = before.wrote;
       every = λ rest whole are split.

@@ -75,12 +75,12 @@ works_after made F was = λ f. let e = was.1 f in absurd cc
 pub worked : (failed : Bool) → false ≡ failed → ¬ IsTrue failed
 worked failed is has = false≢true (is ∙ has)
 
-module _ {R W : Type 0} (printer : Printer) (left : R → Option (List ℕ)) (taken : W → Option (List ℕ)) (feed fed : Device R) (sink sent : Device W) where
+module _ {R W : Type 0} (printer : Printer) (segment : ℕ) (left : R → Option (List ℕ)) (taken : W → Option (List ℕ)) (feed fed : Device R) (sink sent : Device W) where
   pub faulted : (result : Result (Unit {0}) ProgFault) (fault : ProgFault) → result ≡ Err fault → StopsPrinting printer (traffic_of left taken feed fed sink sent) fault
       → GaveUpTo (left feed.device) (left fed.device) (2 ^ 40 + 1) → (fault ≡ Read → HasFailed fed) → (HasFailed fed → fault ≡ Read) → (fault ≡ Write → HasFailed sent)
-      → (HasFailed feed → fed ≡ feed) → (HasFailed sink → sent ≡ sink) → Prints printer left taken feed fed sink sent result
+      → (HasFailed feed → fed ≡ feed) → (HasFailed sink → sent ≡ sink) → Prints printer segment left taken feed fed sink sent result
   faulted result fault is stops took read failed write feed_stays sink_stays =
-      subst (Prints printer left taken feed fed sink sent) (sym is) (record {
+      subst (Prints printer segment left taken feed fed sink sent) (sym is) (record {
         ends = stops;
         takes_at_most = took;
         read = (λ e. read cc, λ f. ap Err (failed f));
@@ -89,8 +89,8 @@ module _ {R W : Type 0} (printer : Printer) (left : R → Option (List ℕ)) (ta
         sink_for_good = sink_stays;
       })
 
-  pub finished : Ends printer (traffic_of left taken feed fed sink sent) (Ok tt) → GaveUpTo (left feed.device) (left fed.device) (2 ^ 40 + 1) → ¬ HasFailed fed
-      → (HasFailed feed → fed ≡ feed) → (HasFailed sink → sent ≡ sink) → Prints printer left taken feed fed sink sent (Ok tt)
+  pub finished : Ends printer segment (traffic_of left taken feed fed sink sent) (Ok tt) → GaveUpTo (left feed.device) (left fed.device) (2 ^ 40 + 1) → ¬ HasFailed fed
+      → (HasFailed feed → fed ≡ feed) → (HasFailed sink → sent ≡ sink) → Prints printer segment left taken feed fed sink sent (Ok tt)
   finished ends took works feed_stays sink_stays = record {
     ends = ends;
     takes_at_most = took;
@@ -101,7 +101,7 @@ module _ {R W : Type 0} (printer : Printer) (left : R → Option (List ℕ)) (ta
   }
 
   -- where the feed had failed before
-  pub refused : fed ≡ feed → sent ≡ sink → HasFailed fed → Prints printer left taken feed fed sink sent (Err Read)
+  pub refused : fed ≡ feed → sent ≡ sink → HasFailed fed → Prints printer segment left taken feed fed sink sent (Err Read)
   refused same_feed same_sink failed = faulted (Err Read) Read refl
       (subst (λ (fed : Device R). StopsPrinting printer (traffic_of left taken feed fed sink sent) Read) (sym same_feed)
       (subst (λ (sent : Device W). StopsPrinting printer (traffic_of left taken feed feed sink sent) Read) (sym same_sink) (record {

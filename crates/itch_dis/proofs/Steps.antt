@@ -13,7 +13,7 @@ use Rattle.itch_engine.specs.FaultOrigins.{fault_of_load}
 use Rattle.itch_engine.specs.declared.fault.ProgFault.{ProgFault}
 use Rattle.itch_engine.specs.declared.fault.ProgFault.TheVariants.{Memory, TooManyMessages, Write}
 use Rattle.itch_dis.specs.Extents.{closing_text, printer_of, segment_text}
-use Rattle.itch_dis.specs.Printers.{PrintsWhole, StopsPrinting}
+use Rattle.itch_dis.specs.Printers.{NeedsLast, PrintsWhole, StopsPrinting}
 use Rattle.itch_dis.specs.TextEnds.{text_end_after, text_end_of}
 use Rattle.itch_dis.specs.declared.extent.Extent.{Extent}
 use Rattle.itch_dis.specs.declared.text_end.TextEnd.{TextEnd}
@@ -43,7 +43,23 @@ module _ (extent : Extent) (start now taken taken_now : Option (List ℕ)) (read
       → Stops next taken_now (fault_of_load fault)
   next_halts = halts (printer_of extent) (so_far_of extent) (extent_leads extent) start now taken taken_now reading before.printed
 
-  module _ (next taken_next : Option (List ℕ)) (segment : Contents) (new : Reading) (read : HasRead start next (followed_by before.printed.contents segment) new) (continues : Continues now next reading.carried segment) where
+  -- a segment that is read where what was read before doesn't suffice
+  pub needs_last : (next : Option (List ℕ)) (segment : Contents) → Continues now next reading.carried reading.size segment → (size : ℕ) → reading.size ≡ size → ¬ (printer_of extent).Suffices reading.messages
+      → NeedsLast (printer_of extent) start next size
+  needs_last next segment continues size same unfinished = record {
+    between = now;
+    first = before.printed.read.read.bytes;
+    gave_first = before.printed.read.read.gave;
+    last = continues.bytes;
+    gave_last = continues.gave;
+    fits = omega (arith, continues.fits, same);
+    full = λ few. continues.full (omega (arith, few, same));
+    contents = before.printed.contents;
+    split = before.printed.read.read.split;
+    unfinished = subst (λ (n : ℕ). ¬ (printer_of extent).Suffices n) before.printed.read.messages_are unfinished;
+  }
+
+  module _ (next taken_next : Option (List ℕ)) (segment : Contents) (new : Reading) (read : HasRead start next (followed_by before.printed.contents segment) new) (continues : Continues now next reading.carried reading.size segment) where
     split : Splits (carry_after before.printed.contents ++ continues.bytes) segment
     split = subst (λ (carried : List ℕ). Splits (carried ++ continues.bytes) segment) before.printed.read.read.carry_is continues.split
 
@@ -107,5 +123,5 @@ module _ (extent : Extent) (start now taken taken_now : Option (List ℕ)) (read
   }
 
 -- a segment that was found
-pub continues_with : (now next : Option (List ℕ)) (carried : List ℕ) (found : Option Contents) (segment : Contents) → found ≡ Some segment → IfSome found (Continues now next carried) → Continues now next carried segment
-continues_with now next carried found segment is = subst (λ (found : Option Contents). IfSome found (Continues now next carried)) is
+pub continues_with : (now next : Option (List ℕ)) (carried : List ℕ) (size : ℕ) (found : Option Contents) (segment : Contents) → found ≡ Some segment → IfSome found (Continues now next carried size) → Continues now next carried size segment
+continues_with now next carried size found segment is = subst (λ (found : Option Contents). IfSome found (Continues now next carried size)) is

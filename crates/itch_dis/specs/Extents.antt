@@ -14,8 +14,10 @@ printer_of (Messages first last) = part_of_text first last
 
 -- of a segment, after so many messages, of a text whose end was written so far
 abbrev pub segment_text : Extent → ℕ → TextEnd → Contents → List ℕ
-segment_text Whole before end segment = lines_between segment 1 (2 ^ 32 - 1) ++ added_by end segment.marked segment.tail
-segment_text (Messages first last) before end segment = lines_between segment (first - before) (last_number last - before)
+segment_text Whole before end segment = lines_between segment 1 (2 ^ 32 - 1)
+    ++ added_by end segment.marked segment.tail
+segment_text (Messages first last) before end segment =
+    lines_between segment (first - before) (last_number last - before)
 
 -- after all segments, where these bytes are less than a whole entry
 abbrev pub closing_text : Extent → TextEnd → List ℕ → List ℕ

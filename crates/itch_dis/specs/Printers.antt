@@ -25,7 +25,8 @@ BeginsAll text given written =
     → IsPrefix written (text contents)
 
 -- The reader ended after these bytes, and what was written begins the text of their file.
-pub record BeginsOne (text : Contents → List ℕ) (after : Option (List ℕ)) (given written : List ℕ) : Type 0 where
+pub record BeginsOne (text : Contents → List ℕ) (after : Option (List ℕ))
+    (given written : List ℕ) : Type 0 where
   pub ended : IsAtEnd after
   pub contents : Contents
   pub split : Splits given contents
@@ -59,16 +60,33 @@ pub record PrintsWhole (printer : Printer) (traffic : Traffic) : Type 0 where
   pub denotes : printer.Denotes (printer.text contents) input
   pub wrote : Appends traffic.taken traffic.taken_after (printer.text contents)
 
--- The reader gave bytes whose messages suffice, and what was written is the text of every file that begins with them.
-pub record PrintsEnough (printer : Printer) (traffic : Traffic) : Type 0 where
+-- The reader gave these last bytes after others whose messages don't suffice: so many bytes, and fewer only where the reader
+-- has ended.
+pub record NeedsLast (printer : Printer) (old new : Option (List ℕ)) (size : ℕ) : Type 0 where
+  pub between : Option (List ℕ)
+  pub first : List ℕ
+  pub gave_first : Consumes old between first
+  pub last : List ℕ
+  pub gave_last : Consumes between new last
+  pub fits : length last ≤ size
+  pub full : length last < size → IsAtEnd new
+  pub contents : Contents
+  pub split : Splits first contents
+  pub unfinished : ¬ printer.Suffices (length contents.payloads)
+
+-- The reader gave bytes whose messages suffice, and what was written is the text of every file that begins with them. It
+-- gave none, or no more than a segment after those that don't suffice.
+pub record PrintsEnough (printer : Printer) (segment : ℕ) (traffic : Traffic) : Type 0 where
   pub given : List ℕ
   pub contents : Contents
   pub gave : Consumes traffic.left traffic.left_after given
   pub split : Splits given contents
   pub suffices : printer.Suffices (length contents.payloads)
+  pub needed : (traffic.left_after ≡ traffic.left) ⊎ NeedsLast printer traffic.left traffic.left_after segment
   pub written : List ℕ
   pub wrote : Appends traffic.taken traffic.taken_after written
-  pub every : (rest : List ℕ) (contents : Contents) → AreBytes (given ++ rest) → Splits (given ++ rest) contents
+  pub every : (rest : List ℕ) (contents : Contents) → AreBytes (given ++ rest)
+      → Splits (given ++ rest) contents
       → written ≡ printer.text contents
 
 -- The reader gave bytes that show the fault, and what was written is a beginning.
@@ -80,15 +98,15 @@ pub record StopsPrinting (printer : Printer) (traffic : Traffic) (fault : ProgFa
   pub wrote : Appends traffic.taken traffic.taken_after written
   pub begins : Begins printer.text traffic.left_after given written fault
 
-abbrev pub Ends : Printer → Traffic → Result (Unit {0}) ProgFault → Type 0
-Ends printer traffic (Ok _) = PrintsWhole printer traffic ⊎ PrintsEnough printer traffic
-Ends printer traffic (Err fault) = StopsPrinting printer traffic fault
+abbrev pub Ends : Printer → ℕ → Traffic → Result (Unit {0}) ProgFault → Type 0
+Ends printer segment traffic (Ok _) = PrintsWhole printer traffic ⊎ PrintsEnough printer segment traffic
+Ends printer segment traffic (Err fault) = StopsPrinting printer traffic fault
 
--- A run of the printer, from its feed and its sink as they were to what they are after it.
-pub record Prints {R W : Type 0} (printer : Printer)
+-- A run of the printer in segments of so many bytes, from its feed and its sink as they were to what they are after it.
+pub record Prints {R W : Type 0} (printer : Printer) (segment : ℕ)
     (left : R → Option (List ℕ)) (taken : W → Option (List ℕ))
     (feed fed : Device R) (sink sent : Device W) (result : Result (Unit {0}) ProgFault) : Type 0 where
-  pub ends : Ends printer (traffic_of left taken feed fed sink sent) result
+  pub ends : Ends printer segment (traffic_of left taken feed fed sink sent) result
   -- Whatever the result, no more is taken from the reader than the limit and one byte.
   pub takes_at_most : GaveUpTo (left feed.device) (left fed.device) (2 ^ 40 + 1)
   -- The fault is Read exactly where the feed has failed, and Write only where the sink has.

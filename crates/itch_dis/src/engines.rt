@@ -12,25 +12,22 @@ use itch_engine::limits::{MOST_FILE_BYTES, MOST_MESSAGES};
 use std::alloc::Allocator;
 use std::io::{Read, Write};
 
-/// How many bytes of a file are read at a time by a caller who has no reason for another number.
-pub const SEGMENT_BYTES: u32 = 1 << 20;
-
 // Reads a file, and writes so much of its text while it does.
 fn print<A: Allocator + Copy, R: Read, W: Write>(
     alloc: A,
     feed: &mut Feed<R>,
     sink: &mut Sink<W>,
-    segment: u32,
+    size: u32,
     extent: Extent,
 ) -> Result<(), ProgFault>
-    requires segment { (0 < segment) × (segment ≤ 2 ^ 30) }
-    ensures { Prints (printer_of extent) R.remaining W.contents
+    requires size { (0 < size) × (size ≤ 2 ^ 30) }
+    ensures { Prints (printer_of extent) size R.remaining W.contents
         feed.old feed.new sink.old sink.new result }
 {
     if feed.failed() {
         return Err(ProgFault::Read);
     }
-    let mut reader = SegmentReader::new(alloc, segment, MOST_FILE_BYTES);
+    let mut reader = SegmentReader::new(alloc, size, MOST_FILE_BYTES);
     let mut end = TextEnd::Open;
     'segments: while !extent.ends_within(reader.messages()) {
         let before = reader.messages() as u32;
@@ -49,8 +46,8 @@ fn print<A: Allocator + Copy, R: Read, W: Write>(
     Ok(())
 }
 
-/// Reads a day file and writes its text, which assembles to the very bytes of the file. `segment` is how many bytes are
-/// read at a time, 1 to 2^30; in memory are no more than a segment, an entry and their text.
+/// Reads a day file and writes its text, which assembles to the very bytes of the file. `segment` is how many bytes a segment
+/// takes, 1 to 2^30; in memory are no more than a segment, an entry and their text.
 ///
 /// The lines of a segment are sent before the next one is read. So after a fault what was sent is the beginning of a text:
 /// of that of every file that begins with the bytes that the reader gave, or, where the writer failed after the reader had
@@ -64,7 +61,7 @@ pub fn dis_stream_run<A: Allocator + Copy, R: Read, W: Write>(
     segment: u32,
 ) -> Result<(), ProgFault>
     requires segment { (0 < segment) × (segment ≤ 2 ^ 30) }
-    ensures { Prints whole_text R.remaining W.contents feed.old feed.new sink.old sink.new result }
+    ensures { Prints whole_text segment R.remaining W.contents feed.old feed.new sink.old sink.new result }
 {
     print(alloc, feed, sink, segment, Extent::Whole)
 }
@@ -84,7 +81,7 @@ pub fn dis_part_run<A: Allocator + Copy, R: Read, W: Write>(
     last: Option<u32>,
 ) -> Result<(), ProgFault>
     requires segment { (0 < segment) × (segment ≤ 2 ^ 30) }
-    ensures { Prints (part_of_text first last) R.remaining W.contents
+    ensures { Prints (part_of_text first last) segment R.remaining W.contents
         feed.old feed.new sink.old sink.new result }
 {
     print(alloc, feed, sink, segment, Extent::Messages { first, last })

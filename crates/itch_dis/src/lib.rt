@@ -23,4 +23,4 @@ mod engines;
 mod extent;
 mod text_end;
 
-pub use engines::{SEGMENT_BYTES, dis_part_run, dis_stream_run};
+pub use engines::{dis_part_run, dis_stream_run};

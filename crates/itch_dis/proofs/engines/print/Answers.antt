@@ -12,18 +12,20 @@ use Rattle.itch_dis.specs.Extents.{closing_text, printer_of, segment_text}
 use Rattle.itch_dis.specs.TextEnds.{text_end_after}
 use Rattle.itch_dis.proofs.Extended.{prints_enough}
 use Rattle.itch_dis.proofs.Results.{faulted, finished, load_no_write, many_no_read, many_no_write, memory_no_read, memory_no_write, read_of_load, refused, worked, works_after, write_no_read}
-use Rattle.itch_dis.proofs.Steps.{closes_without_memory, continues_with, disassembled_first, disassembled_on, disassembled_whole, next_halts, stops_at_many, stops_closing_lines, stops_without_memory, stops_writing, took_so_far, IsDisassembledTo}
+use Rattle.itch_dis.proofs.Steps.{closes_without_memory, continues_with, disassembled_first, disassembled_on, disassembled_whole, needs_last, next_halts, stops_at_many, stops_closing_lines, stops_without_memory, stops_writing, took_so_far, IsDisassembledTo}
 use Rattle.itch_dis.proofs.engines.print.Goals as goal
 
 pub returns-then-failed : goal.returns-then-failed
 returns-then-failed g c =
-    refused (printer_of c.args.extent) g.R.Read.remaining g.W.Write.contents c.args.feed.now c.args.feed.now c.args.sink.now c.args.sink.now refl refl (sym (c.if-failed.ensures {u = tt}))
+    refused (printer_of c.args.extent) c.args.size g.R.Read.remaining g.W.Write.contents c.args.feed.now c.args.feed.now c.args.sink.now c.args.sink.now refl refl (sym (c.if-failed.ensures {u = tt}))
 
 pub segments-init : goal.segments-init
 segments-init g c =
     let start = g.R.Read.remaining c.args.feed.now.device in
     record {
       so_far = disassembled_first c.args.extent start c.new-reader.result (g.W.Write.contents c.args.sink.now.device) (c.new-reader.ensures.read start) c.new-reader.ensures.most;
+      size = c.new-reader.ensures.size;
+      needed = inl refl;
       works = worked c.args.feed.now.failed (c.if-failed.ensures {u = tt});
       sink_for_good = λ _. refl;
     }
@@ -38,7 +40,7 @@ returns-in_err-segment g c =
     let fault = c.in_err-segment.field-0.0 in
     let same = err_from_is_err_and c.from_residual.result c.from_residual.ensures.1 in
     let read = read_of_load fault (HasFailed c.next.new.feed) c.next.result (c.in_err-segment.was {u = tt}) c.next.ensures.failed in
-    faulted (printer_of c.args.extent) left taken c.args.feed.now c.next.new.feed c.args.sink.now c.segments.sink c.from_residual.result (fault_of_load fault) (same.1 ∙ ap Err same.2)
+    faulted (printer_of c.args.extent) c.args.size left taken c.args.feed.now c.next.new.feed c.args.sink.now c.segments.sink c.from_residual.result (fault_of_load fault) (same.1 ∙ ap Err same.2)
     (next_halts c.args.extent start (left c.segments.feed.device) (taken c.args.sink.now.device) (taken c.segments.sink.device) c.segments.reader c.segments.end before (left c.next.new.feed.device) fault found.took (λ is. found.took_more (ap Err is)) (λ is. found.not_messages (ap Err is)))
     (took_within start (left c.next.new.feed.device) c.segments.reader.most (2 ^ 40) before.printed.most (c.next.ensures.taken start before.printed.contents before.printed.read))
     read.0 read.1 (λ e. absurd (load_no_write fault e)) (λ failed. absurd (worked c.args.feed.now.failed (c.if-failed.ensures {u = tt}) failed)) c.segments.invariant.sink_for_good
@@ -53,7 +55,7 @@ returns-in_err-text g c =
     let found = c.in_ok-segment.ensures {u = tt} in
     let whole = all_of_it start next c.segments.reader.most before.printed.contents c.next.new.self _ c.in_default.is (found.read start before.printed.contents before.printed.read) in
     let same = err_from_is_err_and c.from_residual-in_err-text.result c.from_residual-in_err-text.ensures.1 in
-    faulted (printer_of c.args.extent) left taken c.args.feed.now c.next.new.feed c.args.sink.now c.segments.sink c.from_residual-in_err-text.result Memory (same.1 ∙ ap Err same.2)
+    faulted (printer_of c.args.extent) c.args.size left taken c.args.feed.now c.next.new.feed c.args.sink.now c.segments.sink c.from_residual-in_err-text.result Memory (same.1 ∙ ap Err same.2)
     (closes_without_memory c.args.extent start (left c.segments.feed.device) (taken c.args.sink.now.device) (taken c.segments.sink.device) c.segments.reader c.segments.end before next (taken c.segments.sink.device) whole)
     (took_within start next c.segments.reader.most (2 ^ 40) before.printed.most (c.next.ensures.taken start before.printed.contents before.printed.read))
     (λ e. absurd (memory_no_read e)) (λ failed. absurd (works_after _ (HasFailed c.next.new.feed) found.failed failed)) (λ e. absurd (memory_no_write e))
@@ -74,7 +76,7 @@ returns-in_err-send g c =
     let count = c.in_err-send.field-0.0.written in
     let text : c.deref.result.now ≡ closing_text c.args.extent c.segments.end c.segments.reader.carried =
     c.deref.ensures.value ∙ c.in_ok-text.ensures {u = tt} ∙ ap (closing_text c.args.extent c.segments.end) (c.carried.ensures ∙ ap (λ (r : Reading). r.carried) rest) in
-    faulted (printer_of c.args.extent) left taken c.args.feed.now c.next.new.feed c.args.sink.now c.send.new.sink c.from_residual-in_err-send.result Write (same.1 ∙ ap Err same.2)
+    faulted (printer_of c.args.extent) c.args.size left taken c.args.feed.now c.next.new.feed c.args.sink.now c.send.new.sink c.from_residual-in_err-send.result Write (same.1 ∙ ap Err same.2)
     (stops_closing_lines c.args.extent start (left c.segments.feed.device) (taken c.args.sink.now.device) (taken c.segments.sink.device) c.segments.reader c.segments.end before next (taken c.send.new.sink.device) whole count
     (subst (λ (bytes : List ℕ). Appends (taken c.segments.sink.device) (taken c.send.new.sink.device) (take count bytes)) text sending.sent.1))
     (took_within start next c.segments.reader.most (2 ^ 40) before.printed.most (c.next.ensures.taken start before.printed.contents before.printed.read))
@@ -95,7 +97,7 @@ returns-in_default g c =
     let sending = c.in_ok-send.ensures {u = tt} in
     let text : c.deref.result.now ≡ closing_text c.args.extent c.segments.end c.segments.reader.carried =
     c.deref.ensures.value ∙ c.in_ok-text.ensures {u = tt} ∙ ap (closing_text c.args.extent c.segments.end) (c.carried.ensures ∙ ap (λ (r : Reading). r.carried) rest) in
-    finished (printer_of c.args.extent) left taken c.args.feed.now c.next.new.feed c.args.sink.now c.send.new.sink
+    finished (printer_of c.args.extent) c.args.size left taken c.args.feed.now c.next.new.feed c.args.sink.now c.send.new.sink
     (inl (disassembled_whole c.args.extent start (left c.segments.feed.device) (taken c.args.sink.now.device) (taken c.segments.sink.device) c.segments.reader c.segments.end before next (taken c.send.new.sink.device) whole
     (λ suffices. false≢true (sym c.segments-test.true ∙ c.ends_within.ensures.1 (subst (printer_of c.args.extent).Suffices (sym c.messages.ensures) suffices)))
     (subst (λ (bytes : List ℕ). Appends (taken c.segments.sink.device) (taken c.send.new.sink.device) bytes) text sending.sent)))
@@ -114,8 +116,8 @@ returns-then-messages-from g c =
     let found = c.in_ok-segment.ensures {u = tt} in
     let segment : Contents = c.in-Some.segment in
     let read = one_more start next c.segments.reader.most before.printed.contents c.next.new.self _ segment c.in-Some.is (found.read start before.printed.contents before.printed.read) in
-    let continues = continues_with (left c.segments.feed.device) next c.segments.reader.carried _ segment c.in-Some.is found.continues in
-    faulted (printer_of c.args.extent) left taken c.args.feed.now c.next.new.feed c.args.sink.now c.segments.sink (Err TooManyMessages) TooManyMessages refl
+    let continues = continues_with (left c.segments.feed.device) next c.segments.reader.carried c.segments.reader.size _ segment c.in-Some.is found.continues in
+    faulted (printer_of c.args.extent) c.args.size left taken c.args.feed.now c.next.new.feed c.args.sink.now c.segments.sink (Err TooManyMessages) TooManyMessages refl
     (stops_at_many c.args.extent start (left c.segments.feed.device) (taken c.args.sink.now.device) (taken c.segments.sink.device) c.segments.reader c.segments.end before next (taken c.segments.sink.device) segment c.next.new.self read continues
     (omega (arith, c.if-messages-from.true, c.messages-in-segments.ensures, c.from.ensures)))
     (took_within start next c.segments.reader.most (2 ^ 40) before.printed.most (c.next.ensures.taken start before.printed.contents before.printed.read))
@@ -132,9 +134,9 @@ returns-in_err-text-2 g c =
     let found = c.in_ok-segment.ensures {u = tt} in
     let segment : Contents = c.in-Some.segment in
     let read = one_more start next c.segments.reader.most before.printed.contents c.next.new.self _ segment c.in-Some.is (found.read start before.printed.contents before.printed.read) in
-    let continues = continues_with (left c.segments.feed.device) next c.segments.reader.carried _ segment c.in-Some.is found.continues in
+    let continues = continues_with (left c.segments.feed.device) next c.segments.reader.carried c.segments.reader.size _ segment c.in-Some.is found.continues in
     let same = err_from_is_err_and c.from_residual-in_err-text-2.result c.from_residual-in_err-text-2.ensures.1 in
-    faulted (printer_of c.args.extent) left taken c.args.feed.now c.next.new.feed c.args.sink.now c.segments.sink c.from_residual-in_err-text-2.result Memory (same.1 ∙ ap Err same.2)
+    faulted (printer_of c.args.extent) c.args.size left taken c.args.feed.now c.next.new.feed c.args.sink.now c.segments.sink c.from_residual-in_err-text-2.result Memory (same.1 ∙ ap Err same.2)
     (stops_without_memory c.args.extent start (left c.segments.feed.device) (taken c.args.sink.now.device) (taken c.segments.sink.device) c.segments.reader c.segments.end before next (taken c.segments.sink.device) segment c.next.new.self read continues)
     (took_within start next c.segments.reader.most (2 ^ 40) before.printed.most (c.next.ensures.taken start before.printed.contents before.printed.read))
     (λ e. absurd (memory_no_read e)) (λ failed. absurd (works_after _ (HasFailed c.next.new.feed) found.failed failed)) (λ e. absurd (memory_no_write e))
@@ -150,13 +152,13 @@ returns-in_err-send-2 g c =
     let found = c.in_ok-segment.ensures {u = tt} in
     let segment : Contents = c.in-Some.segment in
     let read = one_more start next c.segments.reader.most before.printed.contents c.next.new.self _ segment c.in-Some.is (found.read start before.printed.contents before.printed.read) in
-    let continues = continues_with (left c.segments.feed.device) next c.segments.reader.carried _ segment c.in-Some.is found.continues in
+    let continues = continues_with (left c.segments.feed.device) next c.segments.reader.carried c.segments.reader.size _ segment c.in-Some.is found.continues in
     let same = err_from_is_err_and c.from_residual-in_err-send-2.result c.from_residual-in_err-send-2.ensures.1 in
     let sending = c.in_err-send-2.ensures {u = tt} in
     let count = c.in_err-send-2.field-0.0.written in
     let text : c.deref-in-segments.result.now ≡ segment_text c.args.extent c.segments.reader.messages c.segments.end segment =
     c.deref-in-segments.ensures.value ∙ c.in_ok-text-2.ensures {u = tt} ∙ ap (λ (n : ℕ). segment_text c.args.extent n c.segments.end segment) c.messages-before.ensures in
-    faulted (printer_of c.args.extent) left taken c.args.feed.now c.next.new.feed c.args.sink.now c.send-in-segments.new.sink c.from_residual-in_err-send-2.result Write (same.1 ∙ ap Err same.2)
+    faulted (printer_of c.args.extent) c.args.size left taken c.args.feed.now c.next.new.feed c.args.sink.now c.send-in-segments.new.sink c.from_residual-in_err-send-2.result Write (same.1 ∙ ap Err same.2)
     (stops_writing c.args.extent start (left c.segments.feed.device) (taken c.args.sink.now.device) (taken c.segments.sink.device) c.segments.reader c.segments.end before next (taken c.send-in-segments.new.sink.device) segment c.next.new.self read continues
     (omega (arith, c.if-messages-from.false, c.messages-in-segments.ensures, c.from.ensures)) count
     (subst (λ (bytes : List ℕ). Appends (taken c.segments.sink.device) (taken c.send-in-segments.new.sink.device) (take count bytes)) text sending.sent.1))
@@ -175,7 +177,7 @@ segments-preserved g c =
     let found = c.in_ok-segment.ensures {u = tt} in
     let segment : Contents = c.in-Some.segment in
     let read = one_more start next c.segments.reader.most before.printed.contents c.next.new.self _ segment c.in-Some.is (found.read start before.printed.contents before.printed.read) in
-    let continues = continues_with (left c.segments.feed.device) next c.segments.reader.carried _ segment c.in-Some.is found.continues in
+    let continues = continues_with (left c.segments.feed.device) next c.segments.reader.carried c.segments.reader.size _ segment c.in-Some.is found.continues in
     let sending = c.in_ok-send-2.ensures {u = tt} in
     let text : c.deref-in-segments.result.now ≡ segment_text c.args.extent c.segments.reader.messages c.segments.end segment =
     c.deref-in-segments.ensures.value ∙ c.in_ok-text-2.ensures {u = tt} ∙ ap (λ (n : ℕ). segment_text c.args.extent n c.segments.end segment) c.messages-before.ensures in
@@ -185,6 +187,9 @@ segments-preserved g c =
           (disassembled_on c.args.extent start (left c.segments.feed.device) (taken c.args.sink.now.device) (taken c.segments.sink.device) c.segments.reader c.segments.end before next (taken c.send-in-segments.new.sink.device) segment c.next.new.self read continues
           (omega (arith, c.if-messages-from.false, c.messages-in-segments.ensures, c.from.ensures)) c.next.ensures.most
           (subst (λ (bytes : List ℕ). Appends (taken c.segments.sink.device) (taken c.send-in-segments.new.sink.device) bytes) text sending.sent));
+      size = c.next.ensures.size ∙ c.segments.invariant.size;
+      needed = inr (needs_last c.args.extent start (left c.segments.feed.device) (taken c.args.sink.now.device) (taken c.segments.sink.device) c.segments.reader c.segments.end before next segment continues c.args.size c.segments.invariant.size
+          (λ suffices. false≢true (sym c.segments-test.true ∙ c.ends_within.ensures.1 (subst (printer_of c.args.extent).Suffices (sym c.messages.ensures) suffices))));
       works = works_after _ (HasFailed c.next.new.feed) found.failed;
       sink_for_good = λ failed. let kept = c.segments.invariant.sink_for_good failed in c.send-in-segments.ensures.for_good (subst HasFailed (sym kept) failed) ∙ kept;
     }
@@ -195,8 +200,8 @@ returns g c =
     let taken = g.W.Write.contents in
     let start = left c.args.feed.now.device in
     let before = c.segments.invariant.so_far in
-    finished (printer_of c.args.extent) left taken c.args.feed.now c.segments.feed c.args.sink.now c.segments.sink
-    (inr (prints_enough c.args.extent start (left c.segments.feed.device) (taken c.args.sink.now.device) (taken c.segments.sink.device) c.segments.reader before.printed
+    finished (printer_of c.args.extent) c.args.size left taken c.args.feed.now c.segments.feed c.args.sink.now c.segments.sink
+    (inr (prints_enough c.args.extent c.args.size start (left c.segments.feed.device) (taken c.args.sink.now.device) (taken c.segments.sink.device) c.segments.reader before.printed c.segments.invariant.needed
     (subst (printer_of c.args.extent).Suffices c.messages.ensures (c.ends_within.ensures.0 c.segments-test.false))))
     (took_so_far c.args.extent start (left c.segments.feed.device) (taken c.args.sink.now.device) (taken c.segments.sink.device) c.segments.reader c.segments.end before)
     c.segments.invariant.works
