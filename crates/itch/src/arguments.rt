@@ -84,11 +84,11 @@ fn path<'a>(alloc: Global, name: &'a str, help: &'a str) -> Arg<'a> {
 }
 
 // The number of workers.
-fn workers<'a>(alloc: Global) -> Arg<'a> {
+fn workers<'a>(alloc: Global, help: &'a str) -> Arg<'a> {
     Arg::new(alloc, "workers")
         .long("workers")
         .value_name("N")
-        .help("How many workers replay the day, from 1 to 64")
+        .help(help)
         .value_parser(value_parser!(u32).range(1..=i64::from(WorkerCount::MOST)))
         .default_value("1")
 }
@@ -107,7 +107,10 @@ fn replay_command<'a>(alloc: Global) -> Result<Command<'a>, AllocError> {
     Command::new(alloc, "replay")
         .about("Replays a day and prints its report, which is the same for every number of workers")
         .arg(path(alloc, "FILE", DAY_HELP))?
-        .arg(workers(alloc))?
+        .arg(workers(
+            alloc,
+            "How many threads replay the day, from 1 to 64, while one more reads it",
+        ))?
         .arg(
             Arg::new(alloc, "progress")
                 .long("progress")
@@ -173,7 +176,7 @@ fn watch_command<'a>(alloc: Global) -> Result<Command<'a>, AllocError> {
         )
         .arg(path(alloc, "FILE", DAY_HELP))?
         .arg(stock(alloc))?
-        .arg(workers(alloc))
+        .arg(workers(alloc, "How many workers replay the day, from 1 to 64"))
 }
 
 // The arguments that make the file of a text.

@@ -11,9 +11,10 @@ use arguments::Task;
 use binaryfile::{Day, Feed, Limits, Sink};
 use clap::error::ErrorKind;
 use day_core::WorkerCount;
-use file_replay::Silent;
+use day_segments::SEGMENT_BYTES;
+use file_replay::{REPLAY_SEGMENT_BYTES, Silent};
 use itch_debug::debug_run;
-use itch_dis::{SEGMENT_BYTES, dis_part_run, dis_stream_run};
+use itch_dis::{dis_part_run, dis_stream_run};
 use itch_engine::limits::{MOST_FILE_BYTES, MOST_MESSAGES};
 use itch_engine::{ProgFault, asm_run, hex_run, report_run, status};
 use itch_readings::{Selection, StockFault, StockName, stocks_run, tops_run};
@@ -119,15 +120,31 @@ where
 {
     let mut day = open_day(rt, terminals, path)?;
     let mut output = standard_output(rt);
-    let threads = worker_count(workers);
+    let (segment, threads) = (REPLAY_SEGMENT_BYTES, worker_count(workers));
     let (mut feed, mut sink) = (Feed::new(&mut day), Sink::new(&mut output));
     let run = if progress {
         let lines = ProgressLines::new(rt, path);
-        let run = report_run(rt, rt.alloc(), &mut feed, &mut sink, threads, &lines);
+        let run = report_run(
+            rt,
+            rt.alloc(),
+            &mut feed,
+            &mut sink,
+            segment,
+            threads,
+            &lines,
+        );
         lines.say();
         run
     } else {
-        report_run(rt, rt.alloc(), &mut feed, &mut sink, threads, &Silent)
+        report_run(
+            rt,
+            rt.alloc(),
+            &mut feed,
+            &mut sink,
+            segment,
+            threads,
+            &Silent,
+        )
     };
     ended(run, &day, &output)
 }

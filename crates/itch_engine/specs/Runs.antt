@@ -35,7 +35,8 @@ pub record Takes {A : Type 0} (engine : Engine A) (traffic : Traffic) (input : L
 
 -- The reader gave a whole input, of no more bytes than the engine takes, of which the engine makes this output and this
 -- result.
-pub record HasMade {A : Type 0} (engine : Engine A) (old new : Option (List ℕ)) (output : List ℕ) (result : A) : Type 0
+pub record HasMade {A : Type 0} (engine : Engine A) (old new : Option (List ℕ)) (output : List ℕ)
+    (result : A) : Type 0
   where
     pub input : List ℕ
     pub gave : GaveAll old new input

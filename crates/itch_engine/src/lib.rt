@@ -1,10 +1,10 @@
 //! The engines of the program, over any reader and writer.
 //!
-//! An engine reads its whole input, makes its whole output in memory, and then writes it:
+//! An engine reads its input to the end, makes its whole output in memory, and then writes it:
 //!
 //! | engine | input | output |
 //! |---|---|---|
-//! | [`report_run`] | a day file, of which no more is in memory than two segments | its report |
+//! | [`report_run`] | a day file, which is replayed while it is read | its report |
 //! | [`replay_run`] | a day file | its report |
 //! | [`hex_run`] | a day file in hexadecimal digits | its report |
 //! | [`dis_run`] | a day file | its text |
@@ -13,11 +13,13 @@
 //! ```rust
 //! let mut feed = Feed::new(reader);
 //! let mut sink = Sink::new(writer);
-//! let refused = report_run(rt, rt.alloc(), &mut feed, &mut sink, threads, &Silent)?;
+//! let segment = REPLAY_SEGMENT_BYTES;
+//! let refused = report_run(rt, rt.alloc(), &mut feed, &mut sink, segment, threads, &Silent)?;
 //! ```
 //!
-//! The program `itch` calls these but [`replay_run`], which is for callers with a gate of their own. Those that replay
-//! take `rt` as well, which makes their threads; how many is a `WorkerCount` of `day_core`.
+//! The program `itch` calls these but [`replay_run`], which is for callers with a gate of their own, and [`dis_run`], in
+//! place of which it writes a text while it reads the file. Those that replay take `rt` as well, which makes their threads;
+//! how many is a `WorkerCount` of `day_core`.
 //!
 //! All meet one contract, `Runs`, which says what was read, written and returned for each result. [`limits`] has the
 //! greatest inputs that they take, and [`status`] the exit status for what an engine returned. The functions that begin

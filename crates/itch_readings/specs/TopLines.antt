@@ -36,7 +36,8 @@ shown_line selection before at = if is_shown selection before at.top then moment
 -- the lines of a stock's moments, whose top was this one before them
 abbrev pub moment_lines : Selection → Top → List Moment → List ℕ
 moment_lines selection before [] = []
-moment_lines selection before (at ∷ rest) = shown_line selection before at ++ moment_lines selection at.top rest
+moment_lines selection before (at ∷ rest) = shown_line selection before at
+    ++ moment_lines selection at.top rest
 
 -- the names of the fields
 abbrev pub field_names : List ℕ

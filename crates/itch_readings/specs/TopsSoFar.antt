@@ -14,8 +14,8 @@ use Rattle.itch_readings.specs.declared.top_lines.Selection.{Selection}
 
 -- the machine has taken the stock's messages of a day; from message n on they have these lines, and this is the top after
 -- them
-pub record HasLines (day : List (List ℕ)) (selection : Selection) (n : ℕ) (stock : StockMachine) (before : Top)
-    (text : List ℕ) : Type 0 where
+pub record HasLines (day : List (List ℕ)) (selection : Selection) (n : ℕ) (stock : StockMachine)
+    (before : Top) (text : List ℕ) : Type 0 where
   pub world : stock.world ≡ only stock.locate (after day (length day))
   pub steps : stock.steps ≤ length day
   pub last : before ≡ last_top no_top (tops_from day stock.locate n)
@@ -30,7 +30,8 @@ AreLinesSoFar day search selection (Some stock) before text =
 
 -- so many messages of a day were taken, of which these are the lines of the stock with this name
 pub record AreTopsTo (day : List (List ℕ)) (name : StockName) (selection : Selection) (search : Search)
-    (chosen : Selection) (messages : ℕ) (stock : Option StockMachine) (before : Top) (text : List ℕ) : Type 0 where
+    (chosen : Selection) (messages : ℕ) (stock : Option StockMachine) (before : Top)
+    (text : List ℕ) : Type 0 where
   pub name_is : search.name ≡ name
   pub chosen_is : chosen ≡ selection
   pub counted : messages ≡ length day
@@ -38,11 +39,13 @@ pub record AreTopsTo (day : List (List ℕ)) (name : StockName) (selection : Sel
 
 -- with the next payload the stock hasn't begun either, or it begins with it, or it has begun before: it has the lines of
 -- the day as it was
-abbrev pub AreLinesBefore : List (List ℕ) → List ℕ → Search → Selection → Option StockMachine → Top → List ℕ → Type 0
+abbrev pub AreLinesBefore : List (List ℕ) → List ℕ → Search → Selection → Option StockMachine → Top
+    → List ℕ → Type 0
 AreLinesBefore day payload search selection None before text =
     HasSearched (day ++ payload ∷ []) search × (before ≡ no_top) × (text ≡ field_names)
 AreLinesBefore day payload search selection (Some stock) before text =
-    (n : ℕ) × NamesStock (day ++ payload ∷ []) search.name n stock.locate × HasLines day selection n stock before text
+    (n : ℕ) × NamesStock (day ++ payload ∷ []) search.name n stock.locate
+    × HasLines day selection n stock before text
 
 -- the next payload was counted and looked at, and its line is still to come
 pub record AreTopsBefore (day : List (List ℕ)) (payload : List ℕ) (name : StockName) (selection : Selection)
@@ -57,4 +60,5 @@ pub record AreTopsBefore (day : List (List ℕ)) (payload : List ℕ) (name : St
 abbrev pub AreTopsOf : List (List ℕ) → StockName → Selection → Option (List ℕ) → Type 0
 AreTopsOf day name selection None = NamesNone day name
 AreTopsOf day name selection (Some text) =
-    (n : ℕ) × (locate : ℕ) × NamesStock day name n locate × (text ≡ tops_text selection (tops_from day locate n))
+    (n : ℕ) × (locate : ℕ) × NamesStock day name n locate
+    × (text ≡ tops_text selection (tops_from day locate n))

@@ -13,7 +13,8 @@ use thiserror::Error;
 /// program prints on standard error.
 #[derive(Debug, Clone, Copy, PartialEq, Eq, Drop, Error)]
 pub enum StockFault {
-    /// The day has no message of the stock that was asked for.
+    /// The day hasn't the stock that was asked for: no message of its locate code, or no directory message with its symbol
+    /// that was applied.
     #[error("no such stock")]
     NoStock,
     /// What stops engines of any kind.

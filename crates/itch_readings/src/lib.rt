@@ -23,20 +23,20 @@
 //! `StockFault::Engine(ProgFault::Memory)` say that memory was refused.
 #![tactic(auto)]
 
-mod engines;
 mod fault;
 mod moments;
 mod naming;
 mod search;
 mod stock_lines;
+mod stocks_engine;
 mod top_lines;
 mod tops_engine;
 mod tops_text;
 
-pub use engines::stocks_run;
 pub use fault::StockFault;
 pub use moments::{Moment, tops};
 pub use naming::StockName;
 pub use search::{StockSearch, find_stock};
+pub use stocks_engine::stocks_run;
 pub use top_lines::Selection;
 pub use tops_engine::tops_run;

@@ -5,13 +5,12 @@ ghost use Rattle.itch_engine.specs.declared.limits.TheConstants.{MOST_FILE_BYTES
 ghost use Rattle.itch_engine.specs.Runs.{HasMade, StopsReading};
 ghost use Rattle.itch_readings.specs.Engines.{GaveNoStock, RunsOnStock, tops_printer};
 
-use crate::engines::SEGMENT_BYTES;
 use crate::fault::StockFault;
 use crate::naming::StockName;
 use crate::top_lines::Selection;
 use crate::tops_text::TopsText;
 use binaryfile::{Feed, Sink, send};
-use day_segments::SegmentReader;
+use day_segments::{SEGMENT_BYTES, SegmentReader};
 use itch_engine::ProgFault;
 use itch_engine::limits::{MOST_FILE_BYTES, MOST_MESSAGES};
 use std::alloc::Allocator;

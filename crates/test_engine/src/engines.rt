@@ -20,7 +20,7 @@ pub(crate) enum Engine {
     Replay,
     /// The same by two workers, of a file of two stocks.
     TwoWorkers,
-    /// The replay of a file while it is read.
+    /// The replay of a file while it is read, in segments of a few bytes.
     Report,
     /// The same by two threads, of a file of two stocks.
     TwoThreads,
@@ -34,10 +34,10 @@ pub(crate) enum Engine {
     Watch,
 }
 
-/// All of them, where the replay has one worker, but the replay of a file while it is read: that one takes memory for a
-/// segment and all batches at each run, so fewer runs of it are tried.
-pub(crate) const ENGINES: [Engine; 7] = [
+/// All of them, where a replay has one worker.
+pub(crate) const ENGINES: [Engine; 8] = [
     Engine::Replay,
+    Engine::Report,
     Engine::Digits,
     Engine::Disassembler,
     Engine::Assembler,
@@ -45,6 +45,9 @@ pub(crate) const ENGINES: [Engine; 7] = [
     Engine::Tops,
     Engine::Watch,
 ];
+
+// How many bytes a segment takes: less than a directory message has.
+const SEGMENT: u32 = 20;
 
 // The bytes of examples/two-stocks.itch: two stocks with a bid each, and three deletes, two of which are refused.
 const TWO_STOCKS: &[u8] =
@@ -130,8 +133,10 @@ impl Engine {
         let run = match self {
             Engine::Replay => replay_run(rt, alloc, &mut feed, &mut sink, one, &FreeGate),
             Engine::TwoWorkers => replay_run(rt, alloc, &mut feed, &mut sink, two, &FreeGate),
-            Engine::Report => report_run(rt, alloc, &mut feed, &mut sink, one, &Silent),
-            Engine::TwoThreads => report_run(rt, alloc, &mut feed, &mut sink, two, &Silent),
+            Engine::Report => report_run(rt, alloc, &mut feed, &mut sink, SEGMENT, one, &Silent),
+            Engine::TwoThreads => {
+                report_run(rt, alloc, &mut feed, &mut sink, SEGMENT, two, &Silent)
+            }
             Engine::Digits => hex_run(rt, alloc, &mut feed, &mut sink),
             Engine::Disassembler => dis_run(alloc, &mut feed, &mut sink).map(|()| 0),
             Engine::Assembler => asm_run(alloc, &mut feed, &mut sink).map(|()| 0),

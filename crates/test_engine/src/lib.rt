@@ -3,11 +3,11 @@
 #![tactic(auto)]
 
 #[cfg(test)]
-mod batches;
-#[cfg(test)]
 mod engines;
 #[cfg(test)]
 mod faults;
+#[cfg(test)]
+mod long_days;
 #[cfg(test)]
 mod moments;
 #[cfg(test)]

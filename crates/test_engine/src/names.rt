@@ -145,7 +145,10 @@ fn tops_of<A: Allocator + Copy, R: Read + Drop>(
     tops_run(alloc, &mut feed, &mut sink, name, selection)
 }
 
-// Pieces of a segment's length, of a little less and of a little more, of which each segment is made of several.
+// How many bytes of a segment are read at a time.
+const PIECE: u64 = 1 << 18;
+
+// A reader that gives less than a piece at a time, a whole one, and as much as it is asked for.
 #[test]
 fn messages_keep_their_numbers_through_segments(rt: HostRuntime) -> Result<(), Fail> {
     let file = long_file(rt.alloc())?;
@@ -157,7 +160,7 @@ fn messages_keep_their_numbers_through_segments(rt: HostRuntime) -> Result<(), F
         (code, Selection::Every, FROM_THE_FIRST),
     ];
     for (name, selection, wanted) in cases {
-        for most in [100_000, 1_048_576, 3_000_000] {
+        for most in [100_000, 262_144, 3_000_000] {
             let mut output = Vec::new(rt.alloc());
             let reader = Pieces::new(&file, most);
             let returned = tops_of(rt.alloc(), reader, name, selection, &mut output);
@@ -172,16 +175,17 @@ fn messages_keep_their_numbers_through_segments(rt: HostRuntime) -> Result<(), F
     Ok(())
 }
 
-// Three calls give the file, one its end, and one is made by the segment after the last. The call after these never comes.
+// Each call gives a piece, one more the end, and one is made by the segment after the last. The call after these never comes.
 #[test]
 fn each_read_of_a_file_of_segments_may_fail(rt: HostRuntime) -> Result<(), Fail> {
     let file = long_file(rt.alloc())?;
     let name = StockName::Symbol(AAPL.symbol);
-    for failing in 1..=6u64 {
+    let calls = (file.len() as u64).div_ceil(PIECE).saturating_add(2);
+    for failing in 1..=calls.saturating_add(1) {
         let mut output = Vec::new(rt.alloc());
-        let reader = Pieces::failing(&file, 1_048_576, failing, ErrorKind::Interrupted);
+        let reader = Pieces::failing(&file, 262_144, failing, ErrorKind::Interrupted);
         let returned = tops_of(rt.alloc(), reader, name, Selection::Changes, &mut output);
-        let (wanted, written) = if failing < 6 {
+        let (wanted, written) = if failing <= calls {
             (Err(StockFault::Engine(ProgFault::Read)), b"".as_slice())
         } else {
             (Ok(()), LINES)

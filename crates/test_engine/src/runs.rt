@@ -2,7 +2,7 @@
 use crate::engines::{ENGINES, Engine};
 use binaryfile::{Feed, Sink};
 use day_core::WorkerCount;
-use file_replay::Silent;
+use file_replay::{REPLAY_SEGMENT_BYTES, Silent};
 use itch_engine::{ProgFault, replay_run, report_run};
 use itch_readings::{StockFault, StockName};
 use itch_watch::watch_run;
@@ -39,7 +39,6 @@ fn engines_write_their_output(rt: HostRuntime) -> Result<(), Fail> {
             try_pieces(&rt, engine, most)?;
         }
     }
-    try_pieces(&rt, Engine::Report, 1)?;
     try_pieces(&rt, Engine::TwoThreads, 7)
 }
 
@@ -125,6 +124,7 @@ fn try_report<T: AllocGlobal + Threads + Wait + Sync>(
         rt.alloc(),
         &mut Feed::new(file),
         &mut Sink::new(&mut output),
+        REPLAY_SEGMENT_BYTES,
         worker_count(threads)?,
         &Silent,
     );
@@ -233,15 +233,8 @@ fn engines_send_nothing_after_a_failed_read(rt: HostRuntime) -> Result<(), Fail>
             try_read(&rt, engine, failing)?;
         }
     }
-    let stocks = Engine::Stocks;
-    try_read(&rt, stocks, (stocks.input().len() as u64).saturating_add(2))
-}
-
-#[test]
-fn a_report_is_not_sent_after_a_failed_read(rt: HostRuntime) -> Result<(), Fail> {
-    let engine = Engine::Report;
-    for failing in 1..=(engine.input().len() as u64).saturating_add(2) {
-        try_read(&rt, engine, failing)?;
+    for engine in [Engine::Stocks, Engine::Report] {
+        try_read(&rt, engine, (engine.input().len() as u64).saturating_add(2))?;
     }
     Ok(())
 }
@@ -279,11 +272,6 @@ fn engines_have_sent_a_prefix_after_a_failed_write(rt: HostRuntime) -> Result<()
             try_write(&rt, engine, taken, Failure::Error(ErrorKind::Other))?;
             try_write(&rt, engine, taken, Failure::TakesNone)?;
         }
-    }
-    let engine = Engine::Report;
-    for taken in [0, 1, engine.output().len().saturating_sub(1)] {
-        try_write(&rt, engine, taken, Failure::Error(ErrorKind::Other))?;
-        try_write(&rt, engine, taken, Failure::TakesNone)?;
     }
     Ok(())
 }
@@ -338,11 +326,18 @@ fn engines_send_nothing_without_memory(rt: HostRuntime) -> Result<(), Fail> {
     Ok(())
 }
 
+// A replay of a file while it is read makes its batches, and reads several segments.
 #[test]
 fn a_report_is_not_sent_without_memory(rt: HostRuntime) -> Result<(), Fail> {
-    let engine = Engine::Report;
-    let growths = refuse_each(|refusal: Refusal| -> Result<Tried, Fail> {
-        try_refusal(&rt, engine, refusal)
-    })?;
-    same("that there are growths", &(growths > 128), &true)
+    for engine in [Engine::Report, Engine::TwoThreads] {
+        let growths = refuse_each(|refusal: Refusal| -> Result<Tried, Fail> {
+            try_refusal(&rt, engine, refusal)
+        })?;
+        same(
+            "that there are growths",
+            &(engine, growths > 128),
+            &(engine, true),
+        )?;
+    }
+    Ok(())
 }

@@ -1,6 +1,6 @@
 //! Leads day files, and days at random, through the plain machine, through a machine for each of their stocks, through
-//! the parts of several numbers of workers, one after another and in threads, through the tracks of their stocks, and
-//! through a debugger, and compares what they say. The program test_days calls it.
+//! the parts of several numbers of workers, one after another and in threads, through segments of several sizes, through
+//! the tracks of their stocks, and through a debugger, and compares what they say. The program test_days calls it.
 #![tactic(auto)]
 
 mod blaming;

@@ -1,8 +1,9 @@
-//! A day replayed for several numbers of workers, beside the plain machine.
+//! A day replayed for several numbers of workers, beside the plain machine, and in segments of several sizes.
 use crate::comparing::{same_stocks, step};
 use binaryfile::{Day, Feed, Sink};
 use day_core::{WorkerCount, replay_parts, split};
-use itch_engine::replay_run;
+use file_replay::Silent;
+use itch_engine::{replay_run, report_run};
 use itch_table::{Outcome, Part, Plain, part};
 use std::alloc::Allocator;
 use std::sync::Wait;
@@ -15,6 +16,17 @@ use top_cell::Board;
 
 /// The numbers of workers.
 const WORKERS: [u32; 4] = [1, 2, 3, 64];
+
+// How many bytes a segment takes, and how many threads replay it. The first ones are for short files, since each segment
+// makes a thread.
+const SEGMENTS: [(u32, u32); 6] = [
+    (7, 1),
+    (50, 2),
+    (333, 3),
+    (1_000, 4),
+    (2_000, 64),
+    (1 << 20, 2),
+];
 
 // What the plain machine makes of a day.
 #[derive(Drop)]
@@ -82,18 +94,23 @@ fn compare_run<R: Threads + Wait + Sync, A: Allocator + Copy + Send + Sync>(
     same_day(alloc, &found.outcomes, &found.stocks, found.event, wanted)
 }
 
-// The report of a day.
+// This many workers.
+fn worker_count(workers: u32) -> Result<WorkerCount, Fail> {
+    WorkerCount::new(workers)
+        .ok_or("a replay has 1 to 64 workers")
+        .map_err(|case| Fail::new(case))
+}
+
+// The report of a day, and how many of its messages were refused.
 fn report_of<R: Threads + Wait + Sync, A: Allocator + Copy + Send + Sync>(
     rt: &R,
     alloc: A,
     day: &Day<A>,
     workers: u32,
-) -> Result<Vec<u8, A>, Fail> {
-    let Some(workers) = WorkerCount::new(workers) else {
-        return Err(Fail::new("a replay has 1 to 64 workers"));
-    };
+) -> Result<(Vec<u8, A>, u32), Fail> {
+    let workers = worker_count(workers)?;
     let mut report = Vec::new(alloc);
-    replay_run(
+    let refused = replay_run(
         rt,
         alloc,
         &mut Feed::new(day.bytes()),
@@ -101,22 +118,56 @@ fn report_of<R: Threads + Wait + Sync, A: Allocator + Copy + Send + Sync>(
         workers,
         &FreeGate,
     )?;
-    Ok(report)
+    Ok((report, refused))
+}
+
+// The same of a day that is replayed in segments while its file is read.
+fn report_in_segments<R: Threads + Sync, A: Allocator + Copy + Send + Sync>(
+    rt: &R,
+    alloc: A,
+    day: &Day<A>,
+    segment: u32,
+    threads: u32,
+) -> Result<(Vec<u8, A>, u32), Fail> {
+    if segment == 0 || segment > 1 << 30 {
+        return Err(Fail::new("a segment takes 1 to 2^30 bytes"));
+    }
+    let threads = worker_count(threads)?;
+    let mut report = Vec::new(alloc);
+    let refused = report_run(
+        rt,
+        alloc,
+        &mut Feed::new(day.bytes()),
+        &mut Sink::new(&mut report),
+        segment,
+        threads,
+        &Silent,
+    )?;
+    Ok((report, refused))
 }
 
 /// Compares what a day makes for each number of workers with what the plain machine makes of it, and the reports with
-/// each other.
+/// each other, those of a replay in segments too.
 pub fn compare_workers<R: Threads + Wait + Sync, A: Allocator + Copy + Send + Sync>(
     rt: &R,
     alloc: A,
     day: &Day<A>,
 ) -> Result<(), Fail> {
     let wanted = follow(alloc, day)?;
-    let report = report_of(rt, alloc, day, 1)?;
+    let (report, refused) = report_of(rt, alloc, day, 1)?;
     for workers in WORKERS {
         compare_parts(rt, alloc, day, workers, &wanted)?;
         compare_run(rt, alloc, day, workers, &wanted)?;
-        same_bytes("a report", &report_of(rt, alloc, day, workers)?, &report)?;
+        let found = report_of(rt, alloc, day, workers)?;
+        same_bytes("a report", &found.0, &report)?;
+        same("refused messages", &found.1, &refused)?;
+    }
+    for (segment, threads) in SEGMENTS {
+        if day.bytes().len() < 10_000 || segment >= 1_000 {
+            let found = report_in_segments(rt, alloc, day, segment, threads)?;
+            same_bytes("a report in segments", &found.0, &report)?;
+            same("refused messages in segments", &found.1, &refused)?;
+        }
     }
     Ok(())
 }

@@ -1,5 +1,5 @@
 //! The engine that replays a day file while it reads it.
-ghost use Rattle.std.specs.Prelude.{◌≡◌, ◌+◌, ◌↔◌, IfErr, IfOk, IsErrOf};
+ghost use Rattle.std.specs.Prelude.{◌≡◌, ◌+◌, ◌<◌, ◌≤◌, ◌^◌, ◌↔◌, IfErr, IfOk, IsErrOf};
 ghost use Rattle.binaryfile.specs.Devices.{GaveUpTo, HasFailed};
 ghost use Rattle.itch_engine.specs.declared.limits.TheConstants.{MOST_FILE_BYTES};
 ghost use Rattle.itch_engine.specs.Runs.{HasMade, Runs, StopsReading};
@@ -15,14 +15,12 @@ use std::alloc::Allocator;
 use std::io::{Read, Write};
 use std::thread::Threads;
 
-// How many bytes are read at a time.
-const SEGMENT_BYTES: u32 = 1 << 24;
-
 // The report of a file that is replayed while it is read, and how many of its messages are refused.
 fn report_of_feed<T, A, R, P>(
     rt: &T,
     alloc: A,
     feed: &mut Feed<R>,
+    segment: u32,
     threads: WorkerCount,
     progress: &P,
 ) -> Result<Report<A>, ProgFault>
@@ -31,6 +29,7 @@ where
     A: Allocator + Copy + Send + Sync,
     R: Read + Send,
     P: Progress,
+    requires segment { (0 < segment) × (segment ≤ 2 ^ 30) }
     ensures report { IfOk result (λ report. HasMade replayer
         (R.remaining feed.old.device) (R.remaining feed.new.device) report.text.items report.refused) }
     ensures fault { IfErr result (
@@ -45,15 +44,17 @@ where
         bytes: MOST_FILE_BYTES,
         messages: MOST_MESSAGES,
     };
-    let file = replay_file(rt, alloc, feed, limits, SEGMENT_BYTES, threads, progress)?;
+    let file = replay_file(rt, alloc, feed, limits, segment, threads, progress)?;
     Ok(report_of(alloc, &file)?)
 }
 
 /// Replays a day file while it is read, and writes the report, the same that [`replay_run`] writes. Returns how many
 /// messages were refused.
 ///
-/// This many threads replay what was read, while one more reads; where none can be made, the work is done all the same.
-/// No more of the file is in memory than two segments of 16 MiB. `progress` is told after each segment how far it is.
+/// `segment` is how many bytes a segment takes, 1 to 2^30. This many threads replay what was read, while one more reads the
+/// next segment; where none can be made, the work is done all the same. In memory are the segment that is read, copies of
+/// the messages of that one and of the one before it, what the stocks need, and the refused messages. `progress` is told
+/// after each segment how far it is.
 ///
 /// The file is read to its end before anything is written, and the whole report is made in memory before it is sent.
 /// After [`ProgFault::Write`] the bytes that were taken are a prefix of the report; after another fault none was sent.
@@ -63,7 +64,8 @@ where
 /// ```text
 /// let mut feed = Feed::new(file);
 /// let mut sink = Sink::new(output);
-/// let refused = report_run(rt, rt.alloc(), &mut feed, &mut sink, WorkerCount::ONE, &Silent)?;
+/// let (segment, threads) = (REPLAY_SEGMENT_BYTES, WorkerCount::ONE);
+/// let refused = report_run(rt, rt.alloc(), &mut feed, &mut sink, segment, threads, &Silent)?;
 /// ```
 ///
 /// [`replay_run`]: crate::replay_run
@@ -72,6 +74,7 @@ pub fn report_run<T, A, R, W, P>(
     alloc: A,
     feed: &mut Feed<R>,
     sink: &mut Sink<W>,
+    segment: u32,
     threads: WorkerCount,
     progress: &P,
 ) -> Result<u32, ProgFault>
@@ -81,9 +84,10 @@ where
     R: Read + Send,
     W: Write,
     P: Progress,
+    requires segment { (0 < segment) × (segment ≤ 2 ^ 30) }
     ensures { Runs replayer R.remaining W.contents feed.old feed.new sink.old sink.new result }
 {
-    let report = report_of_feed(rt, alloc, feed, threads, progress)?;
+    let report = report_of_feed(rt, alloc, feed, segment, threads, progress)?;
     send(sink, &report.text)?;
     Ok(report.refused)
 }

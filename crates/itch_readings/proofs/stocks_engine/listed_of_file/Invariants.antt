@@ -1,7 +1,7 @@
 use Rattle.std.proofs.Common.{◌≡◌, ◌-◌, ◌^◌}
 use Rattle.binaryfile.specs.Devices.{HasFailed}
 use Rattle.itch_readings.proofs.Segmented.{IsListedTo}
-use Rattle.itch_readings.proofs.engines.listed_of_file.Given as goal
+use Rattle.itch_readings.proofs.stocks_engine.listed_of_file.Given as goal
 
 abbrev pub invariant-loop-reader : goal.invariant-loop-reader
 invariant-loop-reader g l = record {

@@ -9,8 +9,8 @@ use Rattle.itch_readings.specs.Engines.{stock_lister}
 use Rattle.itch_readings.specs.Naming.{AreListed}
 use Rattle.itch_readings.specs.declared.naming.Listed.{Listed}
 use Rattle.itch_readings.proofs.Segmented.{halts, listed_before, listed_first, listed_next, lists_all, lists_too_many}
-use Rattle.itch_readings.proofs.engines.listed_of_file.Goals as goal
-use Rattle.itch_readings.proofs.engines.listed_of_file.Goals.{then-messages-from, else-messages-from}
+use Rattle.itch_readings.proofs.stocks_engine.listed_of_file.Goals as goal
+use Rattle.itch_readings.proofs.stocks_engine.listed_of_file.Goals.{then-messages-from, else-messages-from}
 
 pub loop-reader-init : goal.loop-reader-init
 loop-reader-init g c =

@@ -8,14 +8,11 @@ ghost use Rattle.itch_readings.specs.Engines.{GaveStocks, stock_lister};
 use crate::naming::{Listed, list_more, unlisted};
 use crate::stock_lines::put_stocks;
 use binaryfile::{Feed, Sink, send};
-use day_segments::SegmentReader;
+use day_segments::{SEGMENT_BYTES, SegmentReader};
 use itch_engine::ProgFault;
 use itch_engine::limits::{MOST_FILE_BYTES, MOST_MESSAGES};
 use std::alloc::Allocator;
 use std::io::{Read, Write};
-
-/// How many bytes are read at a time.
-pub(crate) const SEGMENT_BYTES: u32 = 1 << 20;
 
 // What a file says of each of its stocks. No more of it is in memory than a segment.
 fn listed_of_file<A: Allocator + Copy, R: Read>(
@@ -51,7 +48,7 @@ fn listed_of_file<A: Allocator + Copy, R: Read>(
 /// Reads a day file and writes a line for each stock that has messages, by rising locate code: the code, the symbol
 /// between quotes, and how many messages it has.
 ///
-/// The file is read to its end before anything is written, and no more of it is in memory than some 1 MiB. The whole
+/// The file is read to its end before anything is written, and no more of it is in memory than a segment. The whole
 /// text is made in memory before it is sent. After [`ProgFault::Write`] the bytes that were taken are a prefix of the
 /// text; after another fault none was sent. [`ProgFault::Read`] comes exactly where the feed has failed,
 /// [`ProgFault::TooManyBytes`] above [`MOST_FILE_BYTES`] bytes, and [`ProgFault::TooManyMessages`] above
