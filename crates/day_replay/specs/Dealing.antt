@@ -1,4 +1,4 @@
--- A segment of a day, dealt to the batches of its stocks. All is of this project.
+-- Messages of a day in a row, dealt to the batches of its stocks. All is of this project.
 use Rattle.std.specs.Prelude.{◌≡◌, ◌+◌, ◌<◌, ◌^◌, ℕ, List, length, slice_index_or}
 use Rattle.day_replay.specs.declared.TheConstants.{BATCHES}
 use Rattle.day_replay.specs.Messages.{numbered_after, of_batch}

@@ -107,7 +107,7 @@ impl<A: Allocator + Copy> Batch<A> {
         )
     }
 
-    // Does the batch's messages of a segment.
+    // Does the batch's messages.
     fn do_all(&mut self, alloc: A, messages: &BatchMessages<A>) -> Result<(), AllocError>
         requires { MayDo messages.now self.old }
         ensures { OnOk result (Does messages.now self.old self.new) }
@@ -118,7 +118,7 @@ impl<A: Allocator + Copy> Batch<A> {
         Ok(())
     }
 
-    /// Does the batch's messages of a segment, or fails where memory is refused. A batch that has failed may hold
+    /// Does the batch's messages, or fails where memory is refused. A batch that has failed may hold
     /// anything.
     pub fn do_or_fail(&mut self, alloc: A, messages: &BatchMessages<A>)
         requires { MayDo messages.now self.old }

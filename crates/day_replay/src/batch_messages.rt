@@ -1,4 +1,4 @@
-//! The messages of one batch in a segment, copied.
+//! Messages of one batch, copied.
 ghost use Rattle.std.specs.Prelude.{◌≡◌, ◌++◌, ◌∷◌, [], OnOk};
 ghost use Rattle.std.specs.Iterator.{YieldsFirstBy, item_count};
 ghost use Rattle.binaryfile.specs.Entries.{IsPayload};
@@ -7,7 +7,7 @@ use binaryfile::{NumberedPayload, split_first_payload};
 use std::alloc::{AllocError, Allocator};
 use std::marker::Model;
 
-/// The messages of one batch in a segment, in their order, seen as a list of the number and the payload of each.
+/// Messages of one batch in their order, seen as a list of the number and the payload of each.
 #[derive(Drop)]
 pub(crate) struct BatchMessages<A: Allocator> {
     numbers: Vec<u32, A>,
@@ -52,6 +52,11 @@ impl<A: Allocator> BatchMessages<A> {
         }
     }
 
+    /// How many bytes the entries take.
+    pub fn bytes(&self) -> usize {
+        self.bytes.len()
+    }
+
     /// For how many bytes of entries there is memory.
     pub fn room(&self) -> usize {
         self.bytes.capacity()
@@ -82,7 +87,7 @@ impl<A: Allocator> BatchMessages<A> {
     }
 }
 
-/// The messages of a batch in a segment that are left, in their order.
+/// The messages of a batch that are left, in their order.
 #[derive(Drop)]
 pub(crate) struct MessagesLeft<'m> {
     numbers: &'m [u32],

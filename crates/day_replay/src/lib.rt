@@ -1,22 +1,24 @@
 //! A day that is replayed segment by segment, by batches of its stocks, so that no more of it is in memory than the
 //! segments at hand and what its stocks are.
 //!
-//! [`DealtSegment::deal`] copies the messages of a segment to the batches of their stocks, and [`Replay::go_on`] replays
-//! what was dealt: each batch does its messages in their order, by itself, and threads share the batches.
+//! [`DealtMessages::deal`] copies the messages of a segment to the batches of their stocks, and [`Replay::go_on`] replays
+//! what was dealt, of one segment or several: each batch does its messages in their order, by itself, and threads share the
+//! batches.
 //! [`Replay::end`] says what all segments together make ([`Summary`]), wherever the day was cut.
 //!
 //! ```rust
 //! let mut replay = Replay::new(alloc)?;
-//! let mut dealt = DealtSegment::new(alloc)?;
+//! let mut dealt = DealtMessages::new(alloc)?;
 //! for segment in segments {
+//!     dealt.clear();
 //!     dealt.deal(replay.len(), segment)?;
 //!     replay.go_on(rt, alloc, &dealt, threads)?;
 //! }
 //! let summary = replay.end(alloc)?;
 //! ```
 //!
-//! Dealing is apart from replaying, so that a caller may deal the next segment into a second [`DealtSegment`] while the
-//! one before it is replayed, by `std::thread::join_mut`.
+//! Dealing is apart from replaying, so that a caller may deal the next segments into a second [`DealtMessages`] while those
+//! before them are replayed, by `std::thread::join_mut`.
 //!
 //! The effects of messages are those of Nasdaq TotalView-ITCH 5.0; segments and batches are of this project. An
 //! `AllocError` says that memory was refused.
@@ -24,12 +26,12 @@
 
 mod batch;
 mod batch_messages;
-mod dealt_segment;
+mod dealt_messages;
 mod ending;
 mod no_stock;
 mod replay;
 
-pub use dealt_segment::DealtSegment;
+pub use dealt_messages::DealtMessages;
 use itch_table::LOCATES;
 pub use replay::{Replay, Summary};
 

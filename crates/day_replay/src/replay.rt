@@ -11,7 +11,7 @@ ghost use Rattle.day_replay.specs.Replays.{HasReplayed};
 use crate::BATCHES;
 use crate::batch::Batch;
 use crate::batch_messages::BatchMessages;
-use crate::dealt_segment::DealtSegment;
+use crate::dealt_messages::DealtMessages;
 use crate::ending::{all_refused, all_stocks};
 use crate::no_stock::NoStock;
 use day_core::{Piece, WorkerCount};
@@ -70,7 +70,7 @@ fn any_failed<A: Allocator>(batches: &[Batch<A>]) -> bool
     batches.iter().any(|batch| batch.has_failed())
 }
 
-// Each batch does its messages of a segment, by so many threads at most.
+// Each batch does its messages, by so many threads at most.
 fn do_all<R: Threads + Sync, A: Allocator + Copy + Send + Sync>(
     rt: &R,
     alloc: A,
@@ -128,15 +128,15 @@ impl<A: Allocator + Copy + Send + Sync> Replay<A> {
         self.messages
     }
 
-    /// Replays the messages of the next segment, by so many threads at most. The segment must be dealt with as many
-    /// messages before it as were replayed ([`Replay::len`]).
+    /// Replays the messages that come next, by so many threads at most. They must be dealt with as many messages before
+    /// them as were replayed ([`Replay::len`]).
     ///
     /// An error says that memory was refused. Then nothing is known of the replay, and it can only be dropped.
     pub fn go_on<R: Threads + Sync>(
         &mut self,
         rt: &R,
         alloc: A,
-        dealt: &DealtSegment<A>,
+        dealt: &DealtMessages<A>,
         threads: WorkerCount,
     ) -> Result<(), AllocError>
         requires { (day payloads : List (List ℕ)) × HasReplayed day self.old

@@ -1,5 +1,5 @@
 //! A file that is read segment by segment, from its first byte on.
-ghost use Rattle.std.specs.Prelude.{◌≡◌, ◌≢◌, ◌≤◌, ◌<◌, ◌+◌, ◌-◌, ◌^◌, ◌↔◌, Err, IfOk, IfSome, IsErrOf, List, MatchOption, Option, ℕ, length};
+ghost use Rattle.std.specs.Prelude.{◌≡◌, ◌≢◌, ◌≤◌, ◌<◌, ◌+◌, ◌-◌, ◌^◌, ◌↔◌, Err, IfOk, IfSome, IsErrOf, List, MatchOption, None, Ok, Option, ℕ, length};
 ghost use Rattle.binaryfile.specs.Devices.{GaveMore, GaveUpTo, HasFailed};
 ghost use Rattle.binaryfile.specs.Entries.{Contents};
 ghost use Rattle.day_segments.specs.Reading.{Continues, HasRead, IsWholeFile, followed_by, nothing_read};
@@ -79,6 +79,10 @@ impl<A: Allocator + Copy> SegmentReader<A> {
             → MatchOption found
             (IsWholeFile start (R.remaining feed.new.device) self.old.most before)
             (λ segment. HasRead start (R.remaining feed.new.device) (followed_by before segment) self.new)) }
+        // Where the file was read whole, a further call says so too.
+        ensures ended { result ≡ Ok None → (start : Option (List ℕ)) (before : Contents)
+            → HasRead start (R.remaining feed.old.device) before self.old
+            → HasRead start (R.remaining feed.new.device) before self.new }
         ensures size { self.new.size ≡ self.old.size }
         ensures most { self.new.most ≡ self.old.most }
         ensures further { IfOk result (λ found. MatchOption found

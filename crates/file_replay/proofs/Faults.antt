@@ -23,3 +23,14 @@ failed_as F r passed fault is same was = (
       was.0 (sym same ∙ read),
   λ f. is ∙ ap Err (same ∙ was.1 f),
 )
+
+-- whether a fault that is passed on is Read, where this is known of the call that it comes from
+pub failed_by : {T : Type 0} (F : Type 0) (r : Result T LoadFault) (was passed : LoadFault) → r ≡ Err was → passed ≡ was → ((r ≡ Err Read → F) × (F → r ≡ Err Read))
+    → (passed ≡ Read → F) × (F → passed ≡ Read)
+failed_by F r was passed is same failed = (
+  λ read. failed.0 (is ∙ ap Err (sym same ∙ read)),
+  λ f.
+      let told = sym is ∙ failed.1 f in
+      let read : was ≡ Read = cc in
+      same ∙ read,
+)

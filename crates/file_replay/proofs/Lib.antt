@@ -1,4 +1,5 @@
 mod Faults
 mod Tails
+mod Further
 mod Replayed
 mod Dealt

@@ -1,11 +1,11 @@
 -- A day file that is replayed while it is read. All is of this project.
-use Rattle.std.specs.Prelude.{◌≡◌, ◌↔◌, ◌+◌, ◌<◌, ◌≤◌, ◌++◌, ℕ, IfErr, IfOk, IsErrOf, List, MatchOption, OnOk, Option, Some, None, Result, count_by, length}
+use Rattle.std.specs.Prelude.{◌≡◌, ◌↔◌, ◌+◌, ◌<◌, ◌≤◌, ◌++◌, ℕ, Bool, true, false, IfErr, IfOk, IsErrOf, List, OnOk, Option, Result, count_by, length}
 use Rattle.std.specs.declared.alloc.AllocError.{AllocError}
 use Rattle.binaryfile.specs.Devices.{Device, GaveMore, GaveUpTo, HasFailed}
 use Rattle.binaryfile.specs.Entries.{Contents}
 use Rattle.binaryfile.specs.declared.load.LoadFault.{LoadFault}
 use Rattle.binaryfile.specs.declared.load.LoadFault.TheVariants.{Memory, Read, TooManyBytes, TooManyMessages}
-use Rattle.day_segments.specs.Reading.{HasRead, IsWholeFile, Reading, followed_by}
+use Rattle.day_segments.specs.Reading.{HasRead, IsWholeFile, Reading}
 use Rattle.itch_table.specs.After.{outcomes}
 use Rattle.day_core.specs.Replaying.{IsSummary, is_passed}
 use Rattle.day_replay.specs.Dealing.{Dealt, IsDealt}
@@ -13,27 +13,33 @@ use Rattle.day_replay.specs.Replays.{HasReplayed, ReplayState}
 use Rattle.file_replay.specs.declared.file_end.FileEnd.{FileEnd}
 use Rattle.file_replay.specs.declared.replaying.FileSummary.{FileSummary}
 
--- a file was read so far, and ends so as far as it was read
-pub record IsSoFar (start now : Option (List ℕ)) (contents : Contents) (reading : Reading)
-    (end : FileEnd) : Type 0 where
-  pub read : HasRead start now contents reading
-  pub marked_is : end.marked ≡ contents.marked
-  pub tail_is : end.tail ≡ length contents.tail
+-- how far a file was read, how it ends so far, and how many messages it may have
+pub record FileReading : Type 0 where
+  pub reading : Reading
+  pub end : FileEnd
+  pub limit : ℕ
 
--- a segment more was read of a file with these contents, and its messages are dealt; with them there are no more than so
--- many
-pub record IsFurther (start now : Option (List ℕ)) (messages : ℕ) (before : Contents) (reading : Reading)
-    (end : FileEnd) (dealt : Dealt) : Type 0 where
-  pub segment : Contents
-  pub so_far : IsSoFar start now (followed_by before segment) reading end
-  pub dealt_is : IsDealt (length before.payloads) segment.payloads dealt
-  pub few : length before.payloads + length segment.payloads ≤ messages
+-- a file was read so far, and these are its contents as far as it was read
+pub record IsSoFar (start now : Option (List ℕ)) (contents : Contents) (file : FileReading) : Type 0 where
+  pub read : HasRead start now contents file.reading
+  pub few : length contents.payloads ≤ file.limit
+  pub marked_is : file.end.marked ≡ contents.marked
+  pub tail_is : file.end.tail ≡ length contents.tail
 
--- what comes after these contents of a file: a segment more, or its end
-abbrev pub Next : Option (List ℕ) → Option (List ℕ) → ℕ → Contents → Reading → Dealt → Option FileEnd → Type 0
-Next start now messages before reading dealt None = IsWholeFile start now reading.most before
-Next start now messages before reading dealt (Some end) =
-    IsFurther start now messages before reading end dealt
+-- a file of which these were the contents was read further, and the messages that came since are dealt
+pub record IsFurther (start now : Option (List ℕ)) (before : Contents) (file : FileReading)
+    (dealt : Dealt) : Type 0 where
+  pub contents : Contents
+  pub so_far : IsSoFar start now contents file
+  pub payloads : List (List ℕ)
+  pub follow : contents.payloads ≡ before.payloads ++ payloads
+  pub dealt_is : IsDealt (length before.payloads) payloads dealt
+
+-- what comes after these contents of a file: messages that are dealt, or its end
+abbrev pub Next : Option (List ℕ) → Option (List ℕ) → Contents → FileReading → Dealt → Bool → Type 0
+Next start now before file dealt true = IsFurther start now before file dealt
+Next start now before file dealt false =
+    IsSoFar start now before file × IsWholeFile start now file.reading.most before
 
 -- why a file that may have so many bytes and messages isn't replayed
 abbrev pub Stops : Option (List ℕ) → Option (List ℕ) → ℕ → ℕ → LoadFault → Type 0
@@ -43,30 +49,49 @@ Stops start now bytes messages TooManyBytes = GaveMore start now bytes
 Stops start now bytes messages TooManyMessages =
     (contents : Contents) × IsWholeFile start now bytes contents × (messages < length contents.payloads)
 
--- the next segment of a file that ends so as far as it was read is read and dealt, or the file was read whole, or it stops:
--- what the feed, the reader and the dealt messages were before, and are then
-pub record DealsNext {R : Type 0} (left : R → Option (List ℕ)) (messages : ℕ) (end : FileEnd)
-    (feed fed : Device R) (old new : Reading) (dealt : Dealt)
-    (result : Result (Option FileEnd) LoadFault) : Type 0 where
-  pub next : IfOk result (λ found. (start : Option (List ℕ)) (before : Contents)
-      → IsSoFar start (left feed.device) before old end
-      → Next start (left fed.device) messages before new dealt found)
+-- a file that was read so far is read further, or was read whole, or it stops: what the feed and the file were before, and
+-- are then
+pub record ReadsOn {R : Type 0} (left : R → Option (List ℕ)) (feed fed : Device R) (old new : FileReading)
+    (result : Result Bool LoadFault) : Type 0 where
   pub stops : IfErr result (λ fault. (start : Option (List ℕ)) (before : Contents)
-      → IsSoFar start (left feed.device) before old end
-      → Stops start (left fed.device) old.most messages fault)
+      → IsSoFar start (left feed.device) before old
+      → Stops start (left fed.device) old.reading.most old.limit fault)
   -- Whatever the result, no more is taken from the reader than the file may have, and one byte.
   pub taken : (start : Option (List ℕ)) (before : Contents)
-      → IsSoFar start (left feed.device) before old end
-      → GaveUpTo start (left fed.device) (old.most + 1)
-  pub most : new.most ≡ old.most
-  pub further : IfOk result (λ found. MatchOption found
-      (new ≡ old)
-      (λ _. (old.given < new.given) × (new.given ≤ new.most)))
+      → IsSoFar start (left feed.device) before old
+      → GaveUpTo start (left fed.device) (old.reading.most + 1)
+  pub most : new.reading.most ≡ old.reading.most
+  pub limit : new.limit ≡ old.limit
+  pub not_back : IfOk result (λ _. old.reading.given ≤ new.reading.given)
+  pub further : IfOk result (λ more. more ≡ true → old.reading.given < new.reading.given)
   -- The fault is Read exactly where the feed has failed, and a failed feed stays as it is.
   pub failed : IsErrOf result Read ↔ HasFailed fed
   pub for_good : HasFailed feed → fed ≡ feed
 
--- the messages of the next segment are replayed, unless memory is refused
+-- the next segment is dealt after the messages that are, `number` messages of the file before these, or it was read whole
+abbrev pub DealsSegment : {R : Type 0} → (R → Option (List ℕ)) → ℕ → Device R → Device R → FileReading
+    → FileReading → Dealt → Dealt → Type 0
+DealsSegment left number feed fed old new had dealt =
+    (start : Option (List ℕ)) (before : Contents) → IsFurther start (left feed.device) before old had
+    → number ≡ length before.payloads
+    → IsFurther start (left fed.device) before new dealt
+
+-- where a file was read whole, these are its contents
+abbrev pub EndsWith : {R : Type 0} → (R → Option (List ℕ)) → Device R → Device R → FileReading → FileReading
+    → Type 0
+EndsWith left feed fed old new =
+    (start : Option (List ℕ)) (contents : Contents) → IsSoFar start (left feed.device) contents old
+    → IsSoFar start (left fed.device) contents new × IsWholeFile start (left fed.device) new.reading.most contents
+
+-- the next messages of a file are read and dealt, or it was read whole, or it stops
+pub record DealsNext {R : Type 0} (left : R → Option (List ℕ)) (feed fed : Device R) (old new : FileReading)
+    (dealt : Dealt) (result : Result Bool LoadFault) : Type 0 where
+  pub next : IfOk result (λ more. (start : Option (List ℕ)) (before : Contents)
+      → IsSoFar start (left feed.device) before old
+      → Next start (left fed.device) before new dealt more)
+  pub reads : ReadsOn left feed fed old new result
+
+-- the messages that are dealt are replayed, unless memory is refused
 abbrev pub GoesOn : ReplayState → ReplayState → Dealt → Result (Unit {0}) AllocError → Type 0
 GoesOn old new dealt result =
     OnOk result ((day payloads : List (List ℕ)) → HasReplayed day old → IsDealt (length day) payloads dealt

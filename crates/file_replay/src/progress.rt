@@ -1,6 +1,6 @@
 //! Who is told how far a replay is.
 
-/// Is told how far a replay of a file is, after each segment.
+/// Is told how far a replay of a file is, each time that some segments were replayed.
 pub trait Progress {
     /// So many messages were replayed, and so many bytes of the file read.
     fn at(&self, messages: u32, bytes: u64);

@@ -8,21 +8,15 @@ ghost use Rattle.day_replay.specs.Dealing.{IsDealt};
 ghost use Rattle.day_replay.specs.Replays.{HasReplayed};
 ghost use Rattle.file_replay.specs.Files.{DealsNext, GoesOn, IsReplayedFile, IsSoFar, Stops};
 
-use crate::dealing::deal_next;
-use crate::file_end::FileEnd;
+use crate::file_reader::FileReader;
 use crate::progress::Progress;
 use binaryfile::{Feed, Limits, LoadFault};
 use day_core::WorkerCount;
-use day_replay::{DealtSegment, Replay, Summary};
-use day_segments::SegmentReader;
+use day_replay::{DealtMessages, Replay, Summary};
 use std::alloc::{AllocError, Allocator};
 use std::io::Read;
 use std::mem;
 use std::thread::{Threads, join_mut};
-
-/// How many bytes a segment takes, for a caller who has no reason for another number: shorter segments take longer, and
-/// longer ones gain nothing.
-pub const REPLAY_SEGMENT_BYTES: u32 = 1 << 24;
 
 /// What a whole file makes, in short.
 #[derive(Drop)]
@@ -35,28 +29,23 @@ pub struct FileSummary<A: Allocator> {
     pub tail: u64,
 }
 
-// Replays what was dealt, by so many threads, while the next segment is read and dealt. It returns how each ended.
+// Replays what was dealt, by so many threads, while the next segments are read and dealt. It returns how each ended.
 fn go_on<T: Threads + Sync, A: Allocator + Copy + Send + Sync, R: Read + Send>(
     rt: &T,
     alloc: A,
     feed: &mut Feed<R>,
-    limits: &Limits,
-    reader: &mut SegmentReader<A>,
-    end: &FileEnd,
-    dealt: &DealtSegment<A>,
-    next: &mut DealtSegment<A>,
+    file: &mut FileReader<A>,
+    dealt: &DealtMessages<A>,
+    next: &mut DealtMessages<A>,
     replay: &mut Replay<A>,
     threads: WorkerCount,
-) -> (Result<(), AllocError>, Result<Option<FileEnd>, LoadFault>)
+) -> (Result<(), AllocError>, Result<bool, LoadFault>)
     requires file { (start : Option (List ℕ)) × (before : Contents)
-        × IsSoFar start (R.remaining feed.old.device) before reader.old end.now
-        × (length before.payloads ≤ limits.now.messages) }
-    requires most { reader.old.most ≤ 2 ^ 40 }
+        × IsSoFar start (R.remaining feed.old.device) before file.old }
     requires replay { (day payloads : List (List ℕ)) × HasReplayed day replay.old
         × IsDealt (length day) payloads dealt.now }
     ensures replay { GoesOn replay.old replay.new dealt.now result.0 }
-    ensures deals { DealsNext R.remaining limits.now.messages end.now feed.old feed.new
-        reader.old reader.new next.new result.1 }
+    ensures deals { DealsNext R.remaining feed.old feed.new file.old file.new next.new result.1 }
 {
     let reader_alloc = alloc;
     let mut work = || -> Result<(), AllocError>
@@ -65,18 +54,16 @@ fn go_on<T: Threads + Sync, A: Allocator + Copy + Send + Sync, R: Read + Send>(
             × IsDealt (length day) payloads dealt.now }
         ensures { GoesOn replay.entry.now replay.exit.now dealt.entry.now result }
     { replay.go_on(rt, alloc, dealt, threads) };
-    let mut read = || -> Result<Option<FileEnd>, LoadFault>
+    let mut read = || -> Result<bool, LoadFault>
         requires { (start : Option (List ℕ)) × (before : Contents)
-            × IsSoFar start (R.remaining feed.now.device) before reader.now end.now
-            × (length before.payloads ≤ limits.now.messages) × (reader.now.most ≤ 2 ^ 40) }
-        ensures { DealsNext R.remaining limits.entry.now.messages end.entry.now feed.entry.now feed.exit.now
-            reader.entry.now reader.exit.now next.exit.now result }
-    { deal_next(reader_alloc, feed, limits.messages, reader, *end, next) };
+            × IsSoFar start (R.remaining feed.now.device) before file.now }
+        ensures { DealsNext R.remaining feed.entry.now feed.exit.now file.entry.now file.exit.now next.exit.now result }
+    { file.deal_next(reader_alloc, feed, next) };
     join_mut(rt, &mut work, &mut read)
 }
 
-/// Replays a day file by at most so many threads, while one more reads it. `segment` is how many bytes a segment takes, 1 to
-/// 2^30. `progress` is told after each segment how far it is.
+/// Replays a day file by at most so many threads, while one more reads it. `segment` is how many bytes are read at a time, 1
+/// to 2^30; threads replay up to 16 segments together. `progress` is told each time how far it is.
 ///
 /// No file is refused for its form. In the course of reading the first of these is returned: [`LoadFault::Read`] where the
 /// feed fails (at once, and with no memory, where it had failed before), [`LoadFault::Memory`] where memory is refused,
@@ -110,31 +97,28 @@ where
     if feed.failed() {
         return Err(LoadFault::Read);
     }
-    let mut reader = SegmentReader::new(alloc, segment, limits.bytes);
+    let mut file = FileReader::new(alloc, segment, limits);
     let mut replay = Replay::new(alloc)?;
-    let mut dealt = DealtSegment::new(alloc)?;
-    let mut next = DealtSegment::new(alloc)?;
-    let mut end = FileEnd::new();
-    let mut found = deal_next(alloc, feed, limits.messages, &mut reader, end, &mut dealt)?;
-    while let Some(so_far) = found {
-        end = so_far;
+    let mut dealt = DealtMessages::new(alloc)?;
+    let mut next = DealtMessages::new(alloc)?;
+    let mut more = file.deal_next(alloc, feed, &mut dealt)?;
+    while more {
         let (worked, read) = go_on(
             rt,
             alloc,
             feed,
-            &limits,
-            &mut reader,
-            &end,
+            &mut file,
             &dealt,
             &mut next,
             &mut replay,
             threads,
         );
-        found = read?;
+        more = read?;
         worked?;
         mem::swap(&mut dealt, &mut next);
-        progress.at(replay.len(), reader.bytes());
+        progress.at(replay.len(), file.bytes());
     }
+    let end = file.end();
     Ok(FileSummary {
         summary: replay.end(alloc)?,
         marked: end.marked,

@@ -12,7 +12,7 @@ use binaryfile::{Day, Feed, Limits, Sink};
 use clap::error::ErrorKind;
 use day_core::WorkerCount;
 use day_segments::SEGMENT_BYTES;
-use file_replay::{REPLAY_SEGMENT_BYTES, Silent};
+use file_replay::Silent;
 use itch_debug::debug_run;
 use itch_dis::{dis_part_run, dis_stream_run};
 use itch_engine::limits::{MOST_FILE_BYTES, MOST_MESSAGES};
@@ -120,7 +120,7 @@ where
 {
     let mut day = open_day(rt, terminals, path)?;
     let mut output = standard_output(rt);
-    let (segment, threads) = (REPLAY_SEGMENT_BYTES, worker_count(workers));
+    let threads = worker_count(workers);
     let (mut feed, mut sink) = (Feed::new(&mut day), Sink::new(&mut output));
     let run = if progress {
         let lines = ProgressLines::new(rt, path);
@@ -129,7 +129,7 @@ where
             rt.alloc(),
             &mut feed,
             &mut sink,
-            segment,
+            SEGMENT_BYTES,
             threads,
             &lines,
         );
@@ -141,7 +141,7 @@ where
             rt.alloc(),
             &mut feed,
             &mut sink,
-            segment,
+            SEGMENT_BYTES,
             threads,
             &Silent,
         )

@@ -2,7 +2,7 @@
 use crate::engines::{ENGINES, Engine};
 use binaryfile::{Feed, Sink};
 use day_core::WorkerCount;
-use file_replay::{REPLAY_SEGMENT_BYTES, Silent};
+use file_replay::Silent;
 use itch_engine::{ProgFault, replay_run, report_run};
 use itch_readings::{StockFault, StockName};
 use itch_watch::watch_run;
@@ -124,7 +124,7 @@ fn try_report<T: AllocGlobal + Threads + Wait + Sync>(
         rt.alloc(),
         &mut Feed::new(file),
         &mut Sink::new(&mut output),
-        REPLAY_SEGMENT_BYTES,
+        1 << 20,
         worker_count(threads)?,
         &Silent,
     );

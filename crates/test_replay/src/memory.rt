@@ -3,7 +3,7 @@ use crate::comparing::{follow, same_day};
 use crate::cutting::{Cut, segments_of};
 use crate::days::threads_of;
 use crate::replaying::{deal, replay_anew, replay_segments};
-use day_replay::DealtSegment;
+use day_replay::DealtMessages;
 use std::alloc::Global;
 use std::test::Fail;
 use std::thread::Threads;
@@ -35,7 +35,7 @@ fn try_deal<R: Threads + Sync>(
     refusal: Refusal,
 ) -> Result<Tried, Fail> {
     let day = two_stocks(heap)?;
-    let mut dealt = DealtSegment::new(heap)?;
+    let mut dealt = DealtMessages::new(heap)?;
     heap.restart(refusal);
     let first = deal(&mut dealt, &day);
     let tried = heap.tried(first.is_err());

@@ -4,7 +4,7 @@ ghost use Rattle.day_replay.specs.Dealing.{IsDealt};
 
 use binaryfile::Day;
 use day_core::WorkerCount;
-use day_replay::{DealtSegment, Replay, Summary};
+use day_replay::{DealtMessages, Replay, Summary};
 use std::alloc::{AllocError, Allocator};
 use std::thread::Threads;
 
@@ -16,12 +16,13 @@ pub fn replay_segments<R: Threads + Sync, A: Allocator + Copy + Send + Sync>(
     threads: WorkerCount,
 ) -> Result<Summary<A>, AllocError> {
     let mut replay = Replay::new(alloc)?;
-    let mut dealt = DealtSegment::new(alloc)?;
+    let mut dealt = DealtMessages::new(alloc)?;
     for segment in segments {
         let before = replay.len();
         if u64::from(before) + u64::from(segment.len()) > u64::from(u32::MAX) {
             break;
         }
+        dealt.clear();
         dealt.deal(before, segment)?;
         replay.go_on(rt, alloc, &dealt, threads)?;
     }
@@ -29,11 +30,12 @@ pub fn replay_segments<R: Threads + Sync, A: Allocator + Copy + Send + Sync>(
 }
 
 /// Deals a whole day.
-pub fn deal<A: Allocator>(dealt: &mut DealtSegment<A>, day: &Day<A>) -> Result<(), AllocError>
+pub fn deal<A: Allocator>(dealt: &mut DealtMessages<A>, day: &Day<A>) -> Result<(), AllocError>
     ensures { OnOk result (IsDealt 0 day.now.payloads dealt.new) }
 {
     // For the proof alone: its numbers fit.
     let _messages = day.len();
+    dealt.clear();
     dealt.deal(0, day)
 }
 
@@ -41,7 +43,7 @@ pub fn deal<A: Allocator>(dealt: &mut DealtSegment<A>, day: &Day<A>) -> Result<(
 pub fn replay_anew<R: Threads + Sync, A: Allocator + Copy + Send + Sync>(
     rt: &R,
     alloc: A,
-    dealt: &mut DealtSegment<A>,
+    dealt: &mut DealtMessages<A>,
     day: &Day<A>,
     threads: WorkerCount,
 ) -> Result<Summary<A>, AllocError> {

@@ -1,96 +1,88 @@
-use Rattle.std.proofs.Common.{◌∙◌, ℕ, sym, subst, arith}
+use Rattle.std.proofs.Common.{◌∙◌, List, ℕ, sym, subst, ap, arith}
 use Rattle.std.proofs.lemmas.Result.{err_from_is_err_and}
-use Rattle.std.proofs.lemmas.List.{length-append}
 use Rattle.binaryfile.specs.Devices.{HasFailed}
 use Rattle.binaryfile.specs.declared.load.LoadFault.TheVariants.{Memory}
 use Rattle.day_replay.specs.Dealing.{Dealt}
-use Rattle.day_segments.specs.Reading.{IsWholeFile, followed_by, nothing_read}
+use Rattle.day_replay.specs.Replays.{HasReplayed}
+use Rattle.day_segments.specs.Reading.{IsWholeFile, nothing_read}
 use Rattle.day_segments.proofs.SegmentCases.{took_within}
+use Rattle.file_replay.specs.declared.file_end.FileEnd.{FileEnd}
 use Rattle.file_replay.specs.Files.{Next, Stops}
 use Rattle.file_replay.proofs.Faults.{failed_as}
-use Rattle.file_replay.proofs.Replayed.{further_of, none_so_far, whole_of}
-use Rattle.file_replay.proofs.Dealt.{gone, less_left, read_failed, stopped, went_on, works}
+use Rattle.file_replay.proofs.Replayed.{further_of, whole_of}
+use Rattle.file_replay.proofs.Dealt.{dealt_next, gone, less_left, read_failed, stopped, works}
 use Rattle.file_replay.proofs.replaying.replay_file.Goals as goal
 
-pub deal_next-requires-clause-file : goal.deal_next-requires-clause-file
-deal_next-requires-clause-file g c =
+pub deal_next-requires : goal.deal_next-requires
+deal_next-requires g c =
     let start = g.R.Read.remaining c.args.feed.now.device in
-    (start, nothing_read, none_so_far start c.new-reader.result (c.new-reader.ensures.read start) c.new-end.result c.new-end.ensures, omega arith)
+    (start, nothing_read, c.new-file.ensures.so_far start)
 
-pub returns-in_err-found-clause-fault : goal.returns-in_err-found-clause-fault
-returns-in_err-found-clause-fault g c =
+pub returns-in_err-more-clause-fault : goal.returns-in_err-more-clause-fault
+returns-in_err-more-clause-fault g c =
     let start = g.R.Read.remaining c.args.feed.now.device in
     let now = g.R.Read.remaining c.deal_next.new.feed.device in
-    let none = none_so_far start c.new-reader.result (c.new-reader.ensures.read start) c.new-end.result c.new-end.ensures in
-    let same = err_from_is_err_and c.from_residual-in_err-found.result c.from_residual-in_err-found.ensures.1 in
-    let stops = stopped g.R.Read.remaining c.args.limits.messages c.new-end.result _ _ _ _ _ c.deal_next.result c.deal_next.ensures c.in_err-found.field-0.0 c.in_err-found.was start nothing_read none in
-    rw same.1 (subst (Stops start now c.args.limits.bytes c.args.limits.messages) (sym same.2)
-    (subst (λ (most : ℕ). Stops start now most c.args.limits.messages c.in_err-found.field-0.0) c.new-reader.ensures.most stops))
+    let messages = c.args.limits.messages in
+    let fault = c.in_err-more.field-0.0 in
+    let same = err_from_is_err_and c.from_residual-in_err-more.result c.from_residual-in_err-more.ensures.1 in
+    let stops = stopped g.R.Read.remaining c.args.feed.now c.deal_next.new.feed c.new-file.result c.deal_next.new.self c.deal_next.result c.deal_next.ensures.reads fault c.in_err-more.was start nothing_read (c.new-file.ensures.so_far start) in
+    let limited = subst (λ (limit : ℕ). Stops start now c.new-file.result.reading.most limit fault) c.new-file.ensures.limit stops in
+    rw same.1 (subst (Stops start now c.args.limits.bytes messages) (sym same.2) (subst (λ (most : ℕ). Stops start now most messages fault) c.new-file.ensures.most limited))
 
-pub returns-in_err-found-clause-failed : goal.returns-in_err-found-clause-failed
-returns-in_err-found-clause-failed g c =
-    let same = err_from_is_err_and c.from_residual-in_err-found.result c.from_residual-in_err-found.ensures.1 in
-    let failed = read_failed g.R.Read.remaining c.args.limits.messages c.new-end.result _ _ _ _ _ c.deal_next.result c.deal_next.ensures c.in_err-found.field-0.0 c.in_err-found.was in
-    failed_as (HasFailed c.deal_next.new.feed) _ _ c.in_err-found.field-0.0 same.1 same.2 failed
+pub returns-in_err-more-clause-failed : goal.returns-in_err-more-clause-failed
+returns-in_err-more-clause-failed g c =
+    let same = err_from_is_err_and c.from_residual-in_err-more.result c.from_residual-in_err-more.ensures.1 in
+    let failed = read_failed g.R.Read.remaining c.args.feed.now c.deal_next.new.feed c.new-file.result c.deal_next.new.self c.deal_next.result c.deal_next.ensures.reads c.in_err-more.field-0.0 c.in_err-more.was in
+    failed_as (HasFailed c.deal_next.new.feed) _ _ c.in_err-more.field-0.0 same.1 same.2 failed
 
-pub returns-in_err-found-clause-taken : goal.returns-in_err-found-clause-taken
-returns-in_err-found-clause-taken g c =
+pub returns-in_err-more-clause-taken : goal.returns-in_err-more-clause-taken
+returns-in_err-more-clause-taken g c =
     let start = g.R.Read.remaining c.args.feed.now.device in
-    let none = none_so_far start c.new-reader.result (c.new-reader.ensures.read start) c.new-end.result c.new-end.ensures in
-    took_within start (g.R.Read.remaining c.deal_next.new.feed.device) c.new-reader.result.most c.args.limits.bytes c.new-reader.ensures.most (c.deal_next.ensures.taken start nothing_read none)
+    took_within start (g.R.Read.remaining c.deal_next.new.feed.device) c.new-file.result.reading.most c.args.limits.bytes c.new-file.ensures.most (c.deal_next.ensures.reads.taken start nothing_read (c.new-file.ensures.so_far start))
 
-pub loop-found-init : goal.loop-found-init
-loop-found-init g c =
-    let start = g.R.Read.remaining c.args.feed.now.device in
-    let none = none_so_far start c.new-reader.result (c.new-reader.ensures.read start) c.new-end.result c.new-end.ensures in
+pub loop-more-init : goal.loop-more-init
+loop-more-init g c =
+    let left = g.R.Read.remaining in
+    let start = left c.args.feed.now.device in
+    let new = c.deal_next.new in
     record {
       so_far = record {
         before = nothing_read;
         replayed = c.in_ok-replay.ensures {u = tt};
-        next = went_on g.R.Read.remaining c.args.limits.messages c.new-end.result _ _ _ _ _ c.deal_next.result c.deal_next.ensures c.in_ok-found.found c.in_ok-found.was start nothing_read none;
-        few = omega arith;
-        marked_is = none.marked_is;
-        tail_is = none.tail_is;
+        next = dealt_next left c.args.feed.now new.feed c.new-file.result new.self new.dealt c.deal_next.result c.in_ok-more.more c.in_ok-more.was c.deal_next.ensures start nothing_read (c.new-file.ensures.so_far start);
       };
-      most = c.deal_next.ensures.most ∙ c.new-reader.ensures.most;
-      works = works g.R.Read.remaining c.args.limits.messages c.new-end.result _ _ _ _ _ c.deal_next.result c.deal_next.ensures c.in_ok-found.found c.in_ok-found.was;
+      most = c.deal_next.ensures.reads.most ∙ c.new-file.ensures.most;
+      limit = c.deal_next.ensures.reads.limit ∙ c.new-file.ensures.limit;
+      works = works left c.args.feed.now new.feed c.new-file.result new.self c.deal_next.result c.deal_next.ensures.reads c.in_ok-more.more c.in_ok-more.was;
     }
 
-pub returns-in_err-found-2-clause-fault : goal.returns-in_err-found-2-clause-fault
-returns-in_err-found-2-clause-fault g c =
+pub returns-in_err-more-2-clause-fault : goal.returns-in_err-more-2-clause-fault
+returns-in_err-more-2-clause-fault g c =
     let left = g.R.Read.remaining in
     let start = left c.args.feed.now.device in
     let now = left c.go_on-worked.new.feed.device in
     let messages = c.args.limits.messages in
-    let inv = c.loop-found.invariant in
-    let so_far = inv.so_far in
-    let end = c.in-Some.so_far in
-    let more = further_of start (left c.loop-found.feed.device) messages so_far.before c.loop-found.reader c.loop-found.dealt c.loop-found.found end c.in-Some.is so_far.next in
-    let all = followed_by so_far.before more.segment in
-    let deals = c.go_on-worked.ensures.deals in
-    let same = err_from_is_err_and c.from_residual-in_err-found-2.result c.from_residual-in_err-found-2.ensures.1 in
-    let stops = stopped left messages end _ _ c.loop-found.reader _ _ c.go_on-worked.result.1 deals c.in_err-found-2.field-0.0 c.in_err-found-2.was start all more.so_far in
-    rw same.1 (subst (Stops start now c.args.limits.bytes messages) (sym same.2) (subst (λ (most : ℕ). Stops start now most messages c.in_err-found-2.field-0.0) inv.most stops))
+    let fault = c.in_err-more-2.field-0.0 in
+    let inv = c.loop-more.invariant in
+    let more = further_of start (left c.loop-more.feed.device) inv.so_far.before c.loop-more.file c.loop-more.dealt c.loop-more.more c.loop-more-test.true inv.so_far.next in
+    let same = err_from_is_err_and c.from_residual-in_err-more-2.result c.from_residual-in_err-more-2.ensures.1 in
+    let stops = stopped left c.loop-more.feed c.go_on-worked.new.feed c.loop-more.file c.go_on-worked.new.file c.go_on-worked.result.1 c.go_on-worked.ensures.deals.reads fault c.in_err-more-2.was start more.contents more.so_far in
+    let limited = subst (λ (limit : ℕ). Stops start now c.loop-more.file.reading.most limit fault) inv.limit stops in
+    rw same.1 (subst (Stops start now c.args.limits.bytes messages) (sym same.2) (subst (λ (most : ℕ). Stops start now most messages fault) inv.most limited))
 
-pub returns-in_err-found-2-clause-failed : goal.returns-in_err-found-2-clause-failed
-returns-in_err-found-2-clause-failed g c =
-    let same = err_from_is_err_and c.from_residual-in_err-found-2.result c.from_residual-in_err-found-2.ensures.1 in
-    let failed = read_failed g.R.Read.remaining c.args.limits.messages c.in-Some.so_far _ _ _ _ _ c.go_on-worked.result.1 c.go_on-worked.ensures.deals c.in_err-found-2.field-0.0 c.in_err-found-2.was in
-    failed_as (HasFailed c.go_on-worked.new.feed) _ _ c.in_err-found-2.field-0.0 same.1 same.2 failed
+pub returns-in_err-more-2-clause-failed : goal.returns-in_err-more-2-clause-failed
+returns-in_err-more-2-clause-failed g c =
+    let same = err_from_is_err_and c.from_residual-in_err-more-2.result c.from_residual-in_err-more-2.ensures.1 in
+    let failed = read_failed g.R.Read.remaining c.loop-more.feed c.go_on-worked.new.feed c.loop-more.file c.go_on-worked.new.file c.go_on-worked.result.1 c.go_on-worked.ensures.deals.reads c.in_err-more-2.field-0.0 c.in_err-more-2.was in
+    failed_as (HasFailed c.go_on-worked.new.feed) _ _ c.in_err-more-2.field-0.0 same.1 same.2 failed
 
-pub returns-in_err-found-2-clause-taken : goal.returns-in_err-found-2-clause-taken
-returns-in_err-found-2-clause-taken g c =
+pub returns-in_err-more-2-clause-taken : goal.returns-in_err-more-2-clause-taken
+returns-in_err-more-2-clause-taken g c =
     let left = g.R.Read.remaining in
     let start = left c.args.feed.now.device in
-    let now = left c.go_on-worked.new.feed.device in
-    let messages = c.args.limits.messages in
-    let inv = c.loop-found.invariant in
-    let so_far = inv.so_far in
-    let end = c.in-Some.so_far in
-    let more = further_of start (left c.loop-found.feed.device) messages so_far.before c.loop-found.reader c.loop-found.dealt c.loop-found.found end c.in-Some.is so_far.next in
-    let all = followed_by so_far.before more.segment in
-    let deals = c.go_on-worked.ensures.deals in
-    took_within start now c.loop-found.reader.most c.args.limits.bytes inv.most (deals.taken start all more.so_far)
+    let inv = c.loop-more.invariant in
+    let more = further_of start (left c.loop-more.feed.device) inv.so_far.before c.loop-more.file c.loop-more.dealt c.loop-more.more c.loop-more-test.true inv.so_far.next in
+    took_within start (left c.go_on-worked.new.feed.device) c.loop-more.file.reading.most c.args.limits.bytes inv.most (c.go_on-worked.ensures.deals.reads.taken start more.contents more.so_far)
 
 pub returns-in_err-worked-clause-fault : goal.returns-in_err-worked-clause-fault
 returns-in_err-worked-clause-fault g c =
@@ -100,71 +92,71 @@ returns-in_err-worked-clause-fault g c =
 pub returns-in_err-worked-clause-failed : goal.returns-in_err-worked-clause-failed
 returns-in_err-worked-clause-failed g c =
     let same = err_from_is_err_and c.from_residual-in_err-worked.result c.from_residual-in_err-worked.ensures.1 in
-    let runs = works g.R.Read.remaining c.args.limits.messages c.in-Some.so_far _ _ _ _ _ c.go_on-worked.result.1 c.go_on-worked.ensures.deals c.in_ok-found-2.found c.in_ok-found-2.was in
+    let runs = works g.R.Read.remaining c.loop-more.feed c.go_on-worked.new.feed c.loop-more.file c.go_on-worked.new.file c.go_on-worked.result.1 c.go_on-worked.ensures.deals.reads c.in_ok-more-2.more c.in_ok-more-2.was in
     failed_as (HasFailed c.go_on-worked.new.feed) _ _ Memory same.1 same.2 (λ read. let never : ⊥ = cc in absurd never, λ failed. absurd (runs failed))
 
 pub returns-in_err-worked-clause-taken : goal.returns-in_err-worked-clause-taken
 returns-in_err-worked-clause-taken g c =
     let left = g.R.Read.remaining in
     let start = left c.args.feed.now.device in
-    let now = left c.go_on-worked.new.feed.device in
-    let messages = c.args.limits.messages in
-    let inv = c.loop-found.invariant in
-    let so_far = inv.so_far in
-    let end = c.in-Some.so_far in
-    let more = further_of start (left c.loop-found.feed.device) messages so_far.before c.loop-found.reader c.loop-found.dealt c.loop-found.found end c.in-Some.is so_far.next in
-    let all = followed_by so_far.before more.segment in
-    let deals = c.go_on-worked.ensures.deals in
-    took_within start now c.loop-found.reader.most c.args.limits.bytes inv.most (deals.taken start all more.so_far)
+    let inv = c.loop-more.invariant in
+    let more = further_of start (left c.loop-more.feed.device) inv.so_far.before c.loop-more.file c.loop-more.dealt c.loop-more.more c.loop-more-test.true inv.so_far.next in
+    took_within start (left c.go_on-worked.new.feed.device) c.loop-more.file.reading.most c.args.limits.bytes inv.most (c.go_on-worked.ensures.deals.reads.taken start more.contents more.so_far)
 
-pub loop-found-smaller : goal.loop-found-smaller
-loop-found-smaller g c =
-    less_left g.R.Read.remaining c.args.limits.messages c.in-Some.so_far _ _ c.loop-found.reader c.go_on-worked.new.reader _ c.go_on-worked.result.1 c.go_on-worked.ensures.deals c.in_ok-found-2.found c.in_ok-found-2.was c.in-Some.so_far c.loop-found.found c.in-Some.is
-
-pub loop-found-preserved : goal.loop-found-preserved
-loop-found-preserved g c =
+pub loop-more-smaller : goal.loop-more-smaller
+loop-more-smaller g c =
     let left = g.R.Read.remaining in
     let start = left c.args.feed.now.device in
     let now = left c.go_on-worked.new.feed.device in
-    let messages = c.args.limits.messages in
-    let inv = c.loop-found.invariant in
-    let so_far = inv.so_far in
-    let end = c.in-Some.so_far in
-    let more = further_of start (left c.loop-found.feed.device) messages so_far.before c.loop-found.reader c.loop-found.dealt c.loop-found.found end c.in-Some.is so_far.next in
-    let all = followed_by so_far.before more.segment in
+    let new = c.go_on-worked.new in
     let deals = c.go_on-worked.ensures.deals in
-    let went = went_on left messages end _ _ c.loop-found.reader c.go_on-worked.new.reader _ c.go_on-worked.result.1 deals c.in_ok-found-2.found c.in_ok-found-2.was start all more.so_far in
+    let inv = c.loop-more.invariant in
+    let more = further_of start (left c.loop-more.feed.device) inv.so_far.before c.loop-more.file c.loop-more.dealt c.loop-more.more c.loop-more-test.true inv.so_far.next in
+    let went = dealt_next left c.loop-more.feed new.feed c.loop-more.file new.file new.next c.go_on-worked.result.1 c.in_ok-more-2.more c.in_ok-more-2.was deals start more.contents more.so_far in
+    less_left left c.loop-more.feed new.feed c.loop-more.file new.file c.go_on-worked.result.1 deals.reads c.in_ok-more-2.more c.in_ok-more-2.was c.loop-more.more c.loop-more-test.true
+    (λ is. (further_of start now more.contents new.file new.next c.in_ok-more-2.more is went).so_far.read.within)
+
+pub loop-more-preserved : goal.loop-more-preserved
+loop-more-preserved g c =
+    let left = g.R.Read.remaining in
+    let start = left c.args.feed.now.device in
+    let now = left c.go_on-worked.new.feed.device in
+    let new = c.go_on-worked.new in
+    let deals = c.go_on-worked.ensures.deals in
+    let inv = c.loop-more.invariant in
+    let so_far = inv.so_far in
+    let more = further_of start (left c.loop-more.feed.device) so_far.before c.loop-more.file c.loop-more.dealt c.loop-more.more c.loop-more-test.true so_far.next in
+    let went = dealt_next left c.loop-more.feed new.feed c.loop-more.file new.file new.next c.go_on-worked.result.1 c.in_ok-more-2.more c.in_ok-more-2.was deals start more.contents more.so_far in
+    let replayed = gone c.loop-more.replay new.replay c.loop-more.dealt c.go_on-worked.result.0 _ c.in_ok-worked.was c.go_on-worked.ensures.replay so_far.before.payloads more.payloads so_far.replayed more.dealt_is in
     record {
       so_far = record {
-        before = all;
-        replayed = gone c.loop-found.replay c.go_on-worked.new.replay c.loop-found.dealt c.go_on-worked.result.0 _ c.in_ok-worked.was c.go_on-worked.ensures.replay so_far.before.payloads more.segment.payloads so_far.replayed more.dealt_is;
-        next = subst (λ (dealt : Dealt). Next start now messages all c.go_on-worked.new.reader dealt c.in_ok-found-2.found) (sym c.swap.ensures.x_after) went;
-        few = omega (arith, more.few, length-append so_far.before.payloads more.segment.payloads);
-        marked_is = more.so_far.marked_is;
-        tail_is = more.so_far.tail_is;
+        before = more.contents;
+        replayed = subst (λ (day : List (List ℕ)). HasReplayed day new.replay) (sym more.follow) replayed;
+        next = subst (λ (dealt : Dealt). Next start now more.contents new.file dealt c.in_ok-more-2.more) (sym c.swap.ensures.x_after) went;
       };
-      most = deals.most ∙ inv.most;
-      works = works left messages end _ _ c.loop-found.reader c.go_on-worked.new.reader _ c.go_on-worked.result.1 deals c.in_ok-found-2.found c.in_ok-found-2.was;
+      most = deals.reads.most ∙ inv.most;
+      limit = deals.reads.limit ∙ inv.limit;
+      works = works left c.loop-more.feed new.feed c.loop-more.file new.file c.go_on-worked.result.1 deals.reads c.in_ok-more-2.more c.in_ok-more-2.was;
     }
 
 pub returns-clause-replayed : goal.returns-clause-replayed
 returns-clause-replayed g c =
     let left = g.R.Read.remaining in
     let start = left c.args.feed.now.device in
-    let now = left c.loop-found.feed.device in
-    let inv = c.loop-found.invariant in
+    let now = left c.loop-more.feed.device in
+    let inv = c.loop-more.invariant in
     let so_far = inv.so_far in
-    let whole = whole_of start now c.args.limits.messages so_far.before c.loop-found.reader c.loop-found.dealt c.loop-found.found c.in_default.is so_far.next in
+    let whole = whole_of start now so_far.before c.loop-more.file c.loop-more.dealt c.loop-more.more c.loop-more-test.false so_far.next in
     let made = c.in_ok-end.ensures {u = tt} in
     record {
       contents = so_far.before;
-      whole = subst (λ (most : ℕ). IsWholeFile start now most so_far.before) inv.most whole;
-      few = so_far.few;
+      whole = subst (λ (most : ℕ). IsWholeFile start now most so_far.before) inv.most whole.1;
+      few = omega (arith, whole.0.few, inv.limit);
       makes = record {
         count_is = made.messages so_far.before.payloads so_far.replayed;
         passed_is = made.passed so_far.before.payloads so_far.replayed;
         summary = made.summary so_far.before.payloads so_far.replayed;
-        marked_is = so_far.marked_is;
-        tail_is = so_far.tail_is;
+        marked_is = ap (λ (end : FileEnd). end.marked) c.end-end.ensures ∙ whole.0.marked_is;
+        tail_is = ap (λ (end : FileEnd). end.tail) c.end-end.ensures ∙ whole.0.tail_is;
       };
     }

@@ -3,12 +3,13 @@ use Rattle.binaryfile.specs.Devices.{HasFailed}
 use Rattle.file_replay.proofs.Replayed.{IsReplaying, is_dealt}
 use Rattle.file_replay.proofs.replaying.replay_file.Given as goal
 
-abbrev pub invariant-loop-found : goal.invariant-loop-found
-invariant-loop-found g l = record {
-  so_far : IsReplaying (g.R.Read.remaining l.fn.feed.device) (g.R.Read.remaining l.feed.device) l.fn.limits.messages l.reader l.found l.end l.dealt l.replay;
-  most : l.reader.most ≡ l.fn.limits.bytes;
+abbrev pub invariant-loop-more : goal.invariant-loop-more
+invariant-loop-more g l = record {
+  so_far : IsReplaying (g.R.Read.remaining l.fn.feed.device) (g.R.Read.remaining l.feed.device) l.file l.more l.dealt l.replay;
+  most : l.file.reading.most ≡ l.fn.limits.bytes;
+  limit : l.file.limit ≡ l.fn.limits.messages;
   works : ¬ HasFailed l.feed;
 }
 
-abbrev pub decreases-loop-found : goal.decreases-loop-found
-decreases-loop-found g l = 2 * (l.reader.most - l.reader.given) + is_dealt l.found
+abbrev pub decreases-loop-more : goal.decreases-loop-more
+decreases-loop-more g l = 2 * (l.file.reading.most - l.file.reading.given) + is_dealt l.more

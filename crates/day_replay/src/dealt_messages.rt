@@ -1,4 +1,4 @@
-//! The messages of a segment, dealt to the batches of their stocks.
+//! Messages of a day in a row, dealt to the batches of their stocks.
 ghost use Rattle.std.specs.Prelude.{◌≡◌, ◌+◌, ◌<◌, ◌^◌, ◌++◌, ◌∷◌, ℕ, List, [], IfOk, OnOk, length};
 ghost use Rattle.binaryfile.specs.Entries.{IsPayload};
 ghost use Rattle.day_replay.specs.Dealing.{IsDealt};
@@ -11,24 +11,24 @@ use itch_table::{Part, part};
 use std::alloc::{AllocError, Allocator};
 use std::marker::Model;
 
-// How many times the bytes of a segment the buffers of its entries may have room for, before their memory is given back.
+// How many times the bytes of its entries the buffers may have room for, before their memory is given back.
 const MOST_ROOM: usize = 8;
 
-// A segment of fewer bytes counts as one of so many, since 128 buffers are larger than their entries then.
+// Fewer bytes count as so many, since 128 buffers are larger than their entries then.
 const LEAST_BYTES: usize = 1 << 20;
 
-/// The messages of a segment of a day, dealt to the batches of their stocks: for each batch copies of its messages, and
-/// what is known of those of no stock. It is seen as these.
+/// Messages of a day in a row, dealt to the batches of their stocks: for each batch copies of its messages, and what is
+/// known of those of no stock. It is seen as these.
 ///
 /// Of this project.
 #[derive(Drop)]
-pub struct DealtSegment<A: Allocator> {
+pub struct DealtMessages<A: Allocator> {
     batches: Vec<BatchMessages<A>, A>,
     no_stock: NoStock<A>,
     messages: u32,
 }
 
-impl<A: Allocator> Model for DealtSegment<A> {
+impl<A: Allocator> Model for DealtMessages<A> {
     ghost use Rattle.std.specs.Prelude.{◌≡◌, length};
     ghost use Rattle.day_replay.specs.declared.TheConstants.{BATCHES};
     ghost use Rattle.day_replay.specs.Dealing.{Dealt};
@@ -41,9 +41,9 @@ impl<A: Allocator> Model for DealtSegment<A> {
     ghost invariant = { λ d. length d.batches.items ≡ BATCHES };
 }
 
-impl<A: Allocator> DealtSegment<A> {
+impl<A: Allocator> DealtMessages<A> {
     /// No messages. The memory of its buffers is that of `alloc`.
-    pub fn new(alloc: A) -> Result<DealtSegment<A>, AllocError>
+    pub fn new(alloc: A) -> Result<DealtMessages<A>, AllocError>
     where
         A: Copy,
         ensures { IfOk result (λ dealt. (before : ℕ) → before < 2 ^ 32 → IsDealt before [] dealt) }
@@ -52,26 +52,29 @@ impl<A: Allocator> DealtSegment<A> {
         for _batch in 0..BATCHES {
             batches.push(BatchMessages::new(alloc))?;
         }
-        Ok(DealtSegment {
+        Ok(DealtMessages {
             batches,
             no_stock: NoStock::new(alloc),
             messages: 0,
         })
     }
 
-    // For how many bytes of entries its batches have memory.
-    fn room(&self) -> usize {
-        let mut room = 0usize;
+    // Whether its batches have memory for far more bytes than their messages take.
+    fn is_roomy(&self) -> bool {
+        let (mut bytes, mut room) = (0usize, 0usize);
         for batch in &self.batches {
+            bytes = bytes.saturating_add(batch.bytes());
             room = room.saturating_add(batch.room());
         }
-        room
+        room / MOST_ROOM > bytes.max(LEAST_BYTES)
     }
 
-    // Removes all messages. The memory is kept, or given back.
-    fn clear(&mut self, keep: bool)
+    /// Removes all messages. The memory of its buffers is kept, unless they have grown to far more than the messages took,
+    /// as they do where those before were of other stocks.
+    pub fn clear(&mut self)
         ensures { (before : ℕ) → before < 2 ^ 32 → IsDealt before [] self.new }
     {
+        let keep = !self.is_roomy();
         for batch in 0..BATCHES {
             self.batches[batch].clear(keep);
         }
@@ -99,25 +102,25 @@ impl<A: Allocator> DealtSegment<A> {
         Ok(())
     }
 
-    /// Deals the messages of a segment in place of those that it had. `before` is how many messages of the day come before
-    /// the segment; with it the day has fewer than 2^32. The memory of its buffers is kept, unless they have grown to far
-    /// more than the segment needs, as they do where the messages of a segment are of other stocks than those before.
+    /// Deals the messages of a segment after those that it has. `before` is how many messages of the day come before all of
+    /// these; with them the day has fewer than 2^32.
     ///
-    /// An error says that memory was refused. Then it may hold anything, and a segment can be dealt to it anew.
+    /// An error says that memory was refused. Then it may hold anything, until it is cleared.
     pub fn deal(&mut self, before: u32, segment: &Day<A>) -> Result<(), AllocError>
-        requires few { before + length segment.now.payloads < 2 ^ 32 }
-        ensures dealt { OnOk result (IsDealt before segment.now.payloads self.new) }
+        requires dealt { (payloads : List (List ℕ)) × IsDealt before payloads self.old
+            × (before + length payloads + length segment.now.payloads < 2 ^ 32) }
+        ensures dealt { OnOk result ((payloads : List (List ℕ)) → IsDealt before payloads self.old
+            → IsDealt before (payloads ++ segment.now.payloads) self.new) }
     {
-        // The bytes also say, for the proof, that each is the payload of an entry.
-        let bytes = segment.bytes().len().max(LEAST_BYTES);
-        self.clear(self.room() / MOST_ROOM <= bytes);
+        // For the proof alone: it says that each is the payload of an entry.
+        let _bytes = segment.bytes();
         for payload in segment.payloads() {
             self.push(before, payload)?;
         }
         Ok(())
     }
 
-    /// How many messages the segment has.
+    /// How many messages it has.
     pub fn len(&self) -> u32
         ensures { result ≡ self.now.messages }
     {

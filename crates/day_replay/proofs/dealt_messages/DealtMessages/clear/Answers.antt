@@ -1,6 +1,6 @@
 use Rattle.std.proofs.Common.{arith}
 use Rattle.day_replay.proofs.Dealt.{none_dealt}
-use Rattle.day_replay.proofs.dealt_segment.DealtSegment.clear.Goals as goal
+use Rattle.day_replay.proofs.dealt_messages.DealtMessages.clear.Goals as goal
 
 pub returns : goal.returns
 returns g c = λ before fits.

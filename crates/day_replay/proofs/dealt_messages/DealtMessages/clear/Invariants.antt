@@ -1,5 +1,5 @@
 use Rattle.std.proofs.Common.{◌≡◌, ◌<◌, List, ℕ, [], get_or, length}
-use Rattle.day_replay.proofs.dealt_segment.DealtSegment.clear.Given as goal
+use Rattle.day_replay.proofs.dealt_messages.DealtMessages.clear.Given as goal
 
 abbrev pub invariant-loop-batch : goal.invariant-loop-batch
 invariant-loop-batch g l =

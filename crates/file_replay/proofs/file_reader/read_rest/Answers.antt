@@ -7,7 +7,7 @@ use Rattle.day_segments.specs.Reading.{IsWholeFile, followed_by}
 use Rattle.day_segments.proofs.SegmentCases.{all_of_it, one_more, took_within}
 use Rattle.file_replay.specs.Files.{Stops}
 use Rattle.file_replay.proofs.Faults.{stops}
-use Rattle.file_replay.proofs.dealing.read_rest.Goals as goal
+use Rattle.file_replay.proofs.file_reader.read_rest.Goals as goal
 
 pub returns-in_err-_segment-clause-fault : goal.returns-in_err-_segment-clause-fault
 returns-in_err-_segment-clause-fault g c =

@@ -2,7 +2,7 @@ use Rattle.std.proofs.Common.{◌≡◌, ◌-◌, ◌≤◌, List, Option, ℕ, 
 use Rattle.binaryfile.specs.Devices.{HasFailed}
 use Rattle.binaryfile.specs.Entries.{Contents}
 use Rattle.day_segments.specs.Reading.{HasRead}
-use Rattle.file_replay.proofs.dealing.read_rest.Given as goal
+use Rattle.file_replay.proofs.file_reader.read_rest.Given as goal
 
 abbrev pub invariant-loop-segment : goal.invariant-loop-segment
 invariant-loop-segment g l = record {
