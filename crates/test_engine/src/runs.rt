@@ -225,7 +225,7 @@ fn try_read<T: AllocGlobal + Threads + Wait + Sync>(
 }
 
 // One call for each byte, and one more that gives the end. Some engines read segment by segment: the segment after the
-// last one asks once more.
+// last one asks once more, and in a replay where no segment is left to deal too, if the last ones were dealt together.
 #[test]
 fn engines_send_nothing_after_a_failed_read(rt: HostRuntime) -> Result<(), Fail> {
     for engine in ENGINES {
@@ -233,8 +233,16 @@ fn engines_send_nothing_after_a_failed_read(rt: HostRuntime) -> Result<(), Fail>
             try_read(&rt, engine, failing)?;
         }
     }
-    for engine in [Engine::Stocks, Engine::Report] {
-        try_read(&rt, engine, (engine.input().len() as u64).saturating_add(2))?;
+    for (engine, more) in [
+        (Engine::Stocks, 2),
+        (Engine::Report, 2),
+        (Engine::Report, 3u64),
+    ] {
+        try_read(
+            &rt,
+            engine,
+            (engine.input().len() as u64).saturating_add(more),
+        )?;
     }
     Ok(())
 }

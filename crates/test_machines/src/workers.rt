@@ -18,7 +18,7 @@ use top_cell::Board;
 const WORKERS: [u32; 4] = [1, 2, 3, 64];
 
 // How many bytes a segment takes, and how many threads replay it. The first ones are for short files, since each segment
-// makes a thread.
+// takes time of its own.
 const SEGMENTS: [(u32, u32); 6] = [
     (7, 1),
     (50, 2),

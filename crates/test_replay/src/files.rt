@@ -41,6 +41,17 @@ struct Told {
     bytes: AtomicU64,
 }
 
+impl Told {
+    fn new() -> Told {
+        Told {
+            calls: AtomicU64::new(0),
+            falls: AtomicU64::new(0),
+            messages: AtomicU64::new(0),
+            bytes: AtomicU64::new(0),
+        }
+    }
+}
+
 impl Progress for Told {
     fn at(&self, messages: u32, bytes: u64) {
         self.calls.fetch_add(1, Ordering::SeqCst);
@@ -95,12 +106,7 @@ fn compare<T: Threads + Sync, A: Allocator + Copy + Send + Sync>(
     segment: u32,
     threads: u32,
 ) -> Result<(), Fail> {
-    let told = Told {
-        calls: AtomicU64::new(0),
-        falls: AtomicU64::new(0),
-        messages: AtomicU64::new(0),
-        bytes: AtomicU64::new(0),
-    };
+    let told = Told::new();
     let mut feed = Feed::new(Pieces::new(file, 7));
     let made = match replay(rt, alloc, &mut feed, MOST, segment, threads, &told)? {
         Ok(made) => made,

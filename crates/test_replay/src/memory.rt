@@ -8,7 +8,7 @@ use std::alloc::Global;
 use std::test::Fail;
 use std::thread::Threads;
 use test_refusing::{Refusal, Refusing, Tried, refuse_each};
-use test_support::two_stocks;
+use test_support::{same, two_stocks};
 
 // Replays the segments of a day under a refusal. A replay that isn't refused memory is that of the day.
 fn try_replay<R: Threads + Sync>(
@@ -49,6 +49,17 @@ fn a_segment_is_dealt_anew_after_an_error(rt: HostRuntime) -> Result<(), Fail> {
     let heap = Refusing::new(rt.alloc(), Refusal::Never);
     refuse_each(|refusal: Refusal| -> Result<Tried, Fail> { try_deal(&rt, &heap, refusal) })?;
     Ok(())
+}
+
+// The buffers are kept when what is dealt is removed, so the same messages need no memory again.
+#[test]
+fn a_segment_is_dealt_again_without_memory(rt: HostRuntime) -> Result<(), Fail> {
+    let heap = Refusing::new(rt.alloc(), Refusal::Never);
+    let day = two_stocks(&heap)?;
+    let mut dealt = DealtMessages::new(&heap)?;
+    deal(&mut dealt, &day)?;
+    heap.restart(Refusal::From(1));
+    same("dealt again", &deal(&mut dealt, &day), &Ok(()))
 }
 
 #[test]
