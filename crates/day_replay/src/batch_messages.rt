@@ -40,7 +40,7 @@ impl<A: Allocator> BatchMessages<A> {
         }
     }
 
-    /// Removes all messages. The memory is kept, or given back.
+    /// Removes all messages. `keep` says whether the memory is kept; else it is given back.
     pub fn clear(&mut self, keep: bool)
         ensures { self.new ≡ [] }
     {

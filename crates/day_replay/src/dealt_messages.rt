@@ -70,7 +70,7 @@ impl<A: Allocator> DealtMessages<A> {
     }
 
     /// Removes all messages. The memory of its buffers is kept, unless they have grown to far more than the messages took,
-    /// as they do where those before were of other stocks.
+    /// as they do where those before were of other stocks. What the refused messages of no stock took is kept always.
     pub fn clear(&mut self)
         ensures { (before : ℕ) → before < 2 ^ 32 → IsDealt before [] self.new }
     {

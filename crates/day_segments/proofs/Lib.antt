@@ -1,5 +1,4 @@
 mod Filled
-mod Joined
 mod Carried
 pub mod Following
 mod FurtherReading

@@ -1,6 +1,6 @@
 -- A file that is read segment by segment. All is of this project.
 use Rattle.std.specs.Prelude.{◌≡◌, ◌+◌, ◌<◌, ◌≤◌, ◌^◌, ◌++◌, ℕ, Bool, true, false, List, [], length, Option}
-use Rattle.std.specs.Io.KnownBytes.{Consumes, IsAtEnd}
+use Rattle.std.specs.Io.KnownBytes.{Consumes}
 use Rattle.byte_strings.specs.Bytes.{AreBytes}
 use Rattle.binaryfile.specs.Devices.{GaveAll}
 use Rattle.binaryfile.specs.Entries.{Contents, Splits}
@@ -57,16 +57,6 @@ pub record HasRead (start now : Option (List ℕ)) (contents : Contents) (readin
   pub read : IsReadTo start now contents reading.carried reading.given
   pub messages_are : reading.messages ≡ length contents.payloads
   pub within : reading.given ≤ reading.most
-
--- what was carried over and the bytes that the reader gave next are split into this segment: so many bytes, and fewer only
--- where the reader has ended
-pub record Continues (old new : Option (List ℕ)) (carried : List ℕ) (size : ℕ)
-    (segment : Contents) : Type 0 where
-  pub bytes : List ℕ
-  pub gave : Consumes old new bytes
-  pub fits : length bytes ≤ size
-  pub full : length bytes < size → IsAtEnd new
-  pub split : Splits (carried ++ bytes) segment
 
 -- the reader gave a whole file of no more than so many bytes, with these contents
 pub record IsWholeFile (start now : Option (List ℕ)) (most : ℕ) (contents : Contents) : Type 0 where

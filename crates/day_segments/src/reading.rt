@@ -1,15 +1,11 @@
 //! Reading the next segment of a file.
 ghost use Rattle.std.specs.Prelude.{◌≡◌, ◌≢◌, ◌≤◌, ◌<◌, ◌⊎◌, ◌+◌, ◌^◌, ◌↔◌, Err, IfErr, IfOk, IsErrOf, MatchOption, OnOk, [], false, length};
-ghost use Rattle.std.specs.Io.KnownBytes.{Consumes, IsAtEnd};
 ghost use Rattle.binaryfile.specs.Devices.{GaveAll, GaveMore, GaveUpTo, HasFailed};
 ghost use Rattle.day_segments.specs.Segments.{Fills, Follows, IsSegment, carry_after};
 
 use binaryfile::{Day, Feed, LoadFault};
 use std::alloc::{AllocError, Allocator};
 use std::io::Read;
-
-// How many bytes of a segment are read at a time.
-const PIECE: usize = 1 << 18;
 
 // Fills a buffer with what the feed gives next, and returns how many bytes came: fewer than it has room for only at the
 // end of the input.
@@ -32,29 +28,7 @@ fn fill<R: Read>(feed: &mut Feed<R>, buffer: &mut [u8]) -> Result<usize, LoadFau
     Ok(at)
 }
 
-// Adds to these bytes what the feed gives next, as far as it fits so much room.
-fn add_next<R: Read, A: Allocator>(
-    feed: &mut Feed<R>,
-    bytes: &mut Vec<u8, A>,
-    room: usize,
-) -> Result<(), LoadFault>
-    requires few { length bytes.old.items + room < 2 ^ 32 }
-    requires working { feed.old.failed ≡ false }
-    ensures bytes { OnOk result (Follows (R.remaining feed.old.device) (R.remaining feed.new.device)
-        bytes.old.items room bytes.new.items) }
-    ensures taken { GaveUpTo (R.remaining feed.old.device) (R.remaining feed.new.device) room }
-    ensures failed { IsErrOf result LoadFault.Read ↔ HasFailed feed.new }
-    ensures only { IfErr result (λ fault. (fault ≡ LoadFault.Read) ⊎ (fault ≡ LoadFault.Memory)) }
-{
-    let before = bytes.len();
-    bytes.resize(before + room, 0)?;
-    let came = fill(feed, &mut bytes[before..])?;
-    bytes.truncate(before + came);
-    Ok(())
-}
-
-// What is carried over to a segment, and after it what the feed gives next, as far as there is room for it. It is read
-// piece by piece, so that a short file doesn't pay for the memory of a whole segment.
+// What is carried over to a segment, and after it what the feed gives next, as far as there is room for it.
 fn next_bytes<R: Read, A: Allocator>(
     alloc: A,
     feed: &mut Feed<R>,
@@ -71,16 +45,9 @@ fn next_bytes<R: Read, A: Allocator>(
 {
     let mut bytes = Vec::with_capacity(alloc, carried.len() + room)?;
     bytes.extend_from_slice(carried)?;
-    let mut left = room;
-    'pieces: while left > 0 {
-        let before = bytes.len();
-        let piece = left.min(PIECE);
-        add_next(feed, &mut bytes, piece)?;
-        if bytes.len() - before < piece {
-            return Ok(bytes);
-        }
-        left -= piece;
-    }
+    bytes.resize(carried.len() + room, 0)?;
+    let came = fill(feed, &mut bytes[carried.len()..])?;
+    bytes.truncate(carried.len() + came);
     Ok(bytes)
 }
 

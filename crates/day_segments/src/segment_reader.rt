@@ -2,7 +2,8 @@
 ghost use Rattle.std.specs.Prelude.{◌≡◌, ◌≢◌, ◌≤◌, ◌<◌, ◌+◌, ◌-◌, ◌^◌, ◌↔◌, Err, IfOk, IfSome, IsErrOf, List, MatchOption, None, Ok, Option, ℕ, length};
 ghost use Rattle.binaryfile.specs.Devices.{GaveMore, GaveUpTo, HasFailed};
 ghost use Rattle.binaryfile.specs.Entries.{Contents};
-ghost use Rattle.day_segments.specs.Reading.{Continues, HasRead, IsWholeFile, followed_by, nothing_read};
+ghost use Rattle.day_segments.specs.Reading.{HasRead, IsWholeFile, followed_by, nothing_read};
+ghost use Rattle.day_segments.specs.Segments.{IsSegment};
 
 use crate::reading::{carry_after, read_segment};
 use binaryfile::{Day, Feed, LoadFault};
@@ -79,7 +80,7 @@ impl<A: Allocator + Copy> SegmentReader<A> {
             → MatchOption found
             (IsWholeFile start (R.remaining feed.new.device) self.old.most before)
             (λ segment. HasRead start (R.remaining feed.new.device) (followed_by before segment) self.new)) }
-        // Where the file was read whole, a further call says so too.
+        // A file that was read whole is still read so far, so that it can be asked again.
         ensures ended { result ≡ Ok None → (start : Option (List ℕ)) (before : Contents)
             → HasRead start (R.remaining feed.old.device) before self.old
             → HasRead start (R.remaining feed.new.device) before self.new }
@@ -102,8 +103,9 @@ impl<A: Allocator + Copy> SegmentReader<A> {
             → HasRead start (R.remaining feed.old.device) before self.old
             → GaveUpTo start (R.remaining feed.new.device) (self.old.most + 1) }
         // What this call alone takes: a segment is split from what was carried over and from it.
-        ensures continues { IfOk result (λ found. IfSome found (Continues
-            (R.remaining feed.old.device) (R.remaining feed.new.device) self.old.carried self.old.size)) }
+        ensures segment { IfOk result (λ found. IfSome found (IsSegment
+            (R.remaining feed.old.device) (R.remaining feed.new.device)
+            self.old.carried self.old.size (self.old.most - self.old.given))) }
         ensures took { GaveUpTo (R.remaining feed.old.device) (R.remaining feed.new.device)
             (self.old.most - self.old.given + 1) }
         ensures took_more { IsErrOf result LoadFault.TooManyBytes

@@ -8,16 +8,13 @@ use Rattle.binaryfile.specs.declared.load.LoadFault.TheVariants.{Read}
 use Rattle.std.specs.declared.alloc.AllocError.{AllocError}
 use Rattle.day_replay.specs.Dealing.{Dealt, IsDealt}
 use Rattle.day_replay.specs.Replays.{HasReplayed, ReplayState}
-use Rattle.file_replay.specs.Files.{DealsNext, FileReading, GoesOn, IsSoFar, Next, ReadsOn, Stops}
+use Rattle.file_replay.specs.Files.{DealsNext, FileReading, GoesOn, IsFurther, IsSoFar, Next, ReadsOn, Stops}
 use Rattle.file_replay.proofs.Replayed.{is_dealt}
 
 module _ {R : Type 0} (left : R → Option (List ℕ)) (feed fed : Device R) (old new : FileReading) (result : Result Bool LoadFault) (reads : ReadsOn left feed fed old new result) where
   module _ (fault : LoadFault) (is : result ≡ Err fault) where
     pub stopped : (start : Option (List ℕ)) (before : Contents) → IsSoFar start (left feed.device) before old → Stops start (left fed.device) old.reading.most old.limit fault
     stopped = subst (λ (r : Result Bool LoadFault). IfErr r (λ fault. (start : Option (List ℕ)) (before : Contents) → IsSoFar start (left feed.device) before old → Stops start (left fed.device) old.reading.most old.limit fault)) is reads.stops
-
-    pub read_failed : ((fault ≡ Read) → HasFailed fed) × (HasFailed fed → fault ≡ Read)
-    read_failed = (λ read. reads.failed.0 (is ∙ ap Err read), λ failed. let same : Err fault ≡ Err Read = sym is ∙ reads.failed.1 failed in cc)
 
   module _ (more : Bool) (is : result ≡ Ok more) where
     pub works : ¬ HasFailed fed
@@ -52,20 +49,20 @@ abbrev pub still : Result Bool LoadFault → Result Bool LoadFault
 still (Ok more) = Ok true
 still (Err fault) = Err fault
 
--- a file that was read on, and then read on again
-module _ {R : Type 0} (left : R → Option (List ℕ)) (feed fed last : Device R) (old new then : FileReading) (first : ReadsOn left feed fed old new (Ok true))
-    (so_far : (start : Option (List ℕ)) (before : Contents) → IsSoFar start (left feed.device) before old → (contents : Contents) × IsSoFar start (left fed.device) contents new) where
+-- a file of which messages were read and dealt, and that was then read on again
+module _ {R : Type 0} (left : R → Option (List ℕ)) (feed fed last : Device R) (old new then : FileReading) (dealt : Dealt) (first : ReadsOn left feed fed old new (Ok true))
+    (further : (start : Option (List ℕ)) (before : Contents) → IsSoFar start (left feed.device) before old → IsFurther start (left fed.device) before new dealt) where
   stops_then : (fault : LoadFault) → ((start : Option (List ℕ)) (before : Contents) → IsSoFar start (left fed.device) before new → Stops start (left last.device) new.reading.most new.limit fault)
       → (start : Option (List ℕ)) (before : Contents) → IsSoFar start (left feed.device) before old → Stops start (left last.device) old.reading.most old.limit fault
   stops_then fault second start before at =
-      let now = so_far start before at in
-      subst (λ (most : ℕ). Stops start (left last.device) most old.limit fault) first.most (subst (λ (limit : ℕ). Stops start (left last.device) new.reading.most limit fault) first.limit (second start now.0 now.1))
+      let now = further start before at in
+      subst (λ (most : ℕ). Stops start (left last.device) most old.limit fault) first.most (subst (λ (limit : ℕ). Stops start (left last.device) new.reading.most limit fault) first.limit (second start now.contents now.so_far))
 
   taken_then : ((start : Option (List ℕ)) (before : Contents) → IsSoFar start (left fed.device) before new → GaveUpTo start (left last.device) (new.reading.most + 1))
       → (start : Option (List ℕ)) (before : Contents) → IsSoFar start (left feed.device) before old → GaveUpTo start (left last.device) (old.reading.most + 1)
   taken_then second start before at =
-      let now = so_far start before at in
-      subst (λ (most : ℕ). GaveUpTo start (left last.device) (most + 1)) first.most (second start now.0 now.1)
+      let now = further start before at in
+      subst (λ (most : ℕ). GaveUpTo start (left last.device) (most + 1)) first.most (second start now.contents now.so_far)
 
   for_good_then : (HasFailed fed → last ≡ fed) → HasFailed feed → last ≡ feed
   for_good_then second failed =

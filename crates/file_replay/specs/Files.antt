@@ -49,8 +49,8 @@ Stops start now bytes messages TooManyBytes = GaveMore start now bytes
 Stops start now bytes messages TooManyMessages =
     (contents : Contents) × IsWholeFile start now bytes contents × (messages < length contents.payloads)
 
--- a file that was read so far is read further, or was read whole, or it stops: what the feed and the file were before, and
--- are then
+-- a file that was read so far is read further, or was read whole, or it stops: what the feed and the file were before,
+-- and are then
 pub record ReadsOn {R : Type 0} (left : R → Option (List ℕ)) (feed fed : Device R) (old new : FileReading)
     (result : Result Bool LoadFault) : Type 0 where
   pub stops : IfErr result (λ fault. (start : Option (List ℕ)) (before : Contents)
@@ -68,20 +68,14 @@ pub record ReadsOn {R : Type 0} (left : R → Option (List ℕ)) (feed fed : Dev
   pub failed : IsErrOf result Read ↔ HasFailed fed
   pub for_good : HasFailed feed → fed ≡ feed
 
--- the next segment is dealt after the messages that are, `number` messages of the file before these, or it was read whole
+-- the next segment is dealt after the messages that are, `number` messages of the file before these, or it was read
+-- whole
 abbrev pub DealsSegment : {R : Type 0} → (R → Option (List ℕ)) → ℕ → Device R → Device R → FileReading
     → FileReading → Dealt → Dealt → Type 0
 DealsSegment left number feed fed old new had dealt =
     (start : Option (List ℕ)) (before : Contents) → IsFurther start (left feed.device) before old had
     → number ≡ length before.payloads
     → IsFurther start (left fed.device) before new dealt
-
--- where a file was read whole, these are its contents
-abbrev pub EndsWith : {R : Type 0} → (R → Option (List ℕ)) → Device R → Device R → FileReading → FileReading
-    → Type 0
-EndsWith left feed fed old new =
-    (start : Option (List ℕ)) (contents : Contents) → IsSoFar start (left feed.device) contents old
-    → IsSoFar start (left fed.device) contents new × IsWholeFile start (left fed.device) new.reading.most contents
 
 -- the next messages of a file are read and dealt, or it was read whole, or it stops
 pub record DealsNext {R : Type 0} (left : R → Option (List ℕ)) (feed fed : Device R) (old new : FileReading)
@@ -97,8 +91,8 @@ GoesOn old new dealt result =
     OnOk result ((day payloads : List (List ℕ)) → HasReplayed day old → IsDealt (length day) payloads dealt
     → HasReplayed (day ++ payloads) new)
 
--- what a file with these contents makes: the numbers of its messages and of those that were passed over, the refused ones,
--- the machines of its stocks, the last event, and how it ends
+-- what a file with these contents makes: the numbers of its messages and of those that were passed over, the refused
+-- ones, the machines of its stocks, the last event, and how it ends
 pub record IsFileSummary {A : Type 0} (contents : Contents) (made : FileSummary A) : Type 0 where
   pub count_is : made.summary.messages ≡ length contents.payloads
   pub passed_is : made.summary.passed ≡ count_by is_passed (outcomes contents.payloads)

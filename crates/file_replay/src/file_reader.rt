@@ -3,7 +3,7 @@ ghost use Rattle.std.specs.Prelude.{◌≡◌, ◌+◌, ◌<◌, ◌≤◌, ◌^
 ghost use Rattle.binaryfile.specs.Devices.{GaveUpTo, HasFailed};
 ghost use Rattle.binaryfile.specs.Entries.{Contents};
 ghost use Rattle.day_segments.specs.Reading.{HasRead, IsWholeFile, nothing_read};
-ghost use Rattle.file_replay.specs.Files.{DealsNext, DealsSegment, EndsWith, IsFurther, IsSoFar, ReadsOn, Stops};
+ghost use Rattle.file_replay.specs.Files.{DealsNext, DealsSegment, IsFurther, IsSoFar, Next, ReadsOn, Stops};
 
 use crate::file_end::FileEnd;
 use binaryfile::{Feed, Limits, LoadFault};
@@ -94,8 +94,9 @@ impl<A: Allocator + Copy> FileReader<A> {
             × (before ≡ length began.payloads) }
         ensures deals { OnOk result (DealsSegment R.remaining before
             feed.old feed.new self.old self.new dealt.old dealt.new) }
-        ensures whole { IfOk result (λ more. more ≡ false
-            → EndsWith R.remaining feed.old feed.new self.old self.new) }
+        ensures whole { IfOk result (λ more. more ≡ false → (start : Option (List ℕ)) (contents : Contents)
+            → IsSoFar start (R.remaining feed.old.device) contents self.old
+            → Next start (R.remaining feed.new.device) contents self.new dealt.new false) }
         ensures reads { ReadsOn R.remaining feed.old feed.new self.old self.new result }
     {
         let Some(segment) = self.reader.next(alloc, feed)? else {

@@ -6,6 +6,7 @@
 //!
 //! ```rust
 //! let limits = Limits { bytes: 1 << 40, messages: u32::MAX };
+//! // a segment of day_segments::SEGMENT_BYTES bytes at a time
 //! let made = replay_file(rt, alloc, &mut feed, limits, SEGMENT_BYTES, threads, &Silent)?;
 //! ```
 //!

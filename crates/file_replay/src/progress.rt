@@ -6,6 +6,15 @@ pub trait Progress {
     fn at(&self, messages: u32, bytes: u64);
 }
 
+/// Tells it where there is someone to tell.
+impl<P: Progress> Progress for Option<P> {
+    fn at(&self, messages: u32, bytes: u64) {
+        if let Some(progress) = self {
+            progress.at(messages, bytes);
+        }
+    }
+}
+
 /// Tells nobody.
 #[derive(Drop)]
 pub struct Silent;

@@ -1,5 +1,5 @@
 //! Replaying a file while it is read.
-ghost use Rattle.std.specs.Prelude.{◌≡◌, ◌+◌, ◌<◌, ◌≤◌, ◌^◌, ◌++◌, ◌↔◌, IfErr, IfOk, IsErrOf, List, Option, ℕ, length};
+ghost use Rattle.std.specs.Prelude.{◌≡◌, ◌+◌, ◌<◌, ◌≤◌, ◌^◌, ◌↔◌, IfErr, IfOk, IsErrOf, List, Option, ℕ, length};
 ghost use Rattle.std.specs.Thread.{IsSend, IsSync};
 ghost use denote.Param.Send.{Frees};
 ghost use Rattle.binaryfile.specs.Devices.{GaveUpTo, HasFailed};
@@ -57,19 +57,21 @@ fn go_on<T: Threads + Sync, A: Allocator + Copy + Send + Sync, R: Read + Send>(
     let mut read = || -> Result<bool, LoadFault>
         requires { (start : Option (List ℕ)) × (before : Contents)
             × IsSoFar start (R.remaining feed.now.device) before file.now }
-        ensures { DealsNext R.remaining feed.entry.now feed.exit.now file.entry.now file.exit.now next.exit.now result }
+        ensures { DealsNext R.remaining feed.entry.now feed.exit.now
+            file.entry.now file.exit.now next.exit.now result }
     { file.deal_next(reader_alloc, feed, next) };
     join_mut(rt, &mut work, &mut read)
 }
 
-/// Replays a day file by at most so many threads, while one more reads it. `segment` is how many bytes are read at a time, 1
-/// to 2^30; threads replay up to 16 segments together. `progress` is told each time how far it is.
+/// Replays a day file by at most so many threads, while one more reads it. `segment` is how many bytes a segment takes, 1
+/// to 2^30; threads replay up to 16 segments together, and each time `progress` is told how far it is.
 ///
 /// No file is refused for its form. In the course of reading the first of these is returned: [`LoadFault::Read`] where the
 /// feed fails (at once, and with no memory, where it had failed before), [`LoadFault::Memory`] where memory is refused,
 /// [`LoadFault::TooManyBytes`] where the reader gave more than `limits.bytes` bytes, which are no more than 2^40, and
 /// [`LoadFault::TooManyMessages`], once the whole input was read, where it has more than `limits.messages` messages.
-/// Whatever the result, at most `limits.bytes + 1` bytes are taken from the reader.
+/// Whatever the result, at most `limits.bytes + 1` bytes are taken from the reader. It may be asked again after it has
+/// ended, up to three times.
 pub fn replay_file<T, A, R, P>(
     rt: &T,
     alloc: A,

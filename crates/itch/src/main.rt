@@ -12,7 +12,6 @@ use binaryfile::{Day, Feed, Limits, Sink};
 use clap::error::ErrorKind;
 use day_core::WorkerCount;
 use day_segments::SEGMENT_BYTES;
-use file_replay::Silent;
 use itch_debug::debug_run;
 use itch_dis::{dis_part_run, dis_stream_run};
 use itch_engine::limits::{MOST_FILE_BYTES, MOST_MESSAGES};
@@ -120,32 +119,23 @@ where
 {
     let mut day = open_day(rt, terminals, path)?;
     let mut output = standard_output(rt);
-    let threads = worker_count(workers);
-    let (mut feed, mut sink) = (Feed::new(&mut day), Sink::new(&mut output));
-    let run = if progress {
-        let lines = ProgressLines::new(rt, path);
-        let run = report_run(
-            rt,
-            rt.alloc(),
-            &mut feed,
-            &mut sink,
-            SEGMENT_BYTES,
-            threads,
-            &lines,
-        );
-        lines.say();
-        run
+    let lines = if progress {
+        Some(ProgressLines::new(rt, path))
     } else {
-        report_run(
-            rt,
-            rt.alloc(),
-            &mut feed,
-            &mut sink,
-            SEGMENT_BYTES,
-            threads,
-            &Silent,
-        )
+        None
     };
+    let run = report_run(
+        rt,
+        rt.alloc(),
+        &mut Feed::new(&mut day),
+        &mut Sink::new(&mut output),
+        SEGMENT_BYTES,
+        worker_count(workers),
+        &lines,
+    );
+    if let Some(lines) = &lines {
+        lines.say();
+    }
     ended(run, &day, &output)
 }
 

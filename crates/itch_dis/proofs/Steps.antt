@@ -7,8 +7,8 @@ use Rattle.binaryfile.specs.Devices.{GaveMore, GaveUpTo}
 use Rattle.binaryfile.specs.Entries.{Contents, Splits}
 use Rattle.binaryfile.specs.declared.load.LoadFault.{LoadFault}
 use Rattle.binaryfile.specs.declared.load.LoadFault.TheVariants.{TooManyBytes as LoadBytes, TooManyMessages as LoadMessages}
-use Rattle.day_segments.specs.Reading.{Continues, HasRead, IsWholeFile, Reading, followed_by, nothing_read}
-use Rattle.day_segments.specs.Segments.{carry_after}
+use Rattle.day_segments.specs.Reading.{HasRead, IsWholeFile, Reading, followed_by, nothing_read}
+use Rattle.day_segments.specs.Segments.{IsSegment, carry_after}
 use Rattle.itch_engine.specs.FaultOrigins.{fault_of_load}
 use Rattle.itch_engine.specs.declared.fault.ProgFault.{ProgFault}
 use Rattle.itch_engine.specs.declared.fault.ProgFault.TheVariants.{Memory, TooManyMessages, Write}
@@ -44,27 +44,27 @@ module _ (extent : Extent) (start now taken taken_now : Option (List ℕ)) (read
   next_halts = halts (printer_of extent) (so_far_of extent) (extent_leads extent) start now taken taken_now reading before.printed
 
   -- a segment that is read where what was read before doesn't suffice
-  pub needs_last : (next : Option (List ℕ)) (segment : Contents) → Continues now next reading.carried reading.size segment → (size : ℕ) → reading.size ≡ size → ¬ (printer_of extent).Suffices reading.messages
+  pub needs_last : (next : Option (List ℕ)) (segment : Contents) → IsSegment now next reading.carried reading.size (reading.most - reading.given) segment → (size : ℕ) → reading.size ≡ size → ¬ (printer_of extent).Suffices reading.messages
       → NeedsLast (printer_of extent) start next size
-  needs_last next segment continues size same unfinished = record {
+  needs_last next segment is_segment size same unfinished = record {
     between = now;
     first = before.printed.read.read.bytes;
     gave_first = before.printed.read.read.gave;
-    last = continues.bytes;
-    gave_last = continues.gave;
-    fits = omega (arith, continues.fits, same);
-    full = λ few. continues.full (omega (arith, few, same));
+    last = is_segment.bytes;
+    gave_last = is_segment.gave;
+    fits = omega (arith, is_segment.fits, same);
+    full = λ few. is_segment.full (omega (arith, few, same));
     contents = before.printed.contents;
     split = before.printed.read.read.split;
     unfinished = subst (λ (n : ℕ). ¬ (printer_of extent).Suffices n) before.printed.read.messages_are unfinished;
   }
 
-  module _ (next taken_next : Option (List ℕ)) (segment : Contents) (new : Reading) (read : HasRead start next (followed_by before.printed.contents segment) new) (continues : Continues now next reading.carried reading.size segment) where
-    split : Splits (carry_after before.printed.contents ++ continues.bytes) segment
-    split = subst (λ (carried : List ℕ). Splits (carried ++ continues.bytes) segment) before.printed.read.read.carry_is continues.split
+  module _ (next taken_next : Option (List ℕ)) (segment : Contents) (new : Reading) (read : HasRead start next (followed_by before.printed.contents segment) new) (is_segment : IsSegment now next reading.carried reading.size (reading.most - reading.given) segment) where
+    split : Splits (carry_after before.printed.contents ++ is_segment.bytes) segment
+    split = subst (λ (carried : List ℕ). Splits (carried ++ is_segment.bytes) segment) before.printed.read.read.carry_is is_segment.split
 
     grows : (piece : List ℕ) × (so_far_of extent (followed_by before.printed.contents segment) ≡ so_far_of extent before.printed.contents ++ piece)
-    grows = extent_grows extent before.printed.contents segment continues.bytes split
+    grows = extent_grows extent before.printed.contents segment is_segment.bytes split
 
     pub stops_at_many : 2 ^ 32 - 1 < new.messages → Stops next taken_now TooManyMessages
     stops_at_many many =
@@ -79,7 +79,7 @@ module _ (extent : Extent) (start now taken taken_now : Option (List ℕ)) (read
       adds =
           let c = before.printed.contents in
           let fits : length segment.payloads ≤ 2 ^ 32 - 1 = omega (arith, few, read.messages_are, length-append c.payloads segment.payloads) in
-          extent_adds extent c segment continues.bytes split fits
+          extent_adds extent c segment is_segment.bytes split fits
           ∙ ap (λ (n : ℕ). so_far_of extent c ++ segment_text extent n (text_end_of c.marked c.tail) segment) (sym before.printed.read.messages_are)
           ∙ ap (λ (end : TextEnd). so_far_of extent c ++ segment_text extent reading.messages end segment) (sym before.end_is)
 
@@ -90,7 +90,7 @@ module _ (extent : Extent) (start now taken taken_now : Option (List ℕ)) (read
           → IsDisassembledTo extent start next new taken taken_next (text_end_after end segment.marked segment.tail)
       disassembled_on most wrote = record {
         printed = printed_on (printer_of extent) (so_far_of extent) (extent_leads extent) start now taken taken_now reading before.printed next taken_next segment new read (segment_text extent reading.messages end segment) adds most wrote;
-        end_is = ap (λ (end : TextEnd). text_end_after end segment.marked segment.tail) before.end_is ∙ end_goes_on before.printed.contents segment continues.bytes split;
+        end_is = ap (λ (end : TextEnd). text_end_after end segment.marked segment.tail) before.end_is ∙ end_goes_on before.printed.contents segment is_segment.bytes split;
         few = few;
       }
 
@@ -123,5 +123,5 @@ module _ (extent : Extent) (start now taken taken_now : Option (List ℕ)) (read
   }
 
 -- a segment that was found
-pub continues_with : (now next : Option (List ℕ)) (carried : List ℕ) (size : ℕ) (found : Option Contents) (segment : Contents) → found ≡ Some segment → IfSome found (Continues now next carried size) → Continues now next carried size segment
-continues_with now next carried size found segment is = subst (λ (found : Option Contents). IfSome found (Continues now next carried size)) is
+pub found_segment : (now next : Option (List ℕ)) (carried : List ℕ) (size most : ℕ) (found : Option Contents) (segment : Contents) → found ≡ Some segment → IfSome found (IsSegment now next carried size most) → IsSegment now next carried size most segment
+found_segment now next carried size most found segment is = subst (λ (found : Option Contents). IfSome found (IsSegment now next carried size most)) is

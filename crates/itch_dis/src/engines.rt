@@ -46,8 +46,8 @@ fn print<A: Allocator + Copy, R: Read, W: Write>(
     Ok(())
 }
 
-/// Reads a day file and writes its text, which assembles to the very bytes of the file. `segment` is how many bytes a segment
-/// takes, 1 to 2^30; in memory are no more than a segment, an entry and their text.
+/// Reads a day file and writes its text, which assembles to the very bytes of the file. `segment` is how many bytes a
+/// segment takes, 1 to 2^30; in memory are no more than a segment, an entry and their text.
 ///
 /// The lines of a segment are sent before the next one is read. So after a fault what was sent is the beginning of a text:
 /// of that of every file that begins with the bytes that the reader gave, or, where the writer failed after the reader had

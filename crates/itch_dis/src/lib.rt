@@ -9,7 +9,7 @@
 //! ```rust
 //! let mut feed = Feed::new(reader);
 //! let mut sink = Sink::new(writer);
-//! dis_stream_run(rt.alloc(), &mut feed, &mut sink, SEGMENT_BYTES)?;
+//! dis_stream_run(rt.alloc(), &mut feed, &mut sink, day_segments::SEGMENT_BYTES)?;
 //! ```
 //!
 //! The text is that of [`itch_engine::dis_run`], which makes all of it before it sends any. Here the lines of a segment are

@@ -13,7 +13,7 @@
 //! ```rust
 //! let mut feed = Feed::new(reader);
 //! let mut sink = Sink::new(writer);
-//! let segment = SEGMENT_BYTES;
+//! let segment = day_segments::SEGMENT_BYTES;
 //! let refused = report_run(rt, rt.alloc(), &mut feed, &mut sink, segment, threads, &Silent)?;
 //! ```
 //!

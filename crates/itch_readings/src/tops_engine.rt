@@ -60,7 +60,7 @@ fn tops_of_file<A: Allocator + Copy, R: Read>(
 /// A locate code names its stock, whose lines begin at its first message. A symbol names the stock of the first directory
 /// message that gives the symbol and is applied, and its lines begin at that message ([`StockSearch`]).
 ///
-/// The file is read once, and no more is in memory than some 1 MiB of it, the machine of this stock, and the text, which is
+/// The file is read once, and no more is in memory than a segment of it, the machine of this stock, and the text, which is
 /// made before it is sent. [`StockFault::NoStock`] comes where the day hasn't the stock, and nothing was sent then; other
 /// faults are those of [`stocks_run`].
 ///

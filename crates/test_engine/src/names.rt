@@ -175,7 +175,8 @@ fn messages_keep_their_numbers_through_segments(rt: HostRuntime) -> Result<(), F
     Ok(())
 }
 
-// Each call gives a piece, one more the end, and one is made by the segment after the last. The call after these never comes.
+// Each call gives a piece, one more the end, and one is made by the segment after the last. The call after these never
+// comes.
 #[test]
 fn each_read_of_a_file_of_segments_may_fail(rt: HostRuntime) -> Result<(), Fail> {
     let file = long_file(rt.alloc())?;

@@ -51,10 +51,10 @@ where
 /// Replays a day file while it is read, and writes the report, the same that [`replay_run`] writes. Returns how many
 /// messages were refused.
 ///
-/// `segment` is how many bytes are read at a time, 1 to 2^30. This many threads replay up to 16 segments together, while one
+/// `segment` is how many bytes a segment takes, 1 to 2^30. This many threads replay up to 16 segments together, while one
 /// more reads the next ones; where none can be made, the work is done all the same. In memory are a segment, copies of the
 /// messages of those that are dealt and of those that are replayed, what the stocks need, and the refused messages.
-/// `progress` is told each time how far it is.
+/// Each time that segments were replayed `progress` is told how far it is.
 ///
 /// The file is read to its end before anything is written, and the whole report is made in memory before it is sent.
 /// After [`ProgFault::Write`] the bytes that were taken are a prefix of the report; after another fault none was sent.
@@ -64,7 +64,7 @@ where
 /// ```text
 /// let mut feed = Feed::new(file);
 /// let mut sink = Sink::new(output);
-/// let (segment, threads) = (SEGMENT_BYTES, WorkerCount::ONE);
+/// let (segment, threads) = (day_segments::SEGMENT_BYTES, WorkerCount::ONE);
 /// let refused = report_run(rt, rt.alloc(), &mut feed, &mut sink, segment, threads, &Silent)?;
 /// ```
 ///

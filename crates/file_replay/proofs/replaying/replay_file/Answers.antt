@@ -1,4 +1,4 @@
-use Rattle.std.proofs.Common.{◌∙◌, List, ℕ, sym, subst, ap, arith}
+use Rattle.std.proofs.Common.{◌∙◌, List, ℕ, refl, sym, subst, ap, arith}
 use Rattle.std.proofs.lemmas.Result.{err_from_is_err_and}
 use Rattle.binaryfile.specs.Devices.{HasFailed}
 use Rattle.binaryfile.specs.declared.load.LoadFault.TheVariants.{Memory}
@@ -8,9 +8,9 @@ use Rattle.day_segments.specs.Reading.{IsWholeFile, nothing_read}
 use Rattle.day_segments.proofs.SegmentCases.{took_within}
 use Rattle.file_replay.specs.declared.file_end.FileEnd.{FileEnd}
 use Rattle.file_replay.specs.Files.{Next, Stops}
-use Rattle.file_replay.proofs.Faults.{failed_as}
+use Rattle.file_replay.proofs.Faults.{failed_as, failed_by}
 use Rattle.file_replay.proofs.Replayed.{further_of, whole_of}
-use Rattle.file_replay.proofs.Dealt.{dealt_next, gone, less_left, read_failed, stopped, works}
+use Rattle.file_replay.proofs.Dealt.{dealt_next, gone, less_left, stopped, works}
 use Rattle.file_replay.proofs.replaying.replay_file.Goals as goal
 
 pub deal_next-requires : goal.deal_next-requires
@@ -32,8 +32,7 @@ returns-in_err-more-clause-fault g c =
 pub returns-in_err-more-clause-failed : goal.returns-in_err-more-clause-failed
 returns-in_err-more-clause-failed g c =
     let same = err_from_is_err_and c.from_residual-in_err-more.result c.from_residual-in_err-more.ensures.1 in
-    let failed = read_failed g.R.Read.remaining c.args.feed.now c.deal_next.new.feed c.new-file.result c.deal_next.new.self c.deal_next.result c.deal_next.ensures.reads c.in_err-more.field-0.0 c.in_err-more.was in
-    failed_as (HasFailed c.deal_next.new.feed) _ _ c.in_err-more.field-0.0 same.1 same.2 failed
+    failed_as (HasFailed c.deal_next.new.feed) _ _ c.in_err-more.field-0.0 same.1 same.2 (failed_by (HasFailed c.deal_next.new.feed) _ _ _ c.in_err-more.was refl c.deal_next.ensures.reads.failed)
 
 pub returns-in_err-more-clause-taken : goal.returns-in_err-more-clause-taken
 returns-in_err-more-clause-taken g c =
@@ -73,8 +72,7 @@ returns-in_err-more-2-clause-fault g c =
 pub returns-in_err-more-2-clause-failed : goal.returns-in_err-more-2-clause-failed
 returns-in_err-more-2-clause-failed g c =
     let same = err_from_is_err_and c.from_residual-in_err-more-2.result c.from_residual-in_err-more-2.ensures.1 in
-    let failed = read_failed g.R.Read.remaining c.loop-more.feed c.go_on-worked.new.feed c.loop-more.file c.go_on-worked.new.file c.go_on-worked.result.1 c.go_on-worked.ensures.deals.reads c.in_err-more-2.field-0.0 c.in_err-more-2.was in
-    failed_as (HasFailed c.go_on-worked.new.feed) _ _ c.in_err-more-2.field-0.0 same.1 same.2 failed
+    failed_as (HasFailed c.go_on-worked.new.feed) _ _ c.in_err-more-2.field-0.0 same.1 same.2 (failed_by (HasFailed c.go_on-worked.new.feed) _ _ _ c.in_err-more-2.was refl c.go_on-worked.ensures.deals.reads.failed)
 
 pub returns-in_err-more-2-clause-taken : goal.returns-in_err-more-2-clause-taken
 returns-in_err-more-2-clause-taken g c =

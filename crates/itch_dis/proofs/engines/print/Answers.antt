@@ -1,4 +1,4 @@
-use Rattle.std.proofs.Common.{◌≡◌, ◌∙◌, ◌^◌, Bool, Err, List, ℕ, take, refl, sym, subst, ap, arith, rules, inl, inr}
+use Rattle.std.proofs.Common.{◌≡◌, ◌-◌, ◌∙◌, ◌^◌, Bool, Err, List, ℕ, take, refl, sym, subst, ap, arith, rules, inl, inr}
 use Rattle.std.proofs.lemmas.Bool.{false≢true}
 use Rattle.std.proofs.lemmas.Result.{err_from_is_err_and}
 use Rattle.std.specs.Io.KnownBytes.{Appends}
@@ -12,7 +12,7 @@ use Rattle.itch_dis.specs.Extents.{closing_text, printer_of, segment_text}
 use Rattle.itch_dis.specs.TextEnds.{text_end_after}
 use Rattle.itch_dis.proofs.Extended.{prints_enough}
 use Rattle.itch_dis.proofs.Results.{faulted, finished, load_no_write, many_no_read, many_no_write, memory_no_read, memory_no_write, read_of_load, refused, worked, works_after, write_no_read}
-use Rattle.itch_dis.proofs.Steps.{closes_without_memory, continues_with, disassembled_first, disassembled_on, disassembled_whole, needs_last, next_halts, stops_at_many, stops_closing_lines, stops_without_memory, stops_writing, took_so_far, IsDisassembledTo}
+use Rattle.itch_dis.proofs.Steps.{closes_without_memory, disassembled_first, disassembled_on, disassembled_whole, found_segment, needs_last, next_halts, stops_at_many, stops_closing_lines, stops_without_memory, stops_writing, took_so_far, IsDisassembledTo}
 use Rattle.itch_dis.proofs.engines.print.Goals as goal
 
 pub returns-then-failed : goal.returns-then-failed
@@ -116,9 +116,9 @@ returns-then-messages-from g c =
     let found = c.in_ok-segment.ensures {u = tt} in
     let segment : Contents = c.in-Some.segment in
     let read = one_more start next c.segments.reader.most before.printed.contents c.next.new.self _ segment c.in-Some.is (found.read start before.printed.contents before.printed.read) in
-    let continues = continues_with (left c.segments.feed.device) next c.segments.reader.carried c.segments.reader.size _ segment c.in-Some.is found.continues in
+    let is_segment = found_segment (left c.segments.feed.device) next c.segments.reader.carried c.segments.reader.size (c.segments.reader.most - c.segments.reader.given) _ segment c.in-Some.is found.segment in
     faulted (printer_of c.args.extent) c.args.size left taken c.args.feed.now c.next.new.feed c.args.sink.now c.segments.sink (Err TooManyMessages) TooManyMessages refl
-    (stops_at_many c.args.extent start (left c.segments.feed.device) (taken c.args.sink.now.device) (taken c.segments.sink.device) c.segments.reader c.segments.end before next (taken c.segments.sink.device) segment c.next.new.self read continues
+    (stops_at_many c.args.extent start (left c.segments.feed.device) (taken c.args.sink.now.device) (taken c.segments.sink.device) c.segments.reader c.segments.end before next (taken c.segments.sink.device) segment c.next.new.self read is_segment
     (omega (arith, c.if-messages-from.true, c.messages-in-segments.ensures, c.from.ensures)))
     (took_within start next c.segments.reader.most (2 ^ 40) before.printed.most (c.next.ensures.taken start before.printed.contents before.printed.read))
     (λ e. absurd (many_no_read e)) (λ failed. absurd (works_after _ (HasFailed c.next.new.feed) found.failed failed)) (λ e. absurd (many_no_write e))
@@ -134,10 +134,10 @@ returns-in_err-text-2 g c =
     let found = c.in_ok-segment.ensures {u = tt} in
     let segment : Contents = c.in-Some.segment in
     let read = one_more start next c.segments.reader.most before.printed.contents c.next.new.self _ segment c.in-Some.is (found.read start before.printed.contents before.printed.read) in
-    let continues = continues_with (left c.segments.feed.device) next c.segments.reader.carried c.segments.reader.size _ segment c.in-Some.is found.continues in
+    let is_segment = found_segment (left c.segments.feed.device) next c.segments.reader.carried c.segments.reader.size (c.segments.reader.most - c.segments.reader.given) _ segment c.in-Some.is found.segment in
     let same = err_from_is_err_and c.from_residual-in_err-text-2.result c.from_residual-in_err-text-2.ensures.1 in
     faulted (printer_of c.args.extent) c.args.size left taken c.args.feed.now c.next.new.feed c.args.sink.now c.segments.sink c.from_residual-in_err-text-2.result Memory (same.1 ∙ ap Err same.2)
-    (stops_without_memory c.args.extent start (left c.segments.feed.device) (taken c.args.sink.now.device) (taken c.segments.sink.device) c.segments.reader c.segments.end before next (taken c.segments.sink.device) segment c.next.new.self read continues)
+    (stops_without_memory c.args.extent start (left c.segments.feed.device) (taken c.args.sink.now.device) (taken c.segments.sink.device) c.segments.reader c.segments.end before next (taken c.segments.sink.device) segment c.next.new.self read is_segment)
     (took_within start next c.segments.reader.most (2 ^ 40) before.printed.most (c.next.ensures.taken start before.printed.contents before.printed.read))
     (λ e. absurd (memory_no_read e)) (λ failed. absurd (works_after _ (HasFailed c.next.new.feed) found.failed failed)) (λ e. absurd (memory_no_write e))
     (λ failed. absurd (worked c.args.feed.now.failed (c.if-failed.ensures {u = tt}) failed)) c.segments.invariant.sink_for_good
@@ -152,14 +152,14 @@ returns-in_err-send-2 g c =
     let found = c.in_ok-segment.ensures {u = tt} in
     let segment : Contents = c.in-Some.segment in
     let read = one_more start next c.segments.reader.most before.printed.contents c.next.new.self _ segment c.in-Some.is (found.read start before.printed.contents before.printed.read) in
-    let continues = continues_with (left c.segments.feed.device) next c.segments.reader.carried c.segments.reader.size _ segment c.in-Some.is found.continues in
+    let is_segment = found_segment (left c.segments.feed.device) next c.segments.reader.carried c.segments.reader.size (c.segments.reader.most - c.segments.reader.given) _ segment c.in-Some.is found.segment in
     let same = err_from_is_err_and c.from_residual-in_err-send-2.result c.from_residual-in_err-send-2.ensures.1 in
     let sending = c.in_err-send-2.ensures {u = tt} in
     let count = c.in_err-send-2.field-0.0.written in
     let text : c.deref-in-segments.result.now ≡ segment_text c.args.extent c.segments.reader.messages c.segments.end segment =
     c.deref-in-segments.ensures.value ∙ c.in_ok-text-2.ensures {u = tt} ∙ ap (λ (n : ℕ). segment_text c.args.extent n c.segments.end segment) c.messages-before.ensures in
     faulted (printer_of c.args.extent) c.args.size left taken c.args.feed.now c.next.new.feed c.args.sink.now c.send-in-segments.new.sink c.from_residual-in_err-send-2.result Write (same.1 ∙ ap Err same.2)
-    (stops_writing c.args.extent start (left c.segments.feed.device) (taken c.args.sink.now.device) (taken c.segments.sink.device) c.segments.reader c.segments.end before next (taken c.send-in-segments.new.sink.device) segment c.next.new.self read continues
+    (stops_writing c.args.extent start (left c.segments.feed.device) (taken c.args.sink.now.device) (taken c.segments.sink.device) c.segments.reader c.segments.end before next (taken c.send-in-segments.new.sink.device) segment c.next.new.self read is_segment
     (omega (arith, c.if-messages-from.false, c.messages-in-segments.ensures, c.from.ensures)) count
     (subst (λ (bytes : List ℕ). Appends (taken c.segments.sink.device) (taken c.send-in-segments.new.sink.device) (take count bytes)) text sending.sent.1))
     (took_within start next c.segments.reader.most (2 ^ 40) before.printed.most (c.next.ensures.taken start before.printed.contents before.printed.read))
@@ -177,18 +177,18 @@ segments-preserved g c =
     let found = c.in_ok-segment.ensures {u = tt} in
     let segment : Contents = c.in-Some.segment in
     let read = one_more start next c.segments.reader.most before.printed.contents c.next.new.self _ segment c.in-Some.is (found.read start before.printed.contents before.printed.read) in
-    let continues = continues_with (left c.segments.feed.device) next c.segments.reader.carried c.segments.reader.size _ segment c.in-Some.is found.continues in
+    let is_segment = found_segment (left c.segments.feed.device) next c.segments.reader.carried c.segments.reader.size (c.segments.reader.most - c.segments.reader.given) _ segment c.in-Some.is found.segment in
     let sending = c.in_ok-send-2.ensures {u = tt} in
     let text : c.deref-in-segments.result.now ≡ segment_text c.args.extent c.segments.reader.messages c.segments.end segment =
     c.deref-in-segments.ensures.value ∙ c.in_ok-text-2.ensures {u = tt} ∙ ap (λ (n : ℕ). segment_text c.args.extent n c.segments.end segment) c.messages-before.ensures in
     record {
       so_far = subst (IsDisassembledTo c.args.extent start next c.next.new.self (taken c.args.sink.now.device) (taken c.send-in-segments.new.sink.device))
           (sym (c.after-end.ensures ∙ ap (λ (marked : Bool). text_end_after c.segments.end marked c.tail.result.now) c.marked.ensures ∙ ap (text_end_after c.segments.end segment.marked) c.tail.ensures))
-          (disassembled_on c.args.extent start (left c.segments.feed.device) (taken c.args.sink.now.device) (taken c.segments.sink.device) c.segments.reader c.segments.end before next (taken c.send-in-segments.new.sink.device) segment c.next.new.self read continues
+          (disassembled_on c.args.extent start (left c.segments.feed.device) (taken c.args.sink.now.device) (taken c.segments.sink.device) c.segments.reader c.segments.end before next (taken c.send-in-segments.new.sink.device) segment c.next.new.self read is_segment
           (omega (arith, c.if-messages-from.false, c.messages-in-segments.ensures, c.from.ensures)) c.next.ensures.most
           (subst (λ (bytes : List ℕ). Appends (taken c.segments.sink.device) (taken c.send-in-segments.new.sink.device) bytes) text sending.sent));
       size = c.next.ensures.size ∙ c.segments.invariant.size;
-      needed = inr (needs_last c.args.extent start (left c.segments.feed.device) (taken c.args.sink.now.device) (taken c.segments.sink.device) c.segments.reader c.segments.end before next segment continues c.args.size c.segments.invariant.size
+      needed = inr (needs_last c.args.extent start (left c.segments.feed.device) (taken c.args.sink.now.device) (taken c.segments.sink.device) c.segments.reader c.segments.end before next segment is_segment c.args.size c.segments.invariant.size
           (λ suffices. false≢true (sym c.segments-test.true ∙ c.ends_within.ensures.1 (subst (printer_of c.args.extent).Suffices (sym c.messages.ensures) suffices))));
       works = works_after _ (HasFailed c.next.new.feed) found.failed;
       sink_for_good = λ failed. let kept = c.segments.invariant.sink_for_good failed in c.send-in-segments.ensures.for_good (subst HasFailed (sym kept) failed) ∙ kept;

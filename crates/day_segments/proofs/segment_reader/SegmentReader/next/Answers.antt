@@ -1,9 +1,10 @@
-use Rattle.std.proofs.Common.{◌≡◌, ◌∙◌, ◌+◌, ◌-◌, ◌++◌, Err, List, ℕ, length, sym, subst, ap, arith}
+use Rattle.std.proofs.Common.{◌≡◌, ◌∙◌, ◌+◌, ◌-◌, Err, List, ℕ, length, sym, subst, ap, arith}
 use Rattle.std.proofs.lemmas.Result.{err_from_is_err_and}
 use Rattle.binaryfile.specs.Devices.{GaveMore, GaveUpTo}
-use Rattle.binaryfile.specs.Entries.{Contents, Splits}
+use Rattle.binaryfile.specs.Entries.{Contents}
 use Rattle.binaryfile.specs.declared.load.LoadFault.TheVariants.{TooManyBytes}
 use Rattle.day_segments.specs.Reading.{Reading}
+use Rattle.day_segments.specs.Segments.{IsSegment}
 use Rattle.day_segments.proofs.FurtherReading.{counted_on, found, has_read_on, segment_long, took_more, took_up_to}
 use Rattle.day_segments.proofs.segment_reader.SegmentReader.next.Goals as goal
 
@@ -88,16 +89,12 @@ returns-clause-took g c =
     let left = g.R.Read.remaining in
     subst (λ (n : ℕ). GaveUpTo (left c.args.feed.now.device) (left c.read_segment.new.feed.device) (n + 1)) (ap (λ (r : Reading). r.most - r.given) c.self.view_is) c.read_segment.ensures.taken
 
-pub returns-clause-continues : goal.returns-clause-continues
-returns-clause-continues g c =
+pub returns-clause-segment : goal.returns-clause-segment
+returns-clause-segment g c =
+    let now = g.R.Read.remaining c.args.feed.now.device in
+    let next = g.R.Read.remaining c.read_segment.new.feed.device in
     let segment : Contents = c.in-Some.segment in
-    let is = found (g.R.Read.remaining c.args.feed.now.device) (g.R.Read.remaining c.read_segment.new.feed.device) c.deref.result.now c.self.inside.size (c.self.inside.most - c.self.inside.given)
-    _ segment c.in-Some.is (c.in_ok-segment.ensures {u = tt}).segment in
-    let size = ap (λ (r : Reading). r.size) c.self.view_is in
-    record {
-      bytes = is.bytes;
-      gave = is.gave;
-      fits = omega (arith, is.fits, size);
-      full = λ few. is.full (omega (arith, few, size));
-      split = subst (λ (carried : List ℕ). Splits (carried ++ is.bytes) segment) (c.deref.ensures.value ∙ ap (λ (r : Reading). r.carried) c.self.view_is) is.split;
-    }
+    let inside = c.self.inside in
+    let is = found now next c.deref.result.now inside.size (inside.most - inside.given) _ segment c.in-Some.is (c.in_ok-segment.ensures {u = tt}).segment in
+    subst (λ (r : Reading). IsSegment now next r.carried r.size (r.most - r.given) segment) c.self.view_is
+    (subst (λ (carried : List ℕ). IsSegment now next carried inside.size (inside.most - inside.given) segment) c.deref.ensures.value is)

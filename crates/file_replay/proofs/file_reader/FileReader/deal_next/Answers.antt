@@ -47,11 +47,7 @@ returns-in_err-deal_segment-2 g c =
     let found = c.in_err-deal_segment-2.ensures {u = tt} in
     rw same.1 (record {
       next = tt;
-      reads = reads_then left c.args.feed.now c.loop-segment.feed new.feed c.args.self.now c.loop-segment.self new.self inv.reads
-          (λ start before at.
-          let so_far = inv.so_far start before at in
-          (so_far.contents, so_far.so_far))
-          (Err same.0) (subst (λ (fault : LoadFault). ReadsOn left c.loop-segment.feed new.feed c.loop-segment.self new.self (Err fault)) (sym same.2) found.reads);
+      reads = reads_then left c.args.feed.now c.loop-segment.feed new.feed c.args.self.now c.loop-segment.self new.self c.loop-segment.dealt inv.reads inv.so_far (Err same.0) (subst (λ (fault : LoadFault). ReadsOn left c.loop-segment.feed new.feed c.loop-segment.self new.self (Err fault)) (sym same.2) found.reads);
     })
 
 pub returns-then-not-branch-2 : goal.returns-then-not-branch-2
@@ -63,11 +59,7 @@ returns-then-not-branch-2 g c =
     record {
       next = λ start before at.
           found.deals start before (inv.so_far start before at) (c.messages-before.ensures ∙ ap (λ (f : FileReading). f.reading.messages) c.self.view_is ∙ at.read.messages_are);
-      reads = reads_then left c.args.feed.now c.loop-segment.feed new.feed c.args.self.now c.loop-segment.self new.self inv.reads
-          (λ start before at.
-          let so_far = inv.so_far start before at in
-          (so_far.contents, so_far.so_far))
-          (Ok c.in_ok-deal_segment-2.field-0) found.reads;
+      reads = reads_then left c.args.feed.now c.loop-segment.feed new.feed c.args.self.now c.loop-segment.self new.self c.loop-segment.dealt inv.reads inv.so_far (Ok c.in_ok-deal_segment-2.field-0) found.reads;
     }
 
 pub loop-segment-preserved : goal.loop-segment-preserved
@@ -79,9 +71,5 @@ loop-segment-preserved g c =
     record {
       so_far = λ start before at.
           found.deals start before (inv.so_far start before at) (c.messages-before.ensures ∙ ap (λ (f : FileReading). f.reading.messages) c.self.view_is ∙ at.read.messages_are);
-      reads = reads_then left c.args.feed.now c.loop-segment.feed new.feed c.args.self.now c.loop-segment.self new.self inv.reads
-          (λ start before at.
-          let so_far = inv.so_far start before at in
-          (so_far.contents, so_far.so_far))
-          (Ok c.in_ok-deal_segment-2.field-0) found.reads;
+      reads = reads_then left c.args.feed.now c.loop-segment.feed new.feed c.args.self.now c.loop-segment.self new.self c.loop-segment.dealt inv.reads inv.so_far (Ok c.in_ok-deal_segment-2.field-0) found.reads;
     }
