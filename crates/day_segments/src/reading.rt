@@ -1,5 +1,5 @@
 //! Reading the next segment of a file.
-ghost use Rattle.std.specs.Prelude.{◌≡◌, ◌≢◌, ◌≤◌, ◌<◌, ◌⊎◌, ◌+◌, ◌^◌, ◌↔◌, Err, IfErr, IfOk, IsErrOf, MatchOption, OnOk, [], false, length};
+ghost use Rattle.std.specs.Prelude.{◌≡◌, ◌≢◌, ◌≤◌, ◌<◌, ◌⊎◌, ◌+◌, ◌^◌, ◌↔◌, Err, IfErr, IfOk, IsErrOf, MatchOption, [], false, length};
 ghost use Rattle.binaryfile.specs.Devices.{GaveAll, GaveMore, GaveUpTo, HasFailed};
 ghost use Rattle.day_segments.specs.Segments.{Fills, Follows, IsSegment, carry_after};
 
@@ -54,8 +54,8 @@ fn next_bytes<R: Read, A: Allocator>(
 /// The next segment of a day file, as a day: the entries of what is carried over from the segment before and of what the
 /// feed gives next: `size` bytes, 1 to 2^30, and fewer only where the file ends before. `carried` is empty for the first
 /// segment, and then what [`carry_after`] says of the one before; `most` is how many bytes the feed may still give, no
-/// more than 2^40. There is no segment where the feed gives nothing more: what was carried over then is the tail of the
-/// file, as the segment before had it. So the feed is asked once more after it has ended. The memory is that of `alloc`.
+/// more than 2^40. There is no segment where the feed gives nothing more: what was carried over is the file's tail, or its
+/// end marker. So after a last segment that isn't full the feed is asked once more. The memory is that of `alloc`.
 ///
 /// In the course of reading the first of these is returned: [`LoadFault::Read`] where the feed fails (at once, and with
 /// no memory, where it had failed before), [`LoadFault::Memory`] where memory is refused, [`LoadFault::TooManyBytes`]

@@ -1,5 +1,5 @@
 //! A file that is read segment by segment, from its first byte on.
-ghost use Rattle.std.specs.Prelude.{◌≡◌, ◌≢◌, ◌≤◌, ◌<◌, ◌+◌, ◌-◌, ◌^◌, ◌↔◌, Err, IfOk, IfSome, IsErrOf, List, MatchOption, None, Ok, Option, ℕ, length};
+ghost use Rattle.std.specs.Prelude.{◌≡◌, ◌≢◌, ◌≤◌, ◌<◌, ◌+◌, ◌-◌, ◌^◌, ◌↔◌, Err, IfOk, IfSome, IsErrOf, List, MatchOption, None, Ok, Option, ℕ};
 ghost use Rattle.binaryfile.specs.Devices.{GaveMore, GaveUpTo, HasFailed};
 ghost use Rattle.binaryfile.specs.Entries.{Contents};
 ghost use Rattle.day_segments.specs.Reading.{HasRead, IsWholeFile, followed_by, nothing_read};
@@ -65,11 +65,11 @@ impl<A: Allocator + Copy> SegmentReader<A> {
     /// The next segment, as a day of its entries, or `None` where the file was read whole. The memory is that of `alloc`.
     ///
     /// A segment's bytes begin with what was carried over from the one before: an entry that is cut between two segments is
-    /// in the second. The feed is asked once more after it has ended. In the course of reading the first of these is
-    /// returned: [`LoadFault::Read`] where the feed fails (at once, and with no memory, where it had failed before),
-    /// [`LoadFault::Memory`] where memory is refused, [`LoadFault::TooManyBytes`] where the reader gave more bytes than the
-    /// file may have. At most one byte more than these is taken from the reader, whatever the result. After a fault the
-    /// file can't be read on.
+    /// in the second. After a last segment that isn't full the feed is asked once more. In the course of reading the first
+    /// of these is returned: [`LoadFault::Read`] where the feed fails (at once, and with no memory, where it had failed
+    /// before), [`LoadFault::Memory`] where memory is refused, [`LoadFault::TooManyBytes`] where the reader gave more bytes
+    /// than the file may have. At most one byte more than these is taken from the reader, whatever the result. After a fault
+    /// the file can't be read on.
     pub fn next<R: Read>(
         &mut self,
         alloc: A,

@@ -1,5 +1,5 @@
 -- What is known once messages of a file were dealt, or not.
-use Rattle.std.proofs.Common.{◌≡◌, ℕ, ◌+◌, ◌*◌, ◌-◌, ◌<◌, ◌≤◌, ◌++◌, Bool, true, false, Ok, Err, List, length, refl, sym, subst, ap, ◌∙◌, arith}
+use Rattle.std.proofs.Common.{◌≡◌, ℕ, ◌+◌, ◌*◌, ◌-◌, ◌<◌, ◌≤◌, ◌++◌, Bool, true, false, Ok, Err, List, length, refl, sym, subst, ◌∙◌, arith}
 use Rattle.std.specs.Prelude.{IfErr, IfOk, Option, Result}
 use Rattle.binaryfile.specs.Devices.{Device, GaveUpTo, HasFailed}
 use Rattle.binaryfile.specs.Entries.{Contents}
@@ -8,7 +8,7 @@ use Rattle.binaryfile.specs.declared.load.LoadFault.TheVariants.{Read}
 use Rattle.std.specs.declared.alloc.AllocError.{AllocError}
 use Rattle.day_replay.specs.Dealing.{Dealt, IsDealt}
 use Rattle.day_replay.specs.Replays.{HasReplayed, ReplayState}
-use Rattle.file_replay.specs.Files.{DealsNext, FileReading, GoesOn, IsFurther, IsSoFar, Next, ReadsOn, Stops}
+use Rattle.file_replay.specs.Files.{DealsNext, FileReading, IsFurther, IsSoFar, Next, ReadsOn, ReplaysDealt, Stops}
 use Rattle.file_replay.proofs.Replayed.{is_dealt}
 
 module _ {R : Type 0} (left : R → Option (List ℕ)) (feed fed : Device R) (old new : FileReading) (result : Result Bool LoadFault) (reads : ReadsOn left feed fed old new result) where
@@ -40,9 +40,9 @@ dealt_next left feed fed old new dealt result more is deals =
     subst (λ (r : Result Bool LoadFault). IfOk r (λ more. (start : Option (List ℕ)) (before : Contents) → IsSoFar start (left feed.device) before old → Next start (left fed.device) before new dealt more)) is deals.next
 
 -- the messages that were dealt are replayed
-pub gone : (old new : ReplayState) (dealt : Dealt) (result : Result (Unit {0}) AllocError) (u : Unit {0}) → result ≡ Ok u → GoesOn old new dealt result → (day payloads : List (List ℕ)) → HasReplayed day old → IsDealt (length day) payloads dealt
+pub gone : (old new : ReplayState) (dealt : Dealt) (result : Result (Unit {0}) AllocError) (u : Unit {0}) → result ≡ Ok u → ReplaysDealt old new dealt result → (day payloads : List (List ℕ)) → HasReplayed day old → IsDealt (length day) payloads dealt
     → HasReplayed (day ++ payloads) new
-gone old new dealt result u is = subst (GoesOn old new dealt) is
+gone old new dealt result u is = subst (ReplaysDealt old new dealt) is
 
 -- a result where a segment was dealt before
 abbrev pub still : Result Bool LoadFault → Result Bool LoadFault

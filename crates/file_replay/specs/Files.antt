@@ -86,8 +86,8 @@ pub record DealsNext {R : Type 0} (left : R → Option (List ℕ)) (feed fed : D
   pub reads : ReadsOn left feed fed old new result
 
 -- the messages that are dealt are replayed, unless memory is refused
-abbrev pub GoesOn : ReplayState → ReplayState → Dealt → Result (Unit {0}) AllocError → Type 0
-GoesOn old new dealt result =
+abbrev pub ReplaysDealt : ReplayState → ReplayState → Dealt → Result (Unit {0}) AllocError → Type 0
+ReplaysDealt old new dealt result =
     OnOk result ((day payloads : List (List ℕ)) → HasReplayed day old → IsDealt (length day) payloads dealt
     → HasReplayed (day ++ payloads) new)
 

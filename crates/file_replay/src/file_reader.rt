@@ -80,8 +80,8 @@ impl<A: Allocator + Copy> FileReader<A> {
         }
     }
 
-    // Reads the next segment and deals it after the messages that are dealt, of which `before` messages of the file come
-    // before; whether there was one. A file of too many messages is read to its end, and then refused.
+    // Reads the next segment and deals it after the messages that are dealt, before which the file has `before` messages;
+    // whether there was one. A file of too many messages is read to its end, and then refused.
     fn deal_segment<R: Read>(
         &mut self,
         alloc: A,

@@ -6,8 +6,8 @@
 //!
 //! ```rust
 //! let limits = Limits { bytes: 1 << 40, messages: u32::MAX };
-//! // a segment of day_segments::SEGMENT_BYTES bytes at a time
-//! let made = replay_file(rt, alloc, &mut feed, limits, SEGMENT_BYTES, threads, &Silent)?;
+//! let segment = day_segments::SEGMENT_BYTES;
+//! let made = replay_file(rt, alloc, &mut feed, limits, segment, threads, &Silent)?;
 //! ```
 //!
 //! Entries are those of Nasdaq BinaryFILE, and the effects of messages those of Nasdaq TotalView-ITCH 5.0; segments and

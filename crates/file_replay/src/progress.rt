@@ -15,7 +15,7 @@ impl<P: Progress> Progress for Option<P> {
     }
 }
 
-/// Tells nobody.
+/// Tells nobody, for callers that show no progress.
 #[derive(Drop)]
 pub struct Silent;
 

@@ -6,7 +6,7 @@ ghost use Rattle.binaryfile.specs.Devices.{GaveUpTo, HasFailed};
 ghost use Rattle.binaryfile.specs.Entries.{Contents};
 ghost use Rattle.day_replay.specs.Dealing.{IsDealt};
 ghost use Rattle.day_replay.specs.Replays.{HasReplayed};
-ghost use Rattle.file_replay.specs.Files.{DealsNext, GoesOn, IsReplayedFile, IsSoFar, Stops};
+ghost use Rattle.file_replay.specs.Files.{DealsNext, IsReplayedFile, IsSoFar, ReplaysDealt, Stops};
 
 use crate::file_reader::FileReader;
 use crate::progress::Progress;
@@ -44,7 +44,7 @@ fn go_on<T: Threads + Sync, A: Allocator + Copy + Send + Sync, R: Read + Send>(
         × IsSoFar start (R.remaining feed.old.device) before file.old }
     requires replay { (day payloads : List (List ℕ)) × HasReplayed day replay.old
         × IsDealt (length day) payloads dealt.now }
-    ensures replay { GoesOn replay.old replay.new dealt.now result.0 }
+    ensures replay { ReplaysDealt replay.old replay.new dealt.now result.0 }
     ensures deals { DealsNext R.remaining feed.old feed.new file.old file.new next.new result.1 }
 {
     let reader_alloc = alloc;
@@ -52,7 +52,7 @@ fn go_on<T: Threads + Sync, A: Allocator + Copy + Send + Sync, R: Read + Send>(
         requires { IsSync T.row × IsSend A.row × IsSync A.row × Frees A.Allocator A.dealloc_token
             × (day payloads : List (List ℕ)) × HasReplayed day replay.now
             × IsDealt (length day) payloads dealt.now }
-        ensures { GoesOn replay.entry.now replay.exit.now dealt.entry.now result }
+        ensures { ReplaysDealt replay.entry.now replay.exit.now dealt.entry.now result }
     { replay.go_on(rt, alloc, dealt, threads) };
     let mut read = || -> Result<bool, LoadFault>
         requires { (start : Option (List ℕ)) × (before : Contents)
@@ -70,8 +70,8 @@ fn go_on<T: Threads + Sync, A: Allocator + Copy + Send + Sync, R: Read + Send>(
 /// feed fails (at once, and with no memory, where it had failed before), [`LoadFault::Memory`] where memory is refused,
 /// [`LoadFault::TooManyBytes`] where the reader gave more than `limits.bytes` bytes, which are no more than 2^40, and
 /// [`LoadFault::TooManyMessages`], once the whole input was read, where it has more than `limits.messages` messages.
-/// Whatever the result, at most `limits.bytes + 1` bytes are taken from the reader. It may be asked again after it has
-/// ended, up to three times.
+/// Whatever the result, at most `limits.bytes + 1` bytes are taken from the reader. After a read that gave no byte it may be
+/// asked up to two times more.
 pub fn replay_file<T, A, R, P>(
     rt: &T,
     alloc: A,

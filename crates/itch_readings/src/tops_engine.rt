@@ -60,9 +60,9 @@ fn tops_of_file<A: Allocator + Copy, R: Read>(
 /// A locate code names its stock, whose lines begin at its first message. A symbol names the stock of the first directory
 /// message that gives the symbol and is applied, and its lines begin at that message ([`StockSearch`]).
 ///
-/// The file is read once, and no more is in memory than a segment of it, the machine of this stock, and the text, which is
-/// made before it is sent. [`StockFault::NoStock`] comes where the day hasn't the stock, and nothing was sent then; other
-/// faults are those of [`stocks_run`].
+/// The file is read once, and in memory are no more than a segment of 1 MiB, a byte for each locate code, the machine of
+/// this stock, and the text, which is made before it is sent. [`StockFault::NoStock`] comes where the day hasn't the stock,
+/// and nothing was sent then; other faults are those of [`stocks_run`].
 ///
 /// [`StockSearch`]: crate::StockSearch
 /// [`stocks_run`]: crate::stocks_run

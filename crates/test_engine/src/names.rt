@@ -145,10 +145,10 @@ fn tops_of<A: Allocator + Copy, R: Read + Drop>(
     tops_run(alloc, &mut feed, &mut sink, name, selection)
 }
 
-// How many bytes of a segment are read at a time.
+// How many bytes the reader gives a call where one of its reads fails.
 const PIECE: u64 = 1 << 18;
 
-// A reader that gives less than a piece at a time, a whole one, and as much as it is asked for.
+// A reader that gives less than a segment at a time, a whole one, and as much as it is asked for.
 #[test]
 fn messages_keep_their_numbers_through_segments(rt: HostRuntime) -> Result<(), Fail> {
     let file = long_file(rt.alloc())?;
@@ -160,7 +160,7 @@ fn messages_keep_their_numbers_through_segments(rt: HostRuntime) -> Result<(), F
         (code, Selection::Every, FROM_THE_FIRST),
     ];
     for (name, selection, wanted) in cases {
-        for most in [100_000, 262_144, 3_000_000] {
+        for most in [100_000, 1 << 20, 3_000_000] {
             let mut output = Vec::new(rt.alloc());
             let reader = Pieces::new(&file, most);
             let returned = tops_of(rt.alloc(), reader, name, selection, &mut output);
@@ -184,7 +184,7 @@ fn each_read_of_a_file_of_segments_may_fail(rt: HostRuntime) -> Result<(), Fail>
     let calls = (file.len() as u64).div_ceil(PIECE).saturating_add(2);
     for failing in 1..=calls.saturating_add(1) {
         let mut output = Vec::new(rt.alloc());
-        let reader = Pieces::failing(&file, 262_144, failing, ErrorKind::Interrupted);
+        let reader = Pieces::failing(&file, PIECE as usize, failing, ErrorKind::Interrupted);
         let returned = tops_of(rt.alloc(), reader, name, Selection::Changes, &mut output);
         let (wanted, written) = if failing <= calls {
             (Err(StockFault::Engine(ProgFault::Read)), b"".as_slice())

@@ -51,7 +51,7 @@ where
 /// Replays a day file while it is read, and writes the report, the same that [`replay_run`] writes. Returns how many
 /// messages were refused.
 ///
-/// `segment` is how many bytes a segment takes, 1 to 2^30. This many threads replay up to 16 segments together, while one
+/// `segment` is how many bytes a segment takes, 1 to 2^30. `threads` threads replay up to 16 segments together, while one
 /// more reads the next ones; where none can be made, the work is done all the same. In memory are a segment, copies of the
 /// messages of those that are dealt and of those that are replayed, what the stocks need, and the refused messages.
 /// Each time that segments were replayed `progress` is told how far it is.
