@@ -1,5 +1,5 @@
 //! Where breakpoints stop, both ways.
-use crate::calls::{Call, Returned, follow};
+use crate::calls::{Call, Line, Returned, follow, follow_new};
 use crate::days::{BIDS, time_break, timed, tour};
 use binaryfile::Day;
 use debugger::{Break, DebugFault, Debugger, Stop};
@@ -26,18 +26,15 @@ const fn none(at: u32) -> Result<Returned, DebugFault> {
     Ok(Returned::Stopped(Stop { at, hit: None }))
 }
 
-#[test]
-fn breakpoints_are_a_list(rt: HostRuntime) -> Result<(), Fail> {
-    let alloc = rt.alloc();
-    let day = tour(alloc)?;
-    let mut debugger = Debugger::new(alloc, &day, 1_000)?;
-    let script = [
+// A breakpoint that is there already keeps its place, and those after one that is removed close up.
+const fn list_script(late: Break, again: Break) -> [Line; 14] {
+    [
         (Call::AddBreak(BIDS), Ok(Returned::Added(0))),
-        (Call::AddBreak(time_break(3)?), Ok(Returned::Added(1))),
+        (Call::AddBreak(late), Ok(Returned::Added(1))),
         (Call::AddBreak(BIDS), Ok(Returned::Added(0))),
         (Call::RemoveBreak(0), Ok(Returned::Removed(Some(BIDS)))),
         (Call::RemoveBreak(1), Ok(Returned::Removed(None))),
-        (Call::AddBreak(time_break(3)?), Ok(Returned::Added(0))),
+        (Call::AddBreak(again), Ok(Returned::Added(0))),
         (Call::Onward, first(4)),
         (Call::Onward, none(7)),
         (Call::Onward, Err(DebugFault::PastEnd)),
@@ -46,17 +43,21 @@ fn breakpoints_are_a_list(rt: HostRuntime) -> Result<(), Fail> {
         (Call::Rearward, Err(DebugFault::BeforeStart)),
         (Call::Step, Ok(Returned::Moved(1, Some(Outcome::Applied)))),
         (Call::Back, Ok(Returned::Moved(0, None))),
-    ];
+    ]
+}
+
+#[test]
+fn breakpoints_are_a_list(rt: HostRuntime) -> Result<(), Fail> {
+    let script = list_script(time_break(3)?, time_break(3)?);
+    let alloc = rt.alloc();
+    let day = tour(alloc)?;
+    let mut debugger = Debugger::new(alloc, &day, 1_000)?;
     follow(alloc, &mut debugger, &script)?;
     same("no event", &debugger.event(), &None)
 }
 
-#[test]
-fn a_level_stops_where_its_shares_change(rt: HostRuntime) -> Result<(), Fail> {
-    let alloc = rt.alloc();
-    let day = tour(alloc)?;
-    let mut debugger = Debugger::new(alloc, &day, 1_000)?;
-    let script = [
+const fn level_script() -> [Line; 7] {
+    [
         (Call::AddBreak(BIDS), Ok(Returned::Added(0))),
         (Call::Onward, first(2)),
         (Call::Onward, first(3)),
@@ -64,8 +65,32 @@ fn a_level_stops_where_its_shares_change(rt: HostRuntime) -> Result<(), Fail> {
         (Call::Onward, first(7)),
         (Call::Onward, Err(DebugFault::PastEnd)),
         (Call::Rearward, first(5)),
-    ];
-    follow(alloc, &mut debugger, &script)
+    ]
+}
+
+#[test]
+fn a_level_stops_where_its_shares_change(rt: HostRuntime) -> Result<(), Fail> {
+    follow_new(rt.alloc(), &tour(rt.alloc())?, 1_000, &level_script())
+}
+
+// Any message that names it stops there, whatever becomes of the message.
+const NAMED: Break = Break::Reference {
+    locate: 1,
+    reference: 1,
+};
+
+const fn reference_script() -> [Line; 6] {
+    [
+        (Call::AddBreak(NAMED), Ok(Returned::Added(0))),
+        (Call::Onward, first(2)),
+        (Call::Onward, first(3)),
+        (Call::Onward, first(4)),
+        (Call::Rearward, first(3)),
+        (
+            Call::Goto(3),
+            Ok(Returned::Moved(3, Some(Outcome::Refused(Fault::ReferenceInUse)))),
+        ),
+    ]
 }
 
 #[test]
@@ -80,35 +105,25 @@ fn a_reference_stops_where_it_is_named(rt: HostRuntime) -> Result<(), Fail> {
             (3, AAPL.replace(1, 2, 50, 1_490_000)),
         ],
     )?;
-    let named = Break::Reference {
-        locate: 1,
-        reference: 1,
-    };
-    let refused = Some(Outcome::Refused(Fault::ReferenceInUse));
-    let mut debugger = Debugger::new(alloc, &day, 1_000)?;
-    let script = [
-        (Call::AddBreak(named), Ok(Returned::Added(0))),
+    follow_new(alloc, &day, 1_000, &reference_script())
+}
+
+const fn time_script(time: Break) -> [Line; 4] {
+    [
+        (Call::AddBreak(time), Ok(Returned::Added(0))),
         (Call::Onward, first(2)),
-        (Call::Onward, first(3)),
-        (Call::Onward, first(4)),
-        (Call::Rearward, first(3)),
-        (Call::Goto(3), Ok(Returned::Moved(3, refused))),
-    ];
-    follow(alloc, &mut debugger, &script)
+        (Call::Onward, none(4)),
+        (Call::Rearward, first(2)),
+    ]
 }
 
 #[test]
 fn a_time_stops_once(rt: HostRuntime) -> Result<(), Fail> {
+    let script = time_script(time_break(25)?);
     let alloc = rt.alloc();
     let event = system(0, b'O');
     let day = timed(alloc, &[(10, event), (30, event), (20, event), (40, event)])?;
     let mut debugger = Debugger::new(alloc, &day, 1_000)?;
-    let script = [
-        (Call::AddBreak(time_break(25)?), Ok(Returned::Added(0))),
-        (Call::Onward, first(2)),
-        (Call::Onward, none(4)),
-        (Call::Rearward, first(2)),
-    ];
     follow(alloc, &mut debugger, &script)?;
     same("the event", &debugger.event(), &Some(b'O'))
 }
@@ -131,20 +146,12 @@ fn two_bids<A: Allocator + Copy>(alloc: A) -> Result<Day<A>, Fail> {
 }
 
 // Message 3 changes the level alone, message 6 names the reference alone, and messages 2, 4 and 7 do both.
-#[test]
-fn the_first_that_stops_is_named(rt: HostRuntime) -> Result<(), Fail> {
-    let alloc = rt.alloc();
-    let day = two_bids(alloc)?;
-    let named = Break::Reference {
-        locate: 1,
-        reference: 1,
-    };
-    let mut debugger = Debugger::new(alloc, &day, 1_000)?;
-    let script = [
-        (Call::AddBreak(time_break(6)?), Ok(Returned::Added(0))),
-        (Call::AddBreak(named), Ok(Returned::Added(1))),
+const fn named_script(six: Break, four: Break) -> [Line; 20] {
+    [
+        (Call::AddBreak(six), Ok(Returned::Added(0))),
+        (Call::AddBreak(NAMED), Ok(Returned::Added(1))),
         (Call::AddBreak(BIDS), Ok(Returned::Added(2))),
-        (Call::AddBreak(time_break(4)?), Ok(Returned::Added(3))),
+        (Call::AddBreak(four), Ok(Returned::Added(3))),
         (Call::Onward, stop(2, 1)),
         (Call::Onward, stop(3, 2)),
         (Call::Onward, stop(4, 1)),
@@ -153,14 +160,19 @@ fn the_first_that_stops_is_named(rt: HostRuntime) -> Result<(), Fail> {
         (Call::Onward, stop(7, 0)),
         (Call::Rearward, stop(6, 1)),
         (Call::Rearward, stop(5, 3)),
-        (Call::RemoveBreak(1), Ok(Returned::Removed(Some(named)))),
+        (Call::RemoveBreak(1), Ok(Returned::Removed(Some(NAMED)))),
         (Call::Rearward, stop(4, 1)),
-        (Call::AddBreak(named), Ok(Returned::Added(3))),
+        (Call::AddBreak(NAMED), Ok(Returned::Added(3))),
         (Call::Rearward, stop(3, 1)),
         (Call::Onward, stop(4, 1)),
         (Call::Onward, stop(5, 2)),
         (Call::Onward, stop(6, 3)),
         (Call::Onward, stop(7, 0)),
-    ];
-    follow(alloc, &mut debugger, &script)
+    ]
+}
+
+#[test]
+fn the_first_that_stops_is_named(rt: HostRuntime) -> Result<(), Fail> {
+    let script = named_script(time_break(6)?, time_break(4)?);
+    follow_new(rt.alloc(), &two_bids(rt.alloc())?, 1_000, &script)
 }

@@ -1,4 +1,7 @@
 //! Calls of a debugger in a table, each with its result.
+ghost use Rattle.std.specs.Prelude.{◌<◌};
+
+use binaryfile::Day;
 use debugger::{Break, DebugFault, Debugger, Stop};
 use itch_table::{Outcome, Top, Totals};
 use std::alloc::Allocator;
@@ -66,15 +69,30 @@ impl Call {
     }
 }
 
+/// A call, and what it returns.
+pub type Line = (Call, Result<Returned, DebugFault>);
+
 /// Makes calls one after another, and compares their results.
 pub fn follow<A: Allocator + Copy>(
     alloc: A,
     debugger: &mut Debugger<'_, A>,
-    script: &[(Call, Result<Returned, DebugFault>)],
+    script: &[Line],
 ) -> Result<(), Fail> {
     for (call, wanted) in script {
         let found = call.make(alloc, debugger);
         same("a call", &(*call, found), &(*call, *wanted))?;
     }
     Ok(())
+}
+
+/// Makes calls of a new debugger of a day, which keeps a copy of a stock after this many of its messages.
+pub fn follow_new<A: Allocator + Copy>(
+    alloc: A,
+    day: &Day<A>,
+    every: u32,
+    script: &[Line],
+) -> Result<(), Fail>
+    requires { 0 < every }
+{
+    follow(alloc, &mut Debugger::new(alloc, day, every)?, script)
 }

@@ -1,7 +1,7 @@
 //! Moves by numbers, and what a stock is at a position.
-use crate::calls::{Call, Returned, follow};
+use crate::calls::{Call, Line, Returned, follow_new};
 use crate::days::tour;
-use debugger::{DebugFault, Debugger};
+use debugger::DebugFault;
 use itch_table::{Outcome, Top, Totals};
 use std::test::Fail;
 use test_support::same;
@@ -46,12 +46,8 @@ const NOTHING: Returned = Returned::Shown(
     false,
 );
 
-#[test]
-fn a_tour_shows_the_stock_at_each_place(rt: HostRuntime) -> Result<(), Fail> {
-    let alloc = rt.alloc();
-    let day = tour(alloc)?;
-    let mut debugger = Debugger::new(alloc, &day, 2)?;
-    let script = [
+const fn tour_script() -> [Line; 16] {
+    [
         (Call::Goto(5), applied(5)),
         (Call::Stock(1), halted(50, 2, 50, 75_000_000)),
         (Call::Goto(0), Ok(Returned::Moved(0, None))),
@@ -68,8 +64,12 @@ fn a_tour_shows_the_stock_at_each_place(rt: HostRuntime) -> Result<(), Fail> {
         (Call::Stock(1), halted(50, 2, 50, 75_000_000)),
         (Call::Step, applied(6)),
         (Call::Stock(1), halted(50, 1, 10, 15_000_000)),
-    ];
-    follow(alloc, &mut debugger, &script)
+    ]
+}
+
+#[test]
+fn a_tour_shows_the_stock_at_each_place(rt: HostRuntime) -> Result<(), Fail> {
+    follow_new(rt.alloc(), &tour(rt.alloc())?, 2, &tour_script())
 }
 
 #[test]
