@@ -1,16 +1,17 @@
+pub mod Kept
+pub mod Lists
 mod Merged
 mod StocksSeen
-mod Chunks
-mod Dealt
-mod OwnLeft
-pub mod Kept
-mod Placing
+mod Whose
+pub mod Dealt
 pub mod Progress
-pub mod Running
-mod Whole
-pub mod Refused
+pub mod MachineSteps
+pub mod Codes
+pub mod NextMessage
+pub mod Refusals
 pub mod StocksByWorker
-pub mod Showing
-mod Turning
+mod Looks
+pub mod Turning
 mod Scheduled
 mod NeverBack
+pub mod MergedDay

@@ -20,7 +20,7 @@ use Rattle.day_core.specs.Merging.{AreFilled, AreSound, Found, HasMessage, Holds
 pub named-append : (n : ℕ) (xs ys : List Piece) → named n (xs ++ ys) ≡ named n xs + named n ys
 named-append n xs ys = sum_by-append (λ (p : Piece). cond (eqb p.message n) 1 0) xs ys
 
-named_push_same : (n : ℕ) (xs : List Piece) (p : Piece) → p.message ≡ n → named n (xs ++ p ∷ []) ≡ named n xs + 1
+pub named_push_same : (n : ℕ) (xs : List Piece) (p : Piece) → p.message ≡ n → named n (xs ++ p ∷ []) ≡ named n xs + 1
 named_push_same n xs p same = named-append n xs (p ∷ []) ∙ rw (eq-eqb _ _ same) refl
 
 named_push_other : (n : ℕ) (xs : List Piece) (p : Piece) → p.message ≢ n → named n (xs ++ p ∷ []) ≡ named n xs

@@ -7,7 +7,7 @@ use Rattle.std.proofs.lemmas.List.Quantifiers.{all_pairs_push}
 use Rattle.day_core.specs.declared.playing.Event.{Event}
 use Rattle.day_core.specs.declared.playing.Event.TheVariants.{Look, Turn}
 use Rattle.day_core.specs.declared.playing.Seen.{Seen}
-use Rattle.day_core.specs.Cells.{shown}
+use Rattle.day_core.specs.Turns.{shown}
 use Rattle.day_core.specs.Owners.{owner, progress}
 use Rattle.day_core.specs.Schedules.{IsNotBack, SeenNeverGoesBack, done_after, message_seen, seen_at, seen_until}
 use Rattle.day_core.proofs.Scheduled.{looks_rise, seen_more}

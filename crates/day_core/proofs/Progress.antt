@@ -4,6 +4,8 @@ use Rattle.std.specs.List.{range_with_len}
 use Rattle.std.proofs.lemmas.Bool.{cases_Bool, cases_lt, eq-eqb, ne_eqb}
 use Rattle.std.proofs.lemmas.List.{take_all}
 use Rattle.std.proofs.lemmas.List.Elements.{filter_more, filter_passes}
+use Rattle.std.proofs.lemmas.List.FromFn.{length-range_with_len}
+use Rattle.std.proofs.lemmas.List.Sums.{count_by-le-length, length-filter}
 use Rattle.std.proofs.lemmas.Nat.{mod_below}
 use Rattle.itch_table.specs.declared.outcome.Part.{Part}
 use Rattle.itch_table.specs.declared.outcome.Part.TheVariants.{Locate, Nowhere}
@@ -25,6 +27,14 @@ pub own_passes : (workers worker : ℕ) (day : List (List ℕ)) (i d : ℕ) → 
     → is_own workers worker (part_at day (get_or (own_of workers worker day) i d)) ≡ true
 unfolding own_of
 own_passes workers worker day i d lt = filter_passes (λ n. is_own workers worker (part_at day n)) (range_with_len 1 (length day)) i d lt
+
+-- no worker has more messages than the day
+pub own_few : (workers worker : ℕ) (day : List (List ℕ)) → length (own_of workers worker day) ≤ length day
+unfolding own_of
+own_few workers worker day =
+    let p = λ (n : ℕ). is_own workers worker (part_at day n) in
+    let all = range_with_len 1 (length day) in
+    omega (arith, length-filter p all, count_by-le-length p all, length-range_with_len 1 (length day))
 
 -- a number that is no worker's owns nothing
 is_own-none : (workers worker : ℕ) (of : Part) → 0 < workers → workers ≤ worker → is_own workers worker of ≡ false

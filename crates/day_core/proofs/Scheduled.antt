@@ -12,8 +12,7 @@ use Rattle.day_core.specs.declared.merging.Piece.{Piece}
 use Rattle.day_core.specs.declared.playing.Event.{Event}
 use Rattle.day_core.specs.declared.playing.Event.TheVariants.{Look, Turn}
 use Rattle.day_core.specs.declared.playing.Seen.{Seen}
-use Rattle.day_core.specs.Cells.{shown}
-use Rattle.day_core.specs.Turns.{TurnsState, TurnsWorker}
+use Rattle.day_core.specs.Turns.{TurnsState, TurnsWorker, shown}
 use Rattle.day_core.specs.Owners.{own_of, owner, progress}
 use Rattle.day_core.proofs.Progress.{progress_rises}
 use Rattle.day_core.specs.Schedules.{Changes, turns_after, done_after, is_turn, seen_at, seen_of, seen_until}

@@ -1,76 +1,16 @@
--- A worker's way through its messages, and what all workers have for their stocks.
-use Rattle.std.proofs.Common.{◌≡◌, ℕ, ◌+◌, ◌<◌, ◌≤◌, List, [], ◌∷◌, ◌++◌, length, Bool, append-nil, cond, eqb, get_or, set, map, take, drop, replicate, Option, Some, None, IsSome, true, false, refl, sym, ap, ap₂, ◌∙◌, arith, rules, inl, inr}
+-- What all workers have for their stocks.
+use Rattle.std.proofs.Common.{◌≡◌, ℕ, ◌+◌, ◌<◌, List, [], ◌∷◌, ◌++◌, length, Bool, append-nil, cond, eqb, get_or, set, map, take, drop, replicate, Option, Some, None, IsSome, true, false, refl, sym, ap, ap₂, ◌∙◌, arith, rules, inl, inr}
 use Rattle.std.specs.List.{range_with_len}
 use Rattle.std.specs.Option.{option_to_list}
 use Rattle.std.proofs.lemmas.Bool.{cases_eq, eq-eqb, ne_eqb}
-use Rattle.std.proofs.lemmas.List.{drop_more, get_or-set_same, get_or-replicate, get_or-set_other, get_or-map, length-drop, length-map, length-replicate, length-set, map-append, map-set, take_all, take_more}
+use Rattle.std.proofs.lemmas.List.{drop_more, get_or-set_same, get_or-replicate, get_or-set_other, get_or-map, length-drop, length-map, length-replicate, length-set, map-append, map-set}
 use Rattle.std.proofs.lemmas.List.Elements.{filter_more}
 use Rattle.std.proofs.lemmas.List.FromFn.{get_or-map-range_with_len, get_or-range_with_len, length-map-range_with_len, length-range_with_len, map-range_with_len_more}
 use Rattle.std.proofs.lemmas.Nat.{mod_below}
-use Rattle.itch_table.specs.Shows.{locates_of_day}
-use Rattle.day_core.specs.declared.merging.Piece.{Piece}
-use Rattle.day_core.specs.declared.runner.Turned.{Turned}
-use Rattle.day_core.specs.Owners.{locates_by, machine_of, own_locates, own_of, owner, piece_of, progress}
-use Rattle.day_core.specs.Replaying.{each_worker, for_own_stocks, is_refused, last_machine, refused_among}
-use Rattle.day_core.specs.Splitting.{Split}
-use Rattle.day_core.specs.Workers.{TakesTurn, WorkerState, machine_at, worker_messages, worker_locates}
-use Rattle.day_core.proofs.Progress.{machine_last}
-use Rattle.day_core.proofs.Refused.{among_more}
-use Rattle.day_core.proofs.Running.{code_owner, codes_are, map_by_all, map_same}
-
--- ---- a worker's way
-
--- a worker has come from one state to another, and those of its messages that were refused were noted
-pub record HasDone (first now : WorkerState) (refused : List Piece) : Type 0 where
-  pub same : now ≡ record first { done = now.done }
-  pub within : now.done ≤ length (worker_messages first)
-  pub noted : refused ≡ refused_among first.day (take now.done (worker_messages first))
-
-pub does_none : (first : WorkerState) (refused : List Piece) → first.done ≡ 0 → refused ≡ [] → HasDone first first refused
-does_none first refused none empty = record { same = refl; within = omega (arith, none); noted = rw (none, empty) refl }
-
-pub does_more : (first now new : WorkerState) (turned : Turned) (refused more : List Piece) → HasDone first now refused → TakesTurn now new (Some turned)
-    → more ≡ refused ++ cond (is_refused turned.piece.outcome) (turned.piece ∷ []) [] → HasDone first new more
-does_more first now new turned refused more has takes pushed =
-    let own = worker_messages first in
-    let to : new ≡ record first { done = now.done + 1 } =
-    takes.1 ∙ ap (λ (s : WorkerState). let z : WorkerState = record s { done = now.done + 1 } in z) has.same
-    in
-    let done : new.done ≡ now.done + 1 = ap (λ (s : WorkerState). s.done) to in
-    let lt : now.done < length own = omega (arith, takes.0.more, ap (λ (s : WorkerState). length (worker_messages s)) has.same) in
-    let one : turned.piece ≡ piece_of first.day (get_or own now.done 0) =
-    takes.0.piece ∙ ap (λ (s : WorkerState). piece_of s.day (get_or (worker_messages s) now.done 0)) has.same
-    in
-    let noted : more ≡ refused_among first.day (take (now.done + 1) own) =
-    pushed ∙ ap₂ (λ (ps : List Piece) (p : Piece). ps ++ cond (is_refused p.outcome) (p ∷ []) []) has.noted one
-    ∙ sym (ap (refused_among first.day) (take_more own now.done 0 lt) ∙ among_more first.day (take now.done own) (get_or own now.done 0))
-    in
-    record {
-      same = to ∙ ap (λ (d : ℕ). let s : WorkerState = record first { done = d } in s) (sym done);
-      within = omega (arith, done, lt);
-      noted = noted ∙ ap (λ (d : ℕ). refused_among first.day (take d own)) (sym done);
-    }
-
--- where it has done all of them its stocks are those after the day
-through : (s : WorkerState) → s.done ≡ length (worker_messages s) → map (machine_at s) (worker_locates s) ≡ map (last_machine s.day) (worker_locates s)
-through s is = map_same (machine_at s) (last_machine s.day) (worker_locates s) (λ k lt.
-    let locate = get_or (worker_locates s) k 0 in
-    let mine = code_owner s.workers s.worker s.day k 0 lt in
-    ap (λ (d : ℕ). machine_of s.day locate (progress s.day s.workers locate d)) (is ∙ ap (λ (w : ℕ). length (own_of s.workers w s.day)) (sym mine))
-    ∙ machine_last s.day s.workers locate)
-
-pub stocks_through : (first now : WorkerState) (refused : List Piece) → HasDone first now refused → now.done ≡ length (worker_messages now)
-    → map (machine_at now) (worker_locates now) ≡ map (last_machine first.day) (worker_locates first)
-stocks_through first now refused has is =
-    through now is ∙ ap (λ (s : WorkerState). map (last_machine s.day) (worker_locates s)) has.same
-
-pub refused_through : (first now : WorkerState) (refused : List Piece) → HasDone first now refused → now.done ≡ length (worker_messages now)
-    → refused ≡ refused_among first.day (worker_messages first)
-refused_through first now refused has is =
-    let all = is ∙ ap (λ (s : WorkerState). length (worker_messages s)) has.same in
-    has.noted ∙ ap (refused_among first.day) (take_all now.done (worker_messages first) (omega (arith, all)))
-
--- ---- what all workers have, one after another
+use Rattle.day_core.specs.Owners.{locates_by, owner}
+use Rattle.day_core.specs.Replaying.{each_worker, for_own_stocks}
+use Rattle.day_core.specs.Splitting.{DayParts}
+use Rattle.day_core.proofs.Lists.{map_by_all}
 
 -- one worker's more
 pub one_more : {V X : Type 0} (items : V → X) (f : ℕ → X) (before after : List V) (v : V) (count : ℕ) → map items before ≡ map f (range_with_len 0 count) → after ≡ before ++ v ∷ [] → items v ≡ f count
@@ -84,12 +24,11 @@ pub record ByOwner {T : Type 0} (f : ℕ → T) (workers : ℕ) (locates : List 
   pub long : length lists ≡ workers
   pub each : (worker : ℕ) (d : List T) → worker < workers → get_or lists worker d ≡ map f (locates_by workers worker locates)
 
-pub all_left : {T : Type 0} (f : ℕ → T) (split : Split) (lists : List (List T)) → 0 < split.workers → lists ≡ each_worker (for_own_stocks f split) split → ByOwner f split.workers (locates_of_day split.day) lists
-unfolding own_locates
-all_left f split lists some are = record {
+pub all_left : {T : Type 0} (f : ℕ → T) (parts : DayParts) (lists : List (List T)) → 0 < parts.workers → lists ≡ each_worker (for_own_stocks f parts) parts.workers → ByOwner f parts.workers parts.locates lists
+all_left f parts lists some are = record {
   some = some;
-  long = ap length are ∙ length-map-range_with_len (for_own_stocks f split) 0 split.workers;
-  each = λ worker d lt. ap (λ ls. get_or ls worker d) are ∙ get_or-map-range_with_len (for_own_stocks f split) 0 split.workers worker worker d lt (omega arith);
+  long = ap length are ∙ length-map-range_with_len (for_own_stocks f parts) 0 parts.workers;
+  each = λ worker d lt. ap (λ ls. get_or ls worker d) are ∙ get_or-map-range_with_len (for_own_stocks f parts) 0 parts.workers worker worker d lt (omega arith);
 }
 
 module _ {T : Type 0} (f : ℕ → T) (workers : ℕ) (locates : List ℕ) (i : ℕ) (lists : List (List T)) (lt : i < length locates) (are : ByOwner f workers (drop i locates) lists) where
@@ -172,13 +111,13 @@ none_given f workers locates lists some empty = record {
 }
 
 -- after the last
-pub all_given : {T : Type 0} (f : ℕ → T) (split : Split) (lists : List (List T)) → ByOwner f split.workers (locates_of_day split.day) lists → lists ≡ each_worker (for_own_stocks f split) split
-all_given f split lists are =
-    map_by_all (for_own_stocks f split) (range_with_len 0 split.workers) lists (are.long ∙ sym (length-range_with_len 0 split.workers))
+pub all_given : {T : Type 0} (f : ℕ → T) (parts : DayParts) (lists : List (List T)) → ByOwner f parts.workers parts.locates lists → lists ≡ each_worker (for_own_stocks f parts) parts.workers
+all_given f parts lists are =
+    map_by_all (for_own_stocks f parts) (range_with_len 0 parts.workers) lists (are.long ∙ sym (length-range_with_len 0 parts.workers))
     (λ k d lt.
-    let below : k < split.workers = omega (arith, lt, length-range_with_len 0 split.workers) in
-    let same : k ≡ get_or (range_with_len 0 split.workers) k 0 = omega (arith, get_or-range_with_len 0 split.workers k 0 below) in
-    are.each k d below ∙ ap (map f) (codes_are split.workers k split.day) ∙ ap (for_own_stocks f split) same)
+    let below : k < parts.workers = omega (arith, lt, length-range_with_len 0 parts.workers) in
+    let same : k ≡ get_or (range_with_len 0 parts.workers) k 0 = omega (arith, get_or-range_with_len 0 parts.workers k 0 below) in
+    are.each k d below ∙ ap (for_own_stocks f parts) same)
 
 -- a queue that has values gives one
 pub gives_one : {T : Type 0} (old new : List T) (r : Option T) → 0 < length old → old ≡ option_to_list r ++ new → new ≡ drop 1 old → IsSome r

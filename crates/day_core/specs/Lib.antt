@@ -1,11 +1,7 @@
-pub mod Cells
 pub mod Turns
-pub mod Stretches
 pub mod Merging
 pub mod Owners
-pub mod Indices
 pub mod Replaying
 pub mod Schedules
 pub mod Splitting
-pub mod Workers
 pub mod FaultNumbers

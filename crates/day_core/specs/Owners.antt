@@ -2,13 +2,13 @@
 -- messages. All is of this project.
 use Rattle.std.specs.Prelude.{◌==◌, ◌%◌, ℕ, Bool, true, false, List, [], ◌∷◌, length, map, filter, take}
 use Rattle.std.specs.List.{range_with_len}
-use Rattle.binaryfile.specs.EntryLists.{numbered_payloads}
 use Rattle.itch_table.specs.declared.outcome.Part.{Part}
 use Rattle.itch_table.specs.declared.outcome.Part.TheVariants.{Locate, Nowhere}
 use Rattle.itch_table.specs.After.{after, outcome}
 use Rattle.itch_table.specs.Parts.{part}
 use Rattle.itch_table.specs.Projection.{is_locate, only, payload_at, steps_of}
 use Rattle.itch_table.specs.Shows.{locates_of_day}
+use Rattle.itch_table.specs.World.{empty_world}
 use Rattle.stock_machine.specs.StockRows.{StockMachine}
 use Rattle.day_core.specs.declared.merging.Piece.{Piece}
 
@@ -33,10 +33,6 @@ own_until workers worker day count =
 -- a worker's messages, by their numbers, rising
 unfoldable pub own_of : ℕ → ℕ → List (List ℕ) → List ℕ
 own_of workers worker day = own_until workers worker day (length day)
-
--- a worker's messages, each by its number and its payload
-abbrev pub own_messages : ℕ → ℕ → List (List ℕ) → List (ℕ × List ℕ)
-own_messages workers worker day = numbered_payloads day (own_of workers worker day)
 
 -- those of some locate codes that belong to a worker
 abbrev pub locates_by : ℕ → ℕ → List ℕ → List ℕ
@@ -94,3 +90,7 @@ machine_of day locate n = record {
   world = only locate (after day n);
   steps = steps_of day locate n;
 }
+
+-- a stock's machine before the first message
+abbrev pub new_machine : ℕ → StockMachine
+new_machine locate = record { locate = locate; world = empty_world; steps = 0 }

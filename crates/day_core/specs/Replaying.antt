@@ -1,5 +1,5 @@
 -- What the workers of a day make of all of it. Of this project.
-use Rattle.std.specs.Prelude.{◌≡◌, ◌-◌, ◌≤◌, ℕ, Bool, true, false, List, Option, length, map, filter, slice_index_or}
+use Rattle.std.specs.Prelude.{◌≡◌, ◌≤◌, ℕ, Bool, true, false, List, Option, length, map, filter}
 use Rattle.std.specs.List.{Contains, range_with_len}
 use Rattle.itch_table.specs.declared.outcome.Outcome.{Outcome}
 use Rattle.itch_table.specs.declared.outcome.Outcome.TheVariants.{Applied, Passed, Refused}
@@ -8,8 +8,8 @@ use Rattle.itch_table.specs.After.{after, outcome, outcomes}
 use Rattle.itch_table.specs.Shows.{locates_of_day}
 use Rattle.stock_machine.specs.StockRows.{StockMachine}
 use Rattle.day_core.specs.declared.merging.Piece.{Piece}
-use Rattle.day_core.specs.Owners.{machine_of, own_locates, own_of, part_at, piece_of}
-use Rattle.day_core.specs.Splitting.{Split}
+use Rattle.day_core.specs.Owners.{locates_by, machine_of, own_of, part_at, piece_of}
+use Rattle.day_core.specs.Splitting.{DayParts}
 
 -- a stock's machine after the whole day
 abbrev pub last_machine : List (List ℕ) → ℕ → StockMachine
@@ -28,6 +28,10 @@ pub record IsPieceOf (day : List (List ℕ)) (piece : Piece) : Type 0 where
   pub some : 1 ≤ piece.message
   pub within : piece.message ≤ length day
   pub has : piece.outcome ≡ outcome day piece.message
+
+-- a worker's messages with their outcomes, by rising number
+abbrev pub pieces_by : List (List ℕ) → ℕ → ℕ → List Piece
+pieces_by day workers worker = map (piece_of day) (own_of workers worker day)
 
 -- an outcome is that of a message that was applied
 abbrev pub is_applied : Outcome → Bool
@@ -62,8 +66,8 @@ OthersAreApplied =
     → ¬ Contains (map (λ piece. piece.message) (refused_of day)) n → outcome day n ≡ Applied
 
 -- the refused messages of a worker, with their outcomes, by rising number
-abbrev pub refused_by : Split → ℕ → List Piece
-refused_by split worker = refused_among split.day (own_of split.workers worker split.day)
+abbrev pub refused_by : List (List ℕ) → ℕ → ℕ → List Piece
+refused_by day workers worker = refused_among day (own_of workers worker day)
 
 -- what a whole day makes, in short: its refused messages with their outcomes, by rising number, the machines
 -- of its stocks by rising locate code, and the last event
@@ -73,15 +77,10 @@ pub record IsSummary (day : List (List ℕ)) (refused : List Piece) (stocks : Li
   pub stocks_are : stocks ≡ map (last_machine day) (locates_of_day day)
   pub event_is : event ≡ (after day (length day)).event
 
--- in a list with an index for each message of a day the outcome of this one, counted from 1, stands at its
--- index
-abbrev pub HasOutcome : List (List ℕ) → List Outcome → ℕ → Type 0
-HasOutcome day all message = (d : Outcome) → slice_index_or all (message - 1) d ≡ outcome day message
-
 -- a value for each of a worker's stocks, by rising locate code
-abbrev pub for_own_stocks : {T : Type 0} → (ℕ → T) → Split → ℕ → List T
-for_own_stocks f split worker = map f (own_locates split.workers worker split.day)
+abbrev pub for_own_stocks : {T : Type 0} → (ℕ → T) → DayParts → ℕ → List T
+for_own_stocks f parts worker = map f (locates_by parts.workers worker parts.locates)
 
 -- a value for each worker, by its number
-abbrev pub each_worker : {T : Type 0} → (ℕ → T) → Split → List T
-each_worker f split = map f (range_with_len 0 split.workers)
+abbrev pub each_worker : {T : Type 0} → (ℕ → T) → ℕ → List T
+each_worker f workers = map f (range_with_len 0 workers)

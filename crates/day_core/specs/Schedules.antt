@@ -5,8 +5,7 @@ use Rattle.day_core.specs.declared.merging.Piece.{Piece}
 use Rattle.day_core.specs.declared.playing.Event.{Event}
 use Rattle.day_core.specs.declared.playing.Event.TheVariants.{Look, Turn}
 use Rattle.day_core.specs.declared.playing.Seen.{Seen}
-use Rattle.day_core.specs.Cells.{shown, words_at}
-use Rattle.day_core.specs.Turns.{TurnsState, TurnsWorker, progress_in}
+use Rattle.day_core.specs.Turns.{TurnsState, TurnsWorker, progress_in, shown, words_at}
 use Rattle.day_core.specs.Owners.{own_of, owner}
 
 -- whether an event is a turn of this worker

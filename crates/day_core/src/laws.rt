@@ -1,7 +1,7 @@
 //! Laws of the definitions alone.
 ghost use Rattle.std.specs.Prelude.{◌≡◌, ◌++◌, ◌≤◌, ℕ, List, length};
 ghost use Rattle.itch_table.specs.Shows.{Shows};
-ghost use Rattle.day_core.specs.Cells.{shown};
+ghost use Rattle.day_core.specs.Turns.{shown};
 ghost use Rattle.day_core.specs.Owners.{machine_of, own_of, owner, progress};
 ghost use Rattle.day_core.specs.Replaying.{OthersAreApplied};
 ghost use Rattle.day_core.specs.Schedules.{SeenNeverGoesBack, done_after};
@@ -19,7 +19,7 @@ pub fn days_come_to_their_end()
 
 /// What a look shows of a stock is the stock's best bid and ask after some message of the day, or before the first:
 /// after the last of the stock's messages that its worker has done.
-#[tactic(auto, using(crate::proofs::Showing::shows_progress))]
+#[tactic(auto, using(crate::proofs::Looks::shows_progress))]
 pub fn looks_show_their_stock()
     ensures { (day : List (List ℕ)) (workers locate done : ℕ) →
         Shows day locate (progress day workers locate done) (shown day workers locate done) }
@@ -38,7 +38,7 @@ pub fn looks_never_go_back()
 
 /// A day's refused messages tell what became of every message of a stock: one that isn't among them was applied. None is
 /// passed over.
-#[tactic(auto, using(crate::proofs::Refused::others_are_applied))]
+#[tactic(auto, using(crate::proofs::Refusals::others_are_applied))]
 pub fn others_are_applied()
     ensures { OthersAreApplied }
 {}

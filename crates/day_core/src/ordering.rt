@@ -1,14 +1,13 @@
 //! Values of a day's stocks, in one list by rising locate code, or by their workers.
 ghost use Rattle.std.specs.Prelude.{◌≡◌, ◌++◌, ◌∷◌, ◌<◌, ℕ, [], IfOk, OnOk, length, map, replicate, slice_index_or, slice_set};
-ghost use Rattle.itch_table.specs.Shows.{locates_of_day};
 ghost use Rattle.day_core.specs.Replaying.{each_worker, for_own_stocks};
 
 use crate::parts::Parts;
 use std::alloc::{AllocError, Allocator};
 use std::collections::VecDeque;
 
-// Adds a value to the list of a worker.
-fn give<T: Drop, A: Allocator + Copy>(
+/// Adds a value to the list of a worker.
+pub(crate) fn give<T: Drop, A: Allocator + Copy>(
     lists: &mut Vec<Vec<T, A>, A>,
     worker: u32,
     value: T,
@@ -22,8 +21,8 @@ fn give<T: Drop, A: Allocator + Copy>(
     Ok(())
 }
 
-// An empty list for each worker.
-fn empty_lists<T: Drop, A: Allocator + Copy>(
+/// An empty list for each worker.
+pub(crate) fn empty_lists<T: Drop, A: Allocator + Copy>(
     alloc: A,
     workers: u32,
 ) -> Result<Vec<Vec<T, A>, A>, AllocError>
@@ -43,13 +42,13 @@ fn empty_lists<T: Drop, A: Allocator + Copy>(
 /// After an error the values are gone.
 pub fn by_worker<T: Drop, A: Allocator + Copy>(
     alloc: A,
-    parts: &Parts<'_, A>,
+    parts: &Parts<A>,
     values: Vec<T, A>,
 ) -> Result<Vec<Vec<T, A>, A>, AllocError>
-    requires { length values.items ≡ length (locates_of_day parts.now.day) }
+    requires { length values.items ≡ length parts.now.locates }
     ensures long { IfOk result (λ lists. length lists.items ≡ parts.now.workers) }
-    ensures order { IfOk result (λ lists. (f : ℕ → T) → values.items ≡ map f (locates_of_day parts.now.day)
-        → map (λ own. own.items) lists.items ≡ each_worker (for_own_stocks f parts.now) parts.now) }
+    ensures order { IfOk result (λ lists. (f : ℕ → T) → values.items ≡ map f parts.now.locates
+        → map (λ own. own.items) lists.items ≡ each_worker (for_own_stocks f parts.now) parts.now.workers) }
 {
     let workers = parts.workers();
     let locates = parts.locates();
@@ -81,16 +80,14 @@ fn queues_of<T: Drop, A: Allocator + Copy>(
 /// After an error the values are gone.
 pub fn in_order<T: Drop, A: Allocator + Copy>(
     alloc: A,
-    parts: &Parts<'_, A>,
+    parts: &Parts<A>,
     by_worker: Vec<Vec<T, A>, A>,
 ) -> Result<Vec<T, A>, AllocError>
-    requires { (f : ℕ → T)
-        × (map (λ own. own.items) by_worker.items ≡ each_worker (for_own_stocks f parts.now) parts.now) }
-    ensures order { IfOk result (λ all. (f : ℕ → T)
-        → map (λ own. own.items) by_worker.items ≡ each_worker (for_own_stocks f parts.now) parts.now
-        → all.items ≡ map f (locates_of_day parts.now.day)) }
-    // A day is split for at least one worker.
-    ensures some { 0 < parts.now.workers }
+    requires { (f : ℕ → T) × (map (λ own. own.items) by_worker.items
+        ≡ each_worker (for_own_stocks f parts.now) parts.now.workers) }
+    ensures { IfOk result (λ all. (f : ℕ → T)
+        → map (λ own. own.items) by_worker.items ≡ each_worker (for_own_stocks f parts.now) parts.now.workers
+        → all.items ≡ map f parts.now.locates) }
 {
     let workers = parts.workers();
     let locates = parts.locates();

@@ -1,95 +1,91 @@
 //! Which messages of a day each worker does.
-ghost use Rattle.std.specs.Prelude.{◌≡◌, ◌<◌, ◌≤◌, ◌^◌, length};
-ghost use Rattle.itch_table.specs.After.{after};
-ghost use Rattle.itch_table.specs.Shows.{locates_of_day};
-ghost use Rattle.day_core.specs.Owners.{fixed_pieces, own_messages};
+ghost use Rattle.std.specs.Prelude.{◌≡◌, ◌<◌, ◌≤◌, [], MatchOption, length, slice_index, slice_index_or};
+ghost use Rattle.std.specs.List.{Contains};
+ghost use Rattle.std.specs.List.Sorted.{IsStrictlyIncreasing};
 
 use crate::merging::Piece;
-use crate::own_messages::OwnMessages;
 use crate::worker_count::WorkerCount;
-use binaryfile::{Day, EntryList};
-use std::alloc::{AllocError, Allocator};
+use std::alloc::Allocator;
 use std::marker::Model;
 
-/// The parts of a day, one for each worker, and what belongs to none. They borrow the day.
+/// The parts of a day, one for each worker, and what belongs to none.
 ///
-/// A stock belongs to the worker whose number is the remainder of its locate code by the number of workers.
+/// A stock belongs to the worker whose number is the remainder of its locate code by the number of workers. Workers are
+/// numbered from 0. The parts are seen as what they hold.
 #[derive(Drop)]
-pub struct Parts<'d, A: Allocator> {
+pub struct Parts<A: Allocator> {
     pub(crate) workers: WorkerCount,
     pub(crate) locates: Vec<u16, A>,
-    // For each stretch of the day each worker's messages, rising.
-    pub(crate) own: Vec<Vec<EntryList<A>, A>, A>,
+    pub(crate) own: Vec<Vec<u32, A>, A>,
     pub(crate) fixed: Vec<Piece, A>,
     pub(crate) event: Option<u8>,
-    pub(crate) day: &'d Day<A>,
 }
 
-impl<'d, A: Allocator> Model for Parts<'d, A> {
-    ghost use Rattle.std.specs.Prelude.{map};
-    ghost use Rattle.day_core.specs.Splitting.{AreParts, Split};
-    ghost use Rattle.day_core.specs.Stretches.{AreAllOf, own_in_all};
+impl<A: Allocator> Model for Parts<A> {
+    ghost use Rattle.std.specs.Prelude.{◌≡◌, length, map};
+    ghost use Rattle.std.specs.List.Sorted.{IsStrictlyIncreasing};
+    ghost use Rattle.day_core.specs.Splitting.{DayParts};
 
-    ghost Value = { Split };
+    ghost Value = { DayParts };
 
-    ghost view = { λ p. record { day = p.day.now.payloads; workers = p.workers } };
+    ghost view = { λ p. record {
+      workers = p.workers;
+      locates = p.locates.items;
+      own = map (λ own. own.items) p.own.items;
+      fixed = p.fixed.items;
+      event = p.event;
+    } };
 
-    ghost invariant = { λ p. AreParts p.day.now.payloads p.workers p.locates.items
-        (own_in_all p.workers (map (λ lists. lists.items) p.own.items)) p.fixed.items p.event
-        × AreAllOf p.day.now.payloads (map (λ lists. lists.items) p.own.items) };
+    ghost invariant = { λ p. IsStrictlyIncreasing p.locates.items };
 }
 
-impl<'d, A: Allocator> Parts<'d, A> {
-    /// The day.
-    pub fn day(&self) -> &'d Day<A>
-        ensures { result.now.payloads ≡ self.now.day }
-    {
-        self.day
-    }
-
+impl<A: Allocator> Parts<A> {
     /// For how many workers the day was split, from 1 to 64.
     pub fn workers(&self) -> u32
         ensures workers { result ≡ self.now.workers }
         ensures some { 0 < result }
         ensures most { result ≤ 64 }
-        // The numbers of the day's messages fit 32 bits.
-        ensures few { length self.now.day < 2 ^ 32 }
     {
         self.workers.get()
     }
 
     /// The locate codes of the stocks that have messages in the day, rising.
     pub fn locates(&self) -> &[u16]
-        ensures { result.now ≡ locates_of_day self.now.day }
+        ensures locates { result.now ≡ self.now.locates }
+        ensures rising { IsStrictlyIncreasing result.now }
     {
-        self.locates.as_slice()
+        &self.locates
     }
 
-    /// The messages of a worker's stocks, by rising number; none for a number that is no worker's. Workers are numbered
-    /// from 0.
-    pub fn own(&self, worker: u32) -> OwnMessages<'_, A>
-        ensures messages { result ≡ own_messages self.now.workers worker self.now.day }
-        // The numbers of the day's messages fit 32 bits.
-        ensures few { length self.now.day < 2 ^ 32 }
+    /// The messages of a worker's stocks, by their numbers, rising; none for a number that is no worker's.
+    pub fn own(&self, worker: u32) -> &[u32]
+        ensures { result.now ≡ slice_index_or self.now.own worker [] }
     {
-        // Nothing is known of the lists of such a number.
-        if worker >= self.workers.get() {
-            return OwnMessages::new(self.day, &[], worker);
+        match self.own.get(worker as usize) {
+            Some(own) => own,
+            None => &[],
         }
-        OwnMessages::new(self.day, &self.own, worker)
     }
 
     /// The messages of no stock, with their outcomes, by rising number.
     pub fn fixed(&self) -> &[Piece]
-        ensures { result.now ≡ fixed_pieces self.now.day }
+        ensures { result.now ≡ self.now.fixed }
     {
-        self.fixed.as_slice()
+        &self.fixed
     }
 
     /// The event code of the day's last system event message, where it has one.
     pub fn event(&self) -> Option<u8>
-        ensures { result ≡ (after self.now.day (length self.now.day)).event }
+        ensures { result ≡ self.now.event }
     {
         self.event
+    }
+
+    /// Where a locate code stands among those of the stocks; none where it isn't one of them.
+    pub(crate) fn index_of(&self, locate: u16) -> Option<usize>
+        ensures { MatchOption result (¬ Contains self.now.locates locate) (λ index.
+            (index < length self.now.locates) × (slice_index self.now.locates index ≡ locate)) }
+    {
+        self.locates.binary_search(&locate).ok()
     }
 }

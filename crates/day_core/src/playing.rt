@@ -3,7 +3,7 @@ ghost use Rattle.std.specs.Prelude.{◌≡◌, ◌++◌, ◌<◌, ◌⊎◌, ◌
 ghost use Rattle.day_core.specs.Turns.{workers_of};
 ghost use Rattle.day_core.specs.Schedules.{Changes, seen_by, seen_of};
 
-use crate::splitting::{SplitFault, split};
+use crate::splitting::SplitFault;
 use crate::turns::Turns;
 use binaryfile::Day;
 use std::alloc::{AllocError, Allocator};
@@ -97,7 +97,6 @@ pub fn play<R: Threads + Sync, A: Allocator + Copy + Send + Sync>(
     ensures seen { IfOk result (λ seen. seen.items ≡ seen_by day.now.payloads workers events.now) }
     ensures workers { IsErrOf result SplitFault.Workers ↔ ((workers ≡ 0) ⊎ (64 < workers)) }
 {
-    let parts = split(rt, alloc, day, workers)?;
-    let turns = Turns::new(alloc, &parts)?;
+    let turns = Turns::new(rt, alloc, day, workers)?;
     Ok(watch(alloc, turns, events)?)
 }

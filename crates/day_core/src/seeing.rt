@@ -1,5 +1,5 @@
 //! The stocks that have messages in a day.
-ghost use Rattle.std.specs.Prelude.{ℕ, ◌≡◌, ◌<◌, ◌≤◌, ◌||◌, false, IfOk, filter, length, slice_index_or};
+ghost use Rattle.std.specs.Prelude.{ℕ, ◌≡◌, ◌<◌, ◌≤◌, false, IfOk, filter, length, slice_index_or};
 ghost use Rattle.std.specs.List.{range_with_len};
 ghost use Rattle.itch_table.specs.Shows.{locates_of_day};
 ghost use Rattle.itch_table.specs.declared.parts.TheConstants.{LOCATES};
@@ -17,20 +17,6 @@ pub(crate) fn none_seen<A: Allocator + Copy>(
     ensures none { IfOk result (λ seen. (k : ℕ) → k < count → slice_index_or seen.items k false ≡ false) }
 {
     vec![in alloc; false; count]
-}
-
-/// Marks the stocks that are seen among others too.
-pub(crate) fn mark<A: Allocator + Copy>(seen: &mut Vec<bool, A>, more: &[bool])
-    requires { length more.now ≡ length seen.old.items }
-    ensures long { length seen.new.items ≡ length seen.old.items }
-    ensures both { (k : ℕ) → k < length more.now → slice_index_or seen.new.items k false
-        ≡ (slice_index_or seen.old.items k false || slice_index_or more.now k false) }
-{
-    for (index, also) in more.iter().enumerate() {
-        if *also {
-            seen[index] = true;
-        }
-    }
 }
 
 /// The locate codes of the stocks that are seen, rising.
@@ -56,8 +42,8 @@ pub fn locates<A: Allocator + Copy>(alloc: A, day: &Day<A>) -> Result<Vec<u16, A
     ensures { IfOk result (λ locates. locates.items ≡ locates_of_day day.now.payloads) }
 {
     let mut seen = none_seen(alloc, LOCATES)?;
-    for payload in day.payloads() {
-        if let Part::Locate(locate) = part(payload) {
+    for before in 0..day.len() {
+        if let Part::Locate(locate) = part(day.payload(before + 1)) {
             seen[usize::from(locate)] = true;
         }
     }

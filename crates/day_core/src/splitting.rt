@@ -1,11 +1,11 @@
 //! A day, split into the parts of its workers.
 ghost use Rattle.std.specs.Prelude.{◌≡◌, ◌<◌, ◌⊎◌, ◌↔◌, IfOk, IsErrOf};
 ghost use Rattle.day_core.specs.FaultNumbers.{split_number};
+ghost use Rattle.day_core.specs.Splitting.{ArePartsOf};
 ghost use Rattle.day_core.specs.declared.splitting.SplitFault.TheVariants.{Memory};
 
-use crate::dealing::deal;
+use crate::dealing::{deal, whose_messages};
 use crate::parts::Parts;
-use crate::seeing::locates_seen;
 use crate::worker_count::WorkerCount;
 use binaryfile::Day;
 use std::alloc::{AllocError, Allocator};
@@ -40,43 +40,24 @@ impl From<AllocError> for SplitFault {
     }
 }
 
-/// Splits a day as [`split`] does, for a number of workers that is from 1 to 64 by its type.
-pub fn parts_of<'d, R: Threads + Sync, A: Allocator + Copy + Send + Sync>(
-    rt: &R,
-    alloc: A,
-    day: &'d Day<A>,
-    workers: WorkerCount,
-) -> Result<Parts<'d, A>, AllocError>
-    ensures { IfOk result (λ parts. parts ≡ record { day = day.now.payloads; workers = workers }) }
-{
-    let dealt = deal(rt, alloc, day, workers)?;
-    let locates = locates_seen(alloc, &dealt.seen)?;
-    Ok(Parts {
-        workers,
-        locates,
-        own: dealt.own,
-        fixed: dealt.fixed,
-        event: dealt.event,
-        day,
-    })
-}
-
-/// Splits a day into parts for this many workers, from 1 to 64. The parts borrow the day.
+/// Splits a day into parts for this many workers, from 1 to 64. Threads look whose each message is, and then one thread
+/// deals the messages.
 ///
 /// [`SplitFault::Workers`] where the number is another, which is looked at first, and else [`SplitFault::Memory`] where
-/// memory is refused; there are no parts after a fault. Each list of messages has room for twice its share at first, and
-/// grows by doubling.
-pub fn split<'d, R: Threads + Sync, A: Allocator + Copy + Send + Sync>(
+/// memory is refused; there are no parts after a fault.
+pub fn split<R: Threads + Sync, A: Allocator + Copy + Send + Sync>(
     rt: &R,
     alloc: A,
-    day: &'d Day<A>,
+    day: &Day<A>,
     workers: u32,
-) -> Result<Parts<'d, A>, SplitFault>
-    ensures split { IfOk result (λ parts. parts ≡ record { day = day.now.payloads; workers = workers }) }
+) -> Result<Parts<A>, SplitFault>
+    ensures parts { IfOk result (ArePartsOf day.now.payloads) }
+    ensures count { IfOk result (λ parts. parts.workers ≡ workers) }
     ensures workers { IsErrOf result SplitFault.Workers ↔ ((workers ≡ 0) ⊎ (64 < workers)) }
 {
     let Some(workers) = WorkerCount::new(workers) else {
         return Err(SplitFault::Workers);
     };
-    Ok(parts_of(rt, alloc, day, workers)?)
+    let whose = whose_messages(rt, alloc, day)?;
+    Ok(deal(alloc, day, &whose, workers)?)
 }

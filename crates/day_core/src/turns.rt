@@ -1,64 +1,81 @@
 //! All workers of a day without threads, in any order.
-ghost use Rattle.std.specs.Prelude.{◌≡◌, ◌<◌, IfOk, MatchOption, OnErr, map, replicate};
-ghost use Rattle.std.specs.List.{Contains, range_with_len};
+ghost use Rattle.std.specs.Prelude.{◌≡◌, ◌<◌, ◌⊎◌, ◌↔◌, IfOk, IsErrOf, MatchOption, OnErr, replicate};
+ghost use Rattle.std.specs.List.{Contains};
 ghost use Rattle.itch_table.specs.Shows.{Shows, locates_of_day};
 ghost use Rattle.day_core.specs.Owners.{machine_of};
-ghost use Rattle.day_core.specs.Workers.{first_state};
-ghost use Rattle.day_core.specs.Turns.{MayGrowAt, TurnsWorker, progress_in};
+ghost use Rattle.day_core.specs.Turns.{HasNone, IsNext, MayGrowAt, TurnsWorker, progress_in};
 
+use crate::machines::new_stocks;
 use crate::merging::Piece;
 use crate::parts::Parts;
-use crate::worker_cells::WorkerCells;
+use crate::splitting::{SplitFault, split};
+use binaryfile::Day;
+use itch_table::locate_in;
 use std::alloc::{AllocError, Allocator};
 use std::marker::Model;
+use std::thread::Threads;
 use stock_machine::Stock;
 
 /// All workers of a day without threads, whose turns come in any order, and the words that screens read of each stock.
-/// They borrow the parts of the day.
 ///
 /// It is seen as the day, and how many of its own messages each worker has done.
 #[derive(Drop)]
 pub struct Turns<'d, A: Allocator> {
-    parts: &'d Parts<'d, A>,
-    workers: Vec<WorkerCells<'d, A>, A>,
+    day: &'d Day<A>,
+    parts: Parts<A>,
+    // How many of its messages each worker has done.
+    done: Vec<usize, A>,
+    // The machine of each stock, and the four words that screens read of it, by rising locate code.
+    stocks: Vec<Stock<A>, A>,
+    cells: Vec<[u64; 4], A>,
 }
 
 impl<'d, A: Allocator> Model for Turns<'d, A> {
-    ghost use Rattle.std.specs.Prelude.{map};
-    ghost use Rattle.day_core.specs.Turns.{AreWorkers, TurnsState};
+    ghost use Rattle.day_core.specs.Turns.{AreTurns, TurnsState, state_of};
 
     ghost Value = { TurnsState };
 
-    ghost view = { λ t. record { day = t.parts.now.day; done = map (λ d. d.done) t.workers.items } };
+    ghost view = { λ t. state_of t.day.now.payloads t.done.items };
 
-    ghost invariant = { λ t. AreWorkers t.parts.now.day t.workers.items };
+    ghost invariant = { λ t.
+        AreTurns (state_of t.day.now.payloads t.done.items) t.parts t.stocks.items t.cells.items };
 }
 
-// The workers of a day before their first turn, in the order of their numbers.
-fn new_worker_cells<'p, A: Allocator + Copy>(
-    alloc: A,
-    parts: &'p Parts<'p, A>,
-) -> Result<Vec<WorkerCells<'p, A>, A>, AllocError>
-    ensures first { IfOk result (λ workers.
-        workers.items ≡ map (first_state parts.now) (range_with_len 0 parts.now.workers)) }
-    ensures some { 0 < parts.now.workers }
-{
-    let count = parts.workers();
-    let mut workers = Vec::with_capacity(alloc, count as usize)?;
-    for worker in 0..count {
-        workers.push(WorkerCells::new(alloc, parts, worker)?)?;
-    }
-    Ok(workers)
+// A message that a worker comes to, and where its stock stands among those of the day.
+#[derive(Debug, Clone, Copy)]
+struct Next {
+    message: u32,
+    place: usize,
 }
 
 impl<'d, A: Allocator + Copy> Turns<'d, A> {
-    /// The workers of the parts of a day, before their first turn.
-    pub fn new(alloc: A, parts: &'d Parts<'d, A>) -> Result<Turns<'d, A>, AllocError>
-        ensures { IfOk result (λ turns.
-            turns ≡ record { day = parts.now.day; done = replicate parts.now.workers 0 }) }
+    /// The workers of a day before their first turn. The day is split for this many of them, from 1 to 64.
+    ///
+    /// [`SplitFault::Workers`] where the number is another, which is looked at first, and else [`SplitFault::Memory`]
+    /// where memory is refused.
+    pub fn new<R: Threads + Sync>(
+        rt: &R,
+        alloc: A,
+        day: &'d Day<A>,
+        workers: u32,
+    ) -> Result<Turns<'d, A>, SplitFault>
+    where
+        A: Send + Sync,
+        ensures first { IfOk result (λ turns.
+            turns ≡ record { day = day.now.payloads; done = replicate workers 0 }) }
+        ensures workers { IsErrOf result SplitFault.Workers ↔ ((workers ≡ 0) ⊎ (64 < workers)) }
     {
-        let workers = new_worker_cells(alloc, parts)?;
-        Ok(Turns { parts, workers })
+        let parts = split(rt, alloc, day, workers)?;
+        let done = vec![in alloc; 0; parts.workers() as usize]?;
+        let stocks = new_stocks(alloc, parts.locates())?;
+        let cells = vec![in alloc; [0; 4]; stocks.len()]?;
+        Ok(Turns {
+            day,
+            parts,
+            done,
+            stocks,
+            cells,
+        })
     }
 
     /// Does the next message of a worker, sets the words of its stock, and returns what became of it; none, with
@@ -69,14 +86,36 @@ impl<'d, A: Allocator + Copy> Turns<'d, A> {
         ensures err { OnErr result (self.new ≡ self.old) }
         ensures grows { OnErr result (MayGrowAt self.old worker) }
     {
-        let index = worker as usize;
-        if index >= self.workers.len() {
-            return Ok(None);
-        }
-        let Some(turned) = self.workers[index].turn()? else {
+        let Some(next) = self.next(worker) else {
             return Ok(None);
         };
-        Ok(Some(turned.piece))
+        let stock = &mut self.stocks[next.place];
+        let outcome = stock.step(self.day.payload(next.message))?;
+        self.cells[next.place] = stock.top().to_words(next.message);
+        self.done[worker as usize] += 1;
+        Ok(Some(Piece {
+            message: next.message,
+            outcome,
+        }))
+    }
+
+    // A worker's next message; none where it has done all of them or isn't one.
+    fn next(&self, worker: u32) -> Option<Next>
+        ensures { MatchOption result (HasNone self.now worker) (IsNext self.now worker) }
+    {
+        let index = worker as usize;
+        if index >= self.done.len() {
+            return None;
+        }
+        let done = self.done[index];
+        let own = self.parts.own(worker);
+        if done >= own.len() {
+            return None;
+        }
+        let message = own[done];
+        let locate = locate_in(self.day.payload(message));
+        let place = self.parts.index_of(locate).unwrap();
+        Some(Next { message, place })
     }
 
     /// The four words that a screen reads of a stock: those of the last of its messages that its worker has done; four
@@ -84,8 +123,10 @@ impl<'d, A: Allocator + Copy> Turns<'d, A> {
     pub fn look(&self, locate: u16) -> [u64; 4]
         ensures { Shows self.now.day locate (progress_in self.now locate) result }
     {
-        let owner = usize::from(locate) % self.workers.len();
-        self.workers[owner].look(locate)
+        match self.parts.index_of(locate) {
+            Some(index) => self.cells[index],
+            None => [0; 4],
+        }
     }
 
     /// The machine of a stock after the last of its messages that its worker has done; none where no message of the day
@@ -94,7 +135,7 @@ impl<'d, A: Allocator + Copy> Turns<'d, A> {
         ensures { MatchOption result (¬ Contains (locates_of_day self.now.day) locate) (λ stock.
             stock.now ≡ machine_of self.now.day locate (progress_in self.now locate)) }
     {
-        let owner = usize::from(locate) % self.workers.len();
-        self.workers[owner].stock(locate)
+        let index = self.parts.index_of(locate)?;
+        Some(&self.stocks[index])
     }
 }

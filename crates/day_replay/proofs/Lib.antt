@@ -3,5 +3,6 @@ pub mod BatchSteps
 pub mod NoStockMessages
 pub mod Dealt
 pub mod Following
+pub mod RefusedMessages
 pub mod WholeDay
 pub mod LastMachines

@@ -21,7 +21,8 @@ use Rattle.itch_table.proofs.OtherSteps.{others_stay}
 use Rattle.itch_table.proofs.OwnSteps.{steps_are_own}
 use Rattle.itch_table.proofs.StockDays.{other_part, outcomes_stay_fixed, own_part}
 use Rattle.day_core.specs.declared.merging.Piece.{Piece}
-use Rattle.day_core.proofs.Refused.{fixed_refused, stock_applied}
+use Rattle.day_core.proofs.Refusals.{stock_applied}
+use Rattle.day_replay.proofs.RefusedMessages.{fixed_refused}
 use Rattle.day_core.specs.Owners.{is_nowhere, is_own, own_of, part_at, piece_of}
 use Rattle.day_core.specs.Replaying.{is_passed, is_refused, refused_among, refused_by}
 use Rattle.day_replay.specs.Messages.{numbered_after, of_batch}
@@ -148,7 +149,7 @@ module _ (day : List (List ℕ)) (batch : ℕ) where
               let never : ⊥ = cc in
               never
 
-  pub refused_is : refused_from empty_world (of_batch batch (numbered_after 0 day)) ≡ refused_by (record { day = day; workers = 128 }) batch
+  pub refused_is : refused_from empty_world (of_batch batch (numbered_after 0 day)) ≡ refused_by day 128 batch
   unfolding own_of
   refused_is = refused_rest day [] empty_world refl (λ locate mine. ap (only locate) (sym (after-none day)))
 
@@ -199,7 +200,7 @@ module _ (day : List (List ℕ)) where
   nowhere_rest [] done split = refl
   nowhere_rest (p ∷ ps) done split = one_nowhere done ps p split (later done ps p split (nowhere_rest ps (done ++ p ∷ []) (goes_on day done ps p split))) (part p) refl
 
-  pub refused_are : (no_stock_of (numbered_after 0 day)).refused ≡ fixed_refused (record { day = day; workers = 128 })
+  pub refused_are : (no_stock_of (numbered_after 0 day)).refused ≡ fixed_refused day 128
   refused_are = nowhere_rest day [] refl
 
   abbrev passes : ℕ × List ℕ → Bool

@@ -7,8 +7,9 @@ ghost use Rattle.itch_table.specs.Parts.{part};
 ghost use Rattle.day_replay.specs.Batches.{Does, DoesOrFails, HasDone, MayDo, outcome_in, stepped};
 
 use crate::batch_messages::BatchMessages;
+use crate::refusals::note_refused;
 use crate::{BATCHES, STOCKS};
-use day_core::{Piece, note_refused};
+use day_core::Piece;
 use itch_table::{Outcome, locate_in};
 use std::alloc::{AllocError, Allocator};
 use std::marker::Model;

@@ -29,6 +29,7 @@ mod batch_messages;
 mod dealt_messages;
 mod ending;
 mod no_stock;
+mod refusals;
 mod replay;
 
 pub use dealt_messages::DealtMessages;

@@ -17,7 +17,7 @@ use Rattle.itch_table.proofs.NoStock.{system_sets_event}
 use Rattle.itch_table.proofs.StockDays.{outcomes_stay_fixed}
 use Rattle.stock_machine.specs.StockRows.{StockMachine}
 use Rattle.day_core.specs.Owners.{machine_of}
-use Rattle.day_core.proofs.Running.{machine_stepped}
+use Rattle.day_core.proofs.MachineSteps.{machine_stepped}
 use Rattle.checkpoints.proofs.Along.{steps_most}
 use Rattle.debugger.specs.Finding.{IsLatest}
 use Rattle.debugger.specs.Sessions.{is_system, outcome_at}

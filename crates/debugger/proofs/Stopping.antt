@@ -21,7 +21,7 @@ use Rattle.stock_machine.specs.StockRows.{StockMachine}
 use Rattle.day_core.specs.Owners.{machine_of}
 use Rattle.day_core.proofs.Progress.{machine_stays}
 use Rattle.day_core.proofs.Kept.{kept_more}
-use Rattle.day_core.proofs.Running.{machine_stepped}
+use Rattle.day_core.proofs.MachineSteps.{machine_stepped}
 use Rattle.checkpoints.proofs.Reading.{IsReading, read_all, read_more, read_none, read_payload, read_within}
 use Rattle.checkpoints.proofs.Along.{first_machine, steps_most}
 use Rattle.checkpoints.specs.Copies.{machine_after_own}

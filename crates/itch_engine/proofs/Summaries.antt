@@ -1,20 +1,16 @@
--- The lines and the counts of a day, by its refused messages and those of no stock.
-use Rattle.std.proofs.Common.{◌≡◌, ℕ, zero, suc, ◌+◌, ◌≤◌, List, [], ◌∷◌, ◌++◌, length, Bool, true, false, cond, filter, map, refl, sym, ap, ◌∙◌, arith, inl, inr}
+-- The lines and the counts of a day, by its refused messages.
+use Rattle.std.proofs.Common.{◌≡◌, ℕ, zero, suc, ◌+◌, List, [], ◌∷◌, ◌++◌, length, Bool, false, cond, filter, map, refl, sym, ap, ◌∙◌, arith, inl, inr}
 use Rattle.std.specs.List.{count_by, flat_map, range_with_len}
 use Rattle.std.proofs.lemmas.Bool.{cases_Bool}
 use Rattle.std.proofs.lemmas.List.{length-map}
-use Rattle.std.proofs.lemmas.List.FromFn.{length-range_with_len}
-use Rattle.std.proofs.lemmas.List.Sums.{count_by-le-length, length-filter, sum_by-cons}
+use Rattle.std.proofs.lemmas.List.Sums.{length-filter, sum_by-cons}
 use Rattle.itch_table.specs.declared.outcome.Outcome.{Outcome}
 use Rattle.itch_table.specs.declared.outcome.Outcome.TheVariants.{Applied, Passed, Refused}
-use Rattle.itch_table.specs.declared.outcome.Part.{Part}
-use Rattle.itch_table.specs.declared.outcome.Part.TheVariants.{Locate, Nowhere}
 use Rattle.itch_table.specs.After.{outcome, outcomes}
 use Rattle.day_core.specs.declared.merging.Piece.{Piece}
-use Rattle.day_core.specs.Owners.{fixed_pieces, is_nowhere, part_at, piece_of}
+use Rattle.day_core.specs.Owners.{piece_of}
 use Rattle.day_core.specs.Replaying.{is_applied, is_passed, is_refused, refused_of}
-use Rattle.day_core.proofs.Kept.{filter-map, kept_narrower}
-use Rattle.day_core.proofs.Refused.{stock_applied}
+use Rattle.day_core.proofs.Kept.{filter-map}
 use Rattle.itch_engine.specs.Report.{refused_line, refused_lines}
 
 -- ---- the lines
@@ -53,35 +49,6 @@ module _ (day : List (List ℕ)) where
 
   pub refused_are : length (refused_of day) ≡ count_by is_refused (outcomes day)
   refused_are = length-map _ (piece_of day) ∙ sym (counted is_refused)
-
-  -- those that were passed over are of no stock
-  nowhere : (n : ℕ) → is_passed (outcome day n) ≡ true → is_nowhere (part_at day n) ≡ true
-  nowhere n on = by_part (part_at day n) refl
-    where
-      passed : (o : Outcome) → is_passed o ≡ true → (is_refused o ≡ false → o ≡ Applied) → ⊥
-      passed Applied is then = cc
-      passed Passed is then = let applied = then refl in cc
-      passed (Refused fault) is then = cc
-
-      by_part : (p : Part) → part_at day n ≡ p → is_nowhere (part_at day n) ≡ true
-      by_part (Locate locate) is = absurd (passed (outcome day n) on (stock_applied day n locate is))
-      by_part (Nowhere o) is = rw is refl
-
-  pub passed_are : count_by (λ p. is_passed p.outcome) (fixed_pieces day) ≡ count_by is_passed (outcomes day)
-  unfolding fixed_pieces
-  passed_are =
-      let fixed = filter (λ n. is_nowhere (part_at day n)) numbers in
-      let passes = λ (n : ℕ). is_passed (outcome day n) in
-      sym (length-filter (λ (p : Piece). is_passed p.outcome) (map (piece_of day) fixed))
-      ∙ ap length (filter-map (λ (p : Piece). is_passed p.outcome) (piece_of day) fixed) ∙ length-map _ (piece_of day)
-      ∙ ap length (kept_narrower (λ n. is_nowhere (part_at day n)) passes numbers nowhere) ∙ sym (counted is_passed)
-
-  -- there are no more messages of no stock than messages
-  pub few_fixed : length (fixed_pieces day) ≤ length day
-  unfolding fixed_pieces
-  few_fixed =
-      let fixed = filter (λ n. is_nowhere (part_at day n)) numbers in
-      omega (arith, length-map fixed (piece_of day), length-filter (λ n. is_nowhere (part_at day n)) numbers, count_by-le-length (λ n. is_nowhere (part_at day n)) numbers, length-range_with_len 1 (length day))
 
 -- each message is applied, passed over or refused
 pub all_counted : (found : List Outcome) → count_by is_applied found + count_by is_passed found + count_by is_refused found ≡ length found

@@ -10,13 +10,13 @@ ghost use Rattle.top_cell.specs.Boards.{AreNew, IsOn};
 ghost use Rattle.itch_watch.specs.Watching.{AreSeen, AreSeenToTheEnd, IsReading, IsScreenOf};
 
 use binaryfile::Day;
-use day_core::{Parts, WorkerCount, parts_of};
+use day_core::WorkerCount;
 use itch_table::one_row_of_words;
 use std::alloc::{AllocError, Allocator};
 use std::sync::Wait;
 use std::sync::atomic::{AtomicU64, Ordering};
 use std::thread::{Threads, join, yield_now};
-use stock_workers::{Gate, Summary, summarize_parts};
+use stock_workers::{Gate, RunFault, run};
 use top_cell::{Board, Reading, Screen, TopWriter};
 
 // How often a glance tries to read a cell before other threads get their turn.
@@ -117,67 +117,63 @@ fn to_the_end<A: Allocator>(
     Ok(readings)
 }
 
-// What a screen sees while workers replay the day, and what they make of it. The screen has a thread of its own; where
+// Replays the day, and gives back the writers.
+fn replay<R: Threads + Wait + Sync, A: Allocator + Copy + Send + Sync, G: Gate>(
+    rt: &R,
+    alloc: A,
+    day: &Day<A>,
+    board: &Board<A>,
+    writers: Vec<TopWriter, A>,
+    workers: WorkerCount,
+    gate: &G,
+) -> Result<Vec<TopWriter, A>, AllocError>
+    requires { AreNew day.now.payloads (locates_of_day day.now.payloads) board.now writers.items }
+    ensures { IfOk result (λ last. last.items ≡ map (at_last day.now.payloads) writers.items) }
+{
+    match run(rt, alloc, day, board, writers, workers.get(), gate) {
+        Ok(replayed) => Ok(replayed.writers),
+        Err(RunFault::Memory) => Err(AllocError),
+        Err(RunFault::Workers) => unreachable!(),
+    }
+}
+
+// What a screen sees while workers replay the day, and the writers after it. The screen has a thread of its own; where
 // none can be made, it sees nothing.
 fn look_and_replay<R: Threads + Wait + Sync, A: Allocator + Copy + Send + Sync, G: Gate>(
     rt: &R,
     alloc: A,
-    parts: &Parts<'_, A>,
+    day: &Day<A>,
     board: &Board<A>,
     screen: Screen,
     writers: Vec<TopWriter, A>,
+    workers: WorkerCount,
     gate: &G,
     seen: &AtomicU64,
     ended: &AtomicU64,
 ) -> (
     Result<Vec<Reading, A>, AllocError>,
-    Result<Summary<A>, AllocError>,
+    Result<Vec<TopWriter, A>, AllocError>,
 )
     requires screen { IsOn board.now screen.place }
-    requires new { AreNew parts.now.day (locates_of_day parts.now.day) board.now writers.items }
+    requires new { AreNew day.now.payloads (locates_of_day day.now.payloads) board.now writers.items }
     ensures seen { IfOk result.0 (λ readings.
         AreSeen screen.place.day screen.place.locate readings.items) }
-    ensures ends { IfOk result.1 (λ made. made.writers.items ≡ map (at_last parts.now.day) writers.items) }
+    ensures ends { IfOk result.1 (λ last. last.items ≡ map (at_last day.now.payloads) writers.items) }
 {
     let look = move || -> Result<Vec<Reading, A>, AllocError>
         requires { IsOn board.now screen.place }
         ensures { IfOk result (λ readings.
             AreSeen screen.place.day screen.place.locate readings.items) }
     { watch(rt, alloc, board, screen, seen, ended) };
-    let replay = || -> Result<Summary<A>, AllocError>
-        requires { AreNew parts.now.day (locates_of_day parts.now.day) board.now writers.items }
-        ensures { IfOk result (λ made.
-            made.writers.items ≡ map (at_last parts.entry.now.day) writers.items) }
+    let work = || -> Result<Vec<TopWriter, A>, AllocError>
+        requires { AreNew day.now.payloads (locates_of_day day.now.payloads) board.now writers.items }
+        ensures { IfOk result (λ last. last.items ≡ map (at_last day.entry.now.payloads) writers.items) }
     {
-        let replayed = summarize_parts(rt, alloc, parts, board, writers, gate);
+        let replayed = replay(rt, alloc, day, board, writers, workers, gate);
         ended.store(1, Ordering::SeqCst);
         replayed
     };
-    join(rt, look, replay)
-}
-
-// Replays a day that is split, while a screen looks at one of its stocks, as `watch_stock` does.
-fn watch_parts<R: Threads + Wait + Sync, A: Allocator + Copy + Send + Sync, G: Gate>(
-    rt: &R,
-    alloc: A,
-    parts: &Parts<'_, A>,
-    locate: u16,
-    gate: &G,
-    seen: &AtomicU64,
-) -> Result<Vec<Reading, A>, AllocError>
-    requires bytes { All AreBytes parts.now.day }
-    requires stock { HasMessage parts.now.day locate }
-    ensures { IfOk result (λ readings. AreSeenToTheEnd parts.now.day locate readings.items) }
-{
-    let (board, mut writers) = Board::of_stocks(alloc, parts.day(), parts.locates())?;
-    let (index, screen) = screen_of(&board, &mut writers, locate);
-    let ended = AtomicU64::new(0);
-    let (readings, replayed) = look_and_replay(
-        rt, alloc, parts, &board, screen, writers, gate, seen, &ended,
-    );
-    let mut replayed = replayed?;
-    let last = last_reading(rt, &board, &mut replayed.writers[index]);
-    to_the_end(readings?, last)
+    join(rt, look, work)
 }
 
 /// Replays a day by 1 to 64 workers, while a screen looks at one of its stocks in a thread of its own, and gives what
@@ -203,6 +199,13 @@ pub fn watch_stock<R: Threads + Wait + Sync, A: Allocator + Copy + Send + Sync, 
     requires stock { HasMessage day.now.payloads locate }
     ensures { IfOk result (λ readings. AreSeenToTheEnd day.now.payloads locate readings.items) }
 {
-    let parts = parts_of(rt, alloc, day, workers)?;
-    watch_parts(rt, alloc, &parts, locate, gate, seen)
+    let (board, mut writers) = Board::new(alloc, day)?;
+    let (index, screen) = screen_of(&board, &mut writers, locate);
+    let ended = AtomicU64::new(0);
+    let (readings, writers) = look_and_replay(
+        rt, alloc, day, &board, screen, writers, workers, gate, seen, &ended,
+    );
+    let mut writers = writers?;
+    let last = last_reading(rt, &board, &mut writers[index]);
+    to_the_end(readings?, last)
 }

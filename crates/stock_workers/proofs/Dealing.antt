@@ -83,12 +83,11 @@ module _ (day : List (List ℕ)) (board : List CellId) (ws : List WriterAt) (new
       subst (λ (v : WriterAt). IsOn board v.place) is (new.each k (get_or ws k w) (slice_get-get_or ws k w (omega (arith, lt, long)))).1
 
   -- so are each worker's
-  pub waits : (workers k : ℕ) → k < workers → IsWaiting (record { day = day; workers = workers }) board k (map (find ws) (own_locates workers k day))
+  pub waits : (workers k : ℕ) → IsWaiting day workers board k (map (find ws) (own_locates workers k day))
   unfolding own_locates
-  waits workers k lt =
+  waits workers k =
       let p = λ (l : ℕ). eqb (l % workers) k in
       record {
-        one = lt;
         none_done = map_twice writer_state (find ws) (filter p (locates_of_day day)) ∙ kept_same (λ l. writer_state (find ws l)) fresh p (locates_of_day day) all_fresh;
         on_board = All-map (λ w. IsOn board w.place) (find ws) (filter p (locates_of_day day)) (All-filter p (λ l. IsOn board (find ws l).place) (locates_of_day day) on_there);
       }

@@ -1,32 +1,15 @@
 -- A worker's whole run.
-use Rattle.std.proofs.Common.{◌≡◌, ℕ, List, [], ◌∷◌, ◌++◌, cond, All, Some, None, length, map, refl, sym, ap, ap₂, subst, ◌∙◌, arith}
+use Rattle.std.proofs.Common.{◌≡◌, ℕ, ◌+◌, ◌≤◌, List, [], ◌∷◌, ◌++◌, All, Some, None, length, get_or, map, take, refl, sym, ap, ap₂, subst, ◌∙◌, arith}
+use Rattle.std.proofs.lemmas.List.{map-append, take_all, take_more}
 use Rattle.std.proofs.lemmas.List.Elements.{All-map}
-use Rattle.stock_machine.specs.StockRows.{StockMachine}
 use Rattle.day_core.specs.declared.merging.Piece.{Piece}
-use Rattle.day_core.specs.Owners.{last_message}
-use Rattle.day_core.specs.Replaying.{is_refused}
-use Rattle.day_core.specs.Splitting.{Split}
-use Rattle.day_core.specs.Workers.{WorkerState, first_state, machine_at, worker_locates}
-use Rattle.day_core.proofs.StocksByWorker.{HasDone, does_more, refused_through, stocks_through}
+use Rattle.day_core.specs.Owners.{last_message, own_of, piece_of}
+use Rattle.day_core.specs.Replaying.{last_machine}
+use Rattle.day_core.specs.Splitting.{DayParts}
 use Rattle.top_cell.specs.Boards.{CellId, IsOn, Place, WriterAt}
 use Rattle.stock_workers.specs.Running.{IsFinished, at_last}
-use Rattle.stock_workers.specs.Working.{PublishesTurn, Working, WriterState, WritersAt, WritersStand, writer_state}
-use Rattle.stock_workers.proofs.Writing.{stand_last}
-
--- a worker and its writers before its first message
-abbrev pub waiting : Split → ℕ → List WriterAt → Working
-waiting split worker writers = record { state = first_state split worker; places = map (λ w. w.place) writers }
-
--- a worker has come from where it waited to where it is now, and those of its messages that were refused were noted
-pub record IsUnderWay (first now : Working) (refused : List Piece) : Type 0 where
-  pub way : HasDone first.state now.state refused
-  pub same_places : now.places ≡ first.places
-
-pub under_way_more : (first now after : Working) (piece : Piece) (refused more : List Piece) → IsUnderWay first now refused → PublishesTurn now after (Some piece) → more ≡ refused ++ cond (is_refused piece.outcome) (piece ∷ []) [] → IsUnderWay first after more
-under_way_more first now after piece refused more under turn pushed = record {
-  way = does_more first.state now.state after.state (record { piece = piece; index = turn.0 }) refused more under.way turn.1 pushed;
-  same_places = turn.2 ∙ under.same_places;
-}
+use Rattle.stock_workers.specs.Working.{IsWorkerOf, TakesTurn, Working, WriterState, WritersAt, codes_of, first_working, locates_in, messages_of, places_of, writer_state}
+use Rattle.stock_workers.proofs.Standing.{codes_are, last_stocks, last_writers}
 
 -- a writer at its stock's last message
 last_each : (day : List (List ℕ)) (ls : List ℕ) (ws : List WriterAt) → WritersAt day (last_message day) ls ws → ws ≡ map (at_last day) ws
@@ -51,28 +34,48 @@ same_last day (x ∷ xs) (y ∷ ys) same =
     let rest : map (λ w. w.place) xs ≡ map (λ w. w.place) ys = cc in
     ap₂ ◌∷◌ (ap (λ (p : Place). let z : WriterAt = record { place = p; message = last_message day p.locate } in z) head) (same_last day xs ys rest)
 
--- a worker that is through
-pub finished : (split : Split) (worker : ℕ) (writers : List WriterAt) (now after : Working) (refused : List Piece) (stocks : List StockMachine) (ends : List WriterAt)
-    → IsUnderWay (waiting split worker writers) now refused → PublishesTurn now after None
-    → stocks ≡ map (machine_at after.state) (worker_locates after.state) → WritersStand after.state ends → map (λ w. w.place) ends ≡ after.places
-    → IsFinished split worker writers refused stocks ends
-finished split worker writers now after refused stocks ends under none left stand places =
-    let first = first_state split worker in
-    let all = none.0.0 in
-    let rested : after.state ≡ now.state = none.0.1 in
-    let same_day : now.state.day ≡ split.day = ap (λ (z : WorkerState). z.day) under.way.same in
-    let last = stand_last now.state ends all (subst (λ (z : WorkerState). WritersStand z ends) rested stand) in
-    record {
-      refused_are = refused_through first now.state refused under.way all;
-      stocks_are =
-          left ∙ ap (λ (z : WorkerState). map (machine_at z) (worker_locates z)) rested
-          ∙ stocks_through first now.state refused under.way all;
-      writers_are =
-          last_each now.state.day (worker_locates now.state) ends last
-          ∙ ap (λ (d : List (List ℕ)). map (at_last d) ends) same_day
-          ∙ same_last split.day ends writers (places ∙ none.1 ∙ under.same_places);
-    }
+-- a worker of a day has come from its first message to where it is now, and what became of each was noted
+pub record IsUnderWay (day : List (List ℕ)) (parts : DayParts) (worker : ℕ) (writers : List WriterAt) (now : Working) (pieces : List Piece) : Type 0 where
+  pub stands : IsWorkerOf day now
+  pub same_parts : now.parts ≡ parts
+  pub same_worker : now.worker ≡ worker
+  pub same_places : places_of now ≡ map (λ w. w.place) writers
+  pub noted : pieces ≡ map (piece_of day) (take now.done (own_of parts.workers worker day))
+
+module _ (day : List (List ℕ)) (parts : DayParts) (worker : ℕ) (writers : List WriterAt) (now after : Working) (pieces : List Piece) (under : IsUnderWay day parts worker writers now pieces) where
+  own : messages_of day now ≡ own_of parts.workers worker day
+  own = ap₂ (λ (p : DayParts) (k : ℕ). own_of p.workers k day) under.same_parts under.same_worker
+
+  pub under_way_more : (piece : Piece) (more : List Piece) → TakesTurn day now after (Some piece) → more ≡ pieces ++ piece ∷ [] → IsUnderWay day parts worker writers after more
+  under_way_more piece more turn pushed =
+      let one : piece ≡ piece_of day (get_or (own_of parts.workers worker day) now.done 0) = turn.piece_is ∙ ap (λ (ns : List ℕ). piece_of day (get_or ns now.done 0)) own in
+      record {
+        stands = turn.stands;
+        same_parts = turn.same_parts ∙ under.same_parts;
+        same_worker = turn.same_worker ∙ under.same_worker;
+        same_places = turn.same_places ∙ under.same_places;
+        noted =
+            pushed ∙ ap₂ (λ (ps : List Piece) (p : Piece). ps ++ p ∷ []) under.noted one
+            ∙ sym (map-append (piece_of day) (take now.done (own_of parts.workers worker day)) _)
+            ∙ ap (map (piece_of day)) (sym (take_more (own_of parts.workers worker day) now.done 0 (omega (arith, turn.more, ap length own))))
+            ∙ ap (λ (d : ℕ). map (piece_of day) (take d (own_of parts.workers worker day))) (sym turn.moved);
+      }
+
+  -- a worker that is through
+  pub finished : TakesTurn day now after None → IsFinished day parts worker writers pieces after.stocks after.writers
+  finished none =
+      let all = none.0 in
+      let codes : locates_in day now ≡ codes_of (first_working parts worker writers) =
+      sym (codes_are day now under.stands.parts_are) ∙ ap₂ (λ (p : DayParts) (k : ℕ). codes_of (first_working p k writers)) under.same_parts under.same_worker
+      in
+      record {
+        pieces_are = under.noted ∙ ap (map (piece_of day)) (take_all now.done (own_of parts.workers worker day) (omega (arith, all, ap length own)));
+        stocks_are = ap (λ (w : Working). w.stocks) none.1 ∙ last_stocks day now under.stands all ∙ ap (map (last_machine day)) codes;
+        writers_are =
+            ap (λ (w : Working). w.writers) none.1 ∙ last_each day (locates_in day now) now.writers (last_writers day now under.stands all)
+            ∙ same_last day now.writers writers under.same_places;
+      }
 
 -- the cells are the board's
-pub on_board : (board : List CellId) (writers : List WriterAt) (now : Working) → All (λ w. IsOn board w.place) writers → now.places ≡ map (λ w. w.place) writers → All (IsOn board) now.places
+pub on_board : (board : List CellId) (writers : List WriterAt) (now : Working) → All (λ w. IsOn board w.place) writers → places_of now ≡ map (λ w. w.place) writers → All (IsOn board) (places_of now)
 on_board board writers now on same = subst (All (IsOn board)) (sym same) (All-map (IsOn board) (λ w. w.place) writers on)

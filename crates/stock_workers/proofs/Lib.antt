@@ -1,4 +1,4 @@
 mod Dealing
 mod Finishing
 mod Joined
-mod Writing
+pub mod Standing

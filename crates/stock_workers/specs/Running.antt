@@ -4,46 +4,50 @@ use Rattle.std.specs.declared.alloc.AllocError.{AllocError}
 use Rattle.stock_machine.specs.StockRows.{StockMachine}
 use Rattle.day_core.specs.declared.merging.Piece.{Piece}
 use Rattle.day_core.specs.Owners.{last_message, own_locates}
-use Rattle.day_core.specs.Replaying.{each_worker, for_own_stocks, last_machine, refused_by}
-use Rattle.day_core.specs.Splitting.{Split}
+use Rattle.day_core.specs.Replaying.{each_worker, for_own_stocks, last_machine, pieces_by}
+use Rattle.day_core.specs.Splitting.{DayParts}
 use Rattle.top_cell.specs.Boards.{CellId, IsOn, WriterAt}
 use Rattle.stock_workers.specs.Working.{WritersAt}
 use Rattle.stock_workers.specs.declared.forking.Finished.{Finished}
 use Rattle.stock_workers.specs.declared.forking.Waiting.{Waiting}
 
--- a worker of the day that hasn't started: the writers of its stocks have published nothing, and are of the
--- board
-pub record IsWaiting (split : Split) (board : List CellId) (worker : ℕ) (writers : List WriterAt)
-    : Type 0 where
-  pub one : worker < split.workers
-  pub none_done : WritersAt split.day (λ _. 0) (own_locates split.workers worker split.day) writers
+-- a worker of the day that hasn't started: the writers of its stocks have published nothing, and are of the board
+pub record IsWaiting (day : List (List ℕ)) (workers : ℕ) (board : List CellId) (worker : ℕ)
+    (writers : List WriterAt) : Type 0 where
+  pub none_done : WritersAt day (λ _. 0) (own_locates workers worker day) writers
   pub on_board : All (λ w. IsOn board w.place) writers
 
--- all workers of a split day before they start, in the order of their numbers, each with the writers of its
--- stocks
-pub record AreWaiting {A : Type 0} (split : Split) (writer : ℕ → WriterAt) (all : List (Waiting A))
+-- all workers of a day before they start, in the order of their numbers, each with the writers of its stocks
+pub record AreWaiting {A : Type 0} (parts : DayParts) (writer : ℕ → WriterAt) (all : List (Waiting A))
     : Type 0 where
-  pub numbers_are : map (λ w. w.worker) all ≡ each_worker (λ worker. worker) split
-  pub writers_are : map (λ w. w.writers.items) all ≡ each_worker (for_own_stocks writer split) split
+  pub numbers_are : map (λ w. w.worker) all ≡ each_worker (λ worker. worker) parts.workers
+  pub writers_are : map (λ w. w.writers.items) all ≡ each_worker (for_own_stocks writer parts) parts.workers
 
 -- a writer at the last message of its stock
 abbrev pub at_last : List (List ℕ) → WriterAt → WriterAt
 at_last day w = record w { message = last_message day w.place.locate }
 
--- what a worker makes of all its messages: those that are refused, and the machines and the writers of its
--- stocks after all of them
-pub record IsFinished (split : Split) (worker : ℕ) (writers : List WriterAt) (refused : List Piece)
-    (stocks : List StockMachine) (after : List WriterAt) : Type 0 where
-  pub refused_are : refused ≡ refused_by split worker
-  pub stocks_are : stocks ≡ for_own_stocks (last_machine split.day) split worker
-  pub writers_are : after ≡ map (at_last split.day) writers
+-- what a worker makes of all its messages: what became of each, and the machines and the writers of its stocks after all
+-- of them
+pub record IsFinished (day : List (List ℕ)) (parts : DayParts) (worker : ℕ) (writers : List WriterAt)
+    (pieces : List Piece) (stocks : List StockMachine) (after : List WriterAt) : Type 0 where
+  pub pieces_are : pieces ≡ pieces_by day parts.workers worker
+  pub stocks_are : stocks ≡ for_own_stocks (last_machine day) parts worker
+  pub writers_are : after ≡ map (at_last day) writers
 
--- what all workers make, in the order of their numbers, where none was refused memory: the writers of their
--- stocks were these, by locate code
-pub record AreFinished {A : Type 0} (split : Split) (writer : ℕ → WriterAt)
+-- what all workers make, in the order of their numbers, where none was refused memory: the writers of their stocks were
+-- these, by locate code
+pub record AreFinished {A : Type 0} (day : List (List ℕ)) (parts : DayParts) (writer : ℕ → WriterAt)
     (made : List (Result (Finished A) AllocError)) : Type 0 where
-  pub long : length made ≡ split.workers
-  pub each : (worker : ℕ) (d : Result (Finished A) AllocError) → worker < split.workers
+  pub long : length made ≡ parts.workers
+  pub each : (worker : ℕ) (d : Result (Finished A) AllocError) → worker < parts.workers
       → IfOk (slice_index_or made worker d)
-      (λ m. IsFinished split worker (for_own_stocks writer split worker) m.refused.items m.stocks.items
+      (λ m. IsFinished day parts worker (for_own_stocks writer parts worker) m.pieces.items m.stocks.items
       m.writers.items)
+
+-- what all workers made, put together by worker
+pub record AreGathered (day : List (List ℕ)) (parts : DayParts) (writer : ℕ → WriterAt) (pieces : List (List Piece))
+    (stocks : List (List StockMachine)) (writers : List (List WriterAt)) : Type 0 where
+  pub pieces_are : pieces ≡ each_worker (pieces_by day parts.workers) parts.workers
+  pub stocks_are : stocks ≡ each_worker (for_own_stocks (last_machine day) parts) parts.workers
+  pub writers_are : writers ≡ each_worker (for_own_stocks (λ locate. at_last day (writer locate)) parts) parts.workers

@@ -1,16 +1,38 @@
 -- A worker with the writers of its stocks' cells. All is of this project.
-use Rattle.std.specs.Prelude.{◌≡◌, ℕ, List, Option, Some, None, map}
-use Rattle.std.specs.List.{Contains}
-use Rattle.itch_table.specs.declared.outcome.Part.TheVariants.{Locate}
+use Rattle.std.specs.Prelude.{◌≡◌, ◌+◌, ◌<◌, ◌≤◌, ℕ, List, Option, Some, None, length, map, slice_index}
+use Rattle.stock_machine.specs.StockRows.{StockMachine}
 use Rattle.day_core.specs.declared.merging.Piece.{Piece}
-use Rattle.day_core.specs.Owners.{machine_of, part_at, piece_of, progress}
-use Rattle.day_core.specs.Workers.{TakesTurn, WorkerState, machine_at, next_message, worker_locates}
+use Rattle.day_core.specs.Owners.{locates_by, machine_of, new_machine, own_locates, own_of, piece_of, progress}
+use Rattle.day_core.specs.Splitting.{ArePartsOf, DayParts}
+use Rattle.day_core.specs.Turns.{MayAddRow}
 use Rattle.top_cell.specs.Boards.{Place, WriterAt}
 
--- where a worker stands, and the cells of its stocks by rising locate code
+-- a worker: the parts of the day that it shares, its number, how many of its own messages it has done, and the machines
+-- and the writers of its stocks, by rising locate code
 pub record Working : Type 0 where
-  pub state : WorkerState
-  pub places : List Place
+  pub parts : DayParts
+  pub worker : ℕ
+  pub done : ℕ
+  pub stocks : List StockMachine
+  pub writers : List WriterAt
+
+-- the locate codes of its stocks, rising
+abbrev pub codes_of : Working → List ℕ
+codes_of w = locates_by w.parts.workers w.worker w.parts.locates
+
+-- the cells of its stocks
+abbrev pub places_of : Working → List Place
+places_of w = map (λ writer. writer.place) w.writers
+
+-- a worker that has done nothing yet, with these writers
+abbrev pub first_working : DayParts → ℕ → List WriterAt → Working
+first_working parts worker writers = record {
+  parts = parts;
+  worker = worker;
+  done = 0;
+  stocks = map new_machine (locates_by parts.workers worker parts.locates);
+  writers = writers;
+}
 
 -- what a writer shows: a stock of a day, and the message at which the writer stands
 pub record WriterState : Type 0 where
@@ -27,33 +49,50 @@ WritersAt day message locates writers =
     map writer_state writers
     ≡ map (λ locate. record { day = day; locate = locate; message = message locate }) locates
 
--- the writer of a worker's stock, at the last of the stock's messages that the worker has done
-abbrev pub stands : WorkerState → ℕ → WriterState
-stands s locate = record { day = s.day; locate = locate; message = progress s.day s.workers locate s.done }
+-- a worker's messages in a day, by their numbers, rising
+abbrev pub messages_of : List (List ℕ) → Working → List ℕ
+messages_of day w = own_of w.parts.workers w.worker day
 
--- and so for each of its stocks
-abbrev pub WritersStand : WorkerState → List WriterAt → Type 0
-WritersStand s writers = map writer_state writers ≡ map (stands s) (worker_locates s)
+-- the locate codes of its stocks in a day, rising
+abbrev pub locates_in : List (List ℕ) → Working → List ℕ
+locates_in day w = own_locates w.parts.workers w.worker day
 
--- a writer at a message of a stock
-abbrev pub at_message : WorkerState → ℕ → ℕ → WriterState
-at_message s locate message = record { day = s.day; locate = locate; message = message }
+-- its next message, where it has one left
+abbrev pub next_of : List (List ℕ) → Working → ℕ
+next_of day w = slice_index (messages_of day w) w.done
 
--- what a turn has done of a message: it was the worker's next one, its stock is as the day has it after the message
--- and its writer stands there, and each other stock of the worker and its writer are as before
-pub record ShowsTurn (old new : WorkerState) (piece : Piece) : Type 0 where
-  pub piece_is : piece ≡ piece_of old.day (next_message old)
-  pub own : (locate : ℕ) → part_at old.day piece.message ≡ Locate locate
-      → (machine_at new locate ≡ machine_of old.day locate piece.message)
-      × (stands new locate ≡ at_message old locate piece.message)
-  pub others : (locate : ℕ) → Contains (worker_locates old) locate
-      → ¬ (part_at old.day piece.message ≡ Locate locate)
-      → (machine_at new locate ≡ machine_at old locate) × (stands new locate ≡ stands old locate)
+-- the last message of a stock among those that it has done, or 0
+abbrev pub progress_in : List (List ℕ) → Working → ℕ → ℕ
+progress_in day w locate = progress day w.parts.workers locate w.done
 
--- a turn does the worker's next message, or nothing exactly where the worker has done all of them; the cells
--- are the same ones
-abbrev pub PublishesTurn : Working → Working → Option Piece → Type 0
-PublishesTurn old new None = TakesTurn old.state new.state None × (new.places ≡ old.places)
-PublishesTurn old new (Some piece) =
-    (index : ℕ) × TakesTurn old.state new.state (Some (record { piece = piece; index = index }))
-    × (new.places ≡ old.places)
+-- the writer of one of its stocks stands there
+abbrev pub stands : List (List ℕ) → Working → ℕ → WriterState
+stands day w locate = record { day = day; locate = locate; message = progress_in day w locate }
+
+-- the worker is one of this day: each of its stocks and their writers stand at the last message of the stock that it has
+-- done
+pub record IsWorkerOf (day : List (List ℕ)) (w : Working) : Type 0 where
+  pub parts_are : ArePartsOf day w.parts
+  pub within : w.done ≤ length (messages_of day w)
+  pub stocks_are : w.stocks ≡ map (λ locate. machine_of day locate (progress_in day w locate)) (locates_in day w)
+  pub writers_are : WritersAt day (progress_in day w) (locates_in day w) w.writers
+
+-- a turn may need memory: a message is left that may
+pub record MayGrowNext (day : List (List ℕ)) (w : Working) : Type 0 where
+  pub more : w.done < length (messages_of day w)
+  pub adds : MayAddRow day (next_of day w)
+
+-- the worker has done its next message, on the same cells
+pub record HasTurned (day : List (List ℕ)) (old new : Working) (piece : Piece) : Type 0 where
+  pub more : old.done < length (messages_of day old)
+  pub piece_is : piece ≡ piece_of day (next_of day old)
+  pub same_parts : new.parts ≡ old.parts
+  pub same_worker : new.worker ≡ old.worker
+  pub moved : new.done ≡ old.done + 1
+  pub same_places : places_of new ≡ places_of old
+  pub stands : IsWorkerOf day new
+
+-- a turn does the worker's next message, or nothing exactly where the worker has done all of them
+abbrev pub TakesTurn : List (List ℕ) → Working → Working → Option Piece → Type 0
+TakesTurn day old new None = (old.done ≡ length (messages_of day old)) × (new ≡ old)
+TakesTurn day old new (Some piece) = HasTurned day old new piece

@@ -2,12 +2,14 @@
 ghost use Rattle.std.specs.Prelude.{ℕ, All, IfOk};
 ghost use Rattle.std.specs.Thread.{IsSend, IsSync};
 ghost use denote.Param.Send.{Frees};
+ghost use Rattle.day_core.specs.Splitting.{ArePartsOf};
 ghost use Rattle.top_cell.specs.Boards.{WriterAt};
 ghost use Rattle.stock_workers.specs.Running.{AreFinished, AreWaiting, IsFinished, IsWaiting};
 
 use crate::gate::Gate;
 use crate::worker::Worker;
-use day_core::{Parts, Piece, note_refused};
+use binaryfile::Day;
+use day_core::{Parts, Piece};
 use std::alloc::{AllocError, Allocator};
 use std::sync::Wait;
 use std::thread::{Threads, map_vec};
@@ -21,11 +23,11 @@ pub(crate) struct Waiting<A: Allocator> {
     pub writers: Vec<TopWriter, A>,
 }
 
-/// What one worker made of its messages: those that were refused, and the machines and the writers of its stocks after
-/// all of them.
+/// What one worker made of its messages: what became of each, and the machines and the writers of its stocks after all of
+/// them.
 #[derive(Drop)]
 pub(crate) struct Finished<A: Allocator> {
-    pub refused: Vec<Piece, A>,
+    pub pieces: Vec<Piece, A>,
     pub stocks: Vec<Stock<A>, A>,
     pub writers: Vec<TopWriter, A>,
 }
@@ -34,23 +36,25 @@ pub(crate) struct Finished<A: Allocator> {
 fn finish<R: Threads + Wait + Sync, A: Allocator + Copy, G: Gate>(
     rt: &R,
     alloc: A,
-    parts: &Parts<'_, A>,
+    day: &Day<A>,
     board: &Board<A>,
-    gate: &G,
+    parts: &Parts<A>,
     waiting: Waiting<A>,
+    gate: &G,
 ) -> Result<Finished<A>, AllocError>
-    requires { IsWaiting parts.now board.now waiting.worker waiting.writers.items }
-    ensures { IfOk result (λ made. IsFinished parts.now waiting.worker waiting.writers.items
-        made.refused.items made.stocks.items made.writers.items) }
+    requires parts { ArePartsOf day.now.payloads parts.now }
+    requires waits { IsWaiting day.now.payloads parts.now.workers board.now waiting.worker waiting.writers.items }
+    ensures { IfOk result (λ made. IsFinished day.now.payloads parts.now waiting.worker waiting.writers.items
+        made.pieces.items made.stocks.items made.writers.items) }
 {
-    let mut refused = Vec::new(alloc);
+    let mut pieces = Vec::new(alloc);
     let mut worker = Worker::new(alloc, parts, waiting.worker, waiting.writers)?;
-    while let Some(piece) = worker.turn(rt, board, gate)? {
-        note_refused(&mut refused, piece)?;
+    while let Some(piece) = worker.turn(rt, day, board, gate)? {
+        pieces.push(piece)?;
     }
     let (stocks, writers) = worker.into_stocks();
     Ok(Finished {
-        refused,
+        pieces,
         stocks,
         writers,
     })
@@ -61,24 +65,28 @@ fn finish<R: Threads + Wait + Sync, A: Allocator + Copy, G: Gate>(
 pub(crate) fn finish_all<R: Threads + Wait + Sync, A: Allocator + Copy + Send + Sync, G: Gate>(
     rt: &R,
     alloc: A,
-    parts: &Parts<'_, A>,
+    day: &Day<A>,
     board: &Board<A>,
+    parts: &Parts<A>,
     all: Vec<Waiting<A>, A>,
     gate: &G,
 ) -> Result<Vec<Result<Finished<A>, AllocError>, A>, AllocError>
-    requires wait { All (λ w. IsWaiting parts.now board.now w.worker w.writers.items) all.items }
+    requires parts { ArePartsOf day.now.payloads parts.now }
+    requires wait { All (λ w. IsWaiting day.now.payloads parts.now.workers board.now w.worker w.writers.items)
+        all.items }
     ensures { IfOk result (λ made. (writer : ℕ → WriterAt)
-        → AreWaiting parts.now writer all.items → AreFinished parts.now writer made.items) }
+        → AreWaiting parts.now writer all.items
+        → AreFinished day.now.payloads parts.now writer made.items) }
 {
     map_vec(
         rt,
         all,
         &|waiting: Waiting<A>| -> Result<Finished<A>, AllocError>
             requires { IsSync R.row × IsSync G.row × IsSend A.row × IsSync A.row
-                × Frees A.Allocator A.dealloc_token
-                × IsWaiting parts.now board.now waiting.worker waiting.writers.items }
-            ensures { IfOk result (λ made. IsFinished parts.entry.now waiting.worker waiting.writers.items
-                made.refused.items made.stocks.items made.writers.items) }
-        { finish(rt, alloc, parts, board, gate, waiting) },
+                × Frees A.Allocator A.dealloc_token × ArePartsOf day.now.payloads parts.now
+                × IsWaiting day.now.payloads parts.now.workers board.now waiting.worker waiting.writers.items }
+            ensures { IfOk result (λ made. IsFinished day.entry.now.payloads parts.entry.now waiting.worker
+                waiting.writers.items made.pieces.items made.stocks.items made.writers.items) }
+        { finish(rt, alloc, day, board, parts, waiting, gate) },
     )
 }

@@ -8,10 +8,9 @@
 //! let replayed = run(rt, alloc, &day, &board, writers, workers, &FreeGate)?;
 //! ```
 //!
-//! [`run_parts`] does so with the parts of a day that is split already, and [`summarize_parts`] returns only the
-//! refused messages of all; `watch_stock` of `itch_watch` is a caller of it, whose screen reads meanwhile. Each worker
-//! calls a [`Gate`] before each of its messages: with one of its own a program can hold a worker there, and
-//! [`FreeGate`] lets all pass. [`Worker`] is one worker, whose turns the caller makes.
+//! Each worker calls a [`Gate`] before each of its messages: with one of its own a program can hold a worker there, and
+//! [`FreeGate`] lets all pass. [`Worker`] is one worker, whose turns the caller makes. `watch_stock` of `itch_watch` is a
+//! caller of [`run`], whose screen reads meanwhile.
 //!
 //! The effects of messages are those of Nasdaq TotalView-ITCH 5.0; the rest is of this project. An `AllocError`
 //! says that memory was refused.
@@ -23,5 +22,5 @@ mod running;
 mod worker;
 
 pub use gate::{FreeGate, Gate};
-pub use running::{Replayed, RunFault, Summary, run, run_parts, summarize_parts};
+pub use running::{Replayed, RunFault, run};
 pub use worker::Worker;

@@ -1,16 +1,18 @@
 //! A day, replayed by all of its workers beside each other.
-ghost use Rattle.std.specs.Prelude.{◌≡◌, ◌<◌, ◌⊎◌, ◌↔◌, ℕ, IfOk, IsErrOf, length, map};
+ghost use Rattle.std.specs.Prelude.{◌≡◌, ◌<◌, ◌⊎◌, ◌↔◌, ℕ, IfOk, IsErrOf, List, length, map};
+ghost use Rattle.itch_table.specs.After.{outcomes};
 ghost use Rattle.itch_table.specs.Shows.{locates_of_day};
-ghost use Rattle.day_core.specs.Replaying.{IsReplayed, IsSummary, each_worker, for_own_stocks, last_machine, refused_by};
+ghost use Rattle.day_core.specs.Replaying.{IsReplayed, each_worker, pieces_by};
+ghost use Rattle.day_core.specs.Splitting.{ArePartsOf, DayParts};
 ghost use Rattle.top_cell.specs.Boards.{AreNew, WriterAt};
-ghost use Rattle.stock_workers.specs.FaultNumbers.{number_of};
-ghost use Rattle.stock_workers.specs.Running.{AreFinished, AreWaiting, at_last};
+ghost use Rattle.stock_workers.specs.FaultNumbers.{number_of, of_split};
+ghost use Rattle.stock_workers.specs.Running.{AreFinished, AreGathered, AreWaiting, at_last};
 ghost use Rattle.stock_workers.specs.declared.running.RunFault.TheVariants.{Memory};
 
 use crate::forking::{Finished, Waiting, finish_all};
 use crate::gate::Gate;
 use binaryfile::Day;
-use day_core::{Parts, Piece, SplitFault, all_refused, by_worker, in_order, outcomes_with, split};
+use day_core::{MergeFault, Parts, Piece, SplitFault, by_worker, in_order, merge, split};
 use itch_table::Outcome;
 use std::alloc::{AllocError, Allocator};
 use std::sync::Wait;
@@ -23,20 +25,6 @@ use top_cell::{Board, TopWriter};
 pub struct Replayed<A: Allocator> {
     /// What became of each message, in order.
     pub outcomes: Vec<Outcome, A>,
-    /// The machines of the stocks that have messages in the day, by rising locate code.
-    pub stocks: Vec<Stock<A>, A>,
-    /// The event code of the day's last system event message, where it has one.
-    pub event: Option<u8>,
-    /// The writers of these stocks, in the same order.
-    pub writers: Vec<TopWriter, A>,
-}
-
-/// What a whole day makes, in short, and the writers that have shown it: of its messages only the refused ones, so that
-/// no memory is taken for each message.
-#[derive(Drop)]
-pub struct Summary<A: Allocator> {
-    /// The refused messages with their outcomes, by rising number.
-    pub refused: Vec<Piece, A>,
     /// The machines of the stocks that have messages in the day, by rising locate code.
     pub stocks: Vec<Stock<A>, A>,
     /// The event code of the day's last system event message, where it has one.
@@ -74,10 +62,21 @@ impl From<AllocError> for RunFault {
     }
 }
 
+impl From<SplitFault> for RunFault {
+    ghost from_gives = { λ cause fault. fault ≡ of_split cause };
+
+    fn from(cause: SplitFault) -> RunFault {
+        match cause {
+            SplitFault::Memory => RunFault::Memory,
+            SplitFault::Workers => RunFault::Workers,
+        }
+    }
+}
+
 // What all workers made, by worker.
 #[derive(Drop)]
 struct Gathered<A: Allocator> {
-    refused: Vec<Vec<Piece, A>, A>,
+    pieces: Vec<Vec<Piece, A>, A>,
     stocks: Vec<Vec<Stock<A>, A>, A>,
     writers: Vec<Vec<TopWriter, A>, A>,
 }
@@ -85,12 +84,11 @@ struct Gathered<A: Allocator> {
 // The workers of a day before they start, in the order of their numbers.
 fn waiting_workers<A: Allocator + Copy>(
     alloc: A,
-    parts: &Parts<'_, A>,
+    parts: &Parts<A>,
     writers: Vec<TopWriter, A>,
 ) -> Result<Vec<Waiting<A>, A>, AllocError>
-    requires { length writers.items ≡ length (locates_of_day parts.now.day) }
-    ensures { IfOk result (λ all. (writer : ℕ → WriterAt)
-        → writers.items ≡ map writer (locates_of_day parts.now.day)
+    requires { length writers.items ≡ length parts.now.locates }
+    ensures { IfOk result (λ all. (writer : ℕ → WriterAt) → writers.items ≡ map writer parts.now.locates
         → AreWaiting parts.now writer all.items) }
 {
     let count = parts.workers();
@@ -105,88 +103,79 @@ fn waiting_workers<A: Allocator + Copy>(
 // What all workers made, where none was refused memory.
 fn gather<A: Allocator + Copy>(
     alloc: A,
-    parts: &Parts<'_, A>,
     made: Vec<Result<Finished<A>, AllocError>, A>,
 ) -> Result<Gathered<A>, AllocError>
-    requires { (writer : ℕ → WriterAt) × AreFinished parts.now writer made.items }
-    ensures refused { IfOk result (λ all. map (λ own. own.items) all.refused.items
-        ≡ each_worker (refused_by parts.now) parts.now) }
-    ensures stocks { IfOk result (λ all. map (λ own. own.items) all.stocks.items
-        ≡ each_worker (for_own_stocks (last_machine parts.now.day) parts.now) parts.now) }
-    ensures writers { IfOk result (λ all. (writer : ℕ → WriterAt) → AreFinished parts.now writer made.items
-        → map (λ own. own.items) all.writers.items
-        ≡ each_worker (for_own_stocks (λ locate. at_last parts.now.day (writer locate)) parts.now)
-        parts.now) }
+    ensures { IfOk result (λ all. (day : List (List ℕ)) (parts : DayParts) (writer : ℕ → WriterAt)
+        → AreFinished day parts writer made.items → AreGathered day parts writer
+        (map (λ own. own.items) all.pieces.items) (map (λ own. own.items) all.stocks.items)
+        (map (λ own. own.items) all.writers.items)) }
 {
     let count = made.len();
-    let mut refused = Vec::with_capacity(alloc, count)?;
+    let mut pieces = Vec::with_capacity(alloc, count)?;
     let mut stocks = Vec::with_capacity(alloc, count)?;
     let mut writers = Vec::with_capacity(alloc, count)?;
     for one in made {
         let finished = one?;
-        refused.push(finished.refused)?;
+        pieces.push(finished.pieces)?;
         stocks.push(finished.stocks)?;
         writers.push(finished.writers)?;
     }
     Ok(Gathered {
-        refused,
+        pieces,
         stocks,
         writers,
     })
 }
 
-/// The same as [`run_parts`] for callers, as a report, that need only the refused messages of all: it takes no memory
-/// for any other. Every other message of a stock was applied, and those of no stock are in [`Parts::fixed`];
-/// [`outcomes_with`] puts together the outcomes of all.
-///
-/// After an error the writers are gone. It may wait at the gate, and for its threads.
-pub fn summarize_parts<R: Threads + Wait + Sync, A: Allocator + Copy + Send + Sync, G: Gate>(
+// The outcomes of all messages of a day, of the pieces of each worker and those of no stock.
+fn outcomes_of<A: Allocator + Copy>(
+    alloc: A,
+    day: &Day<A>,
+    parts: &Parts<A>,
+    by_worker: Vec<Vec<Piece, A>, A>,
+) -> Result<Vec<Outcome, A>, AllocError>
+    requires parts { ArePartsOf day.now.payloads parts.now }
+    requires pieces { map (λ own. own.items) by_worker.items
+        ≡ each_worker (pieces_by day.now.payloads parts.now.workers) parts.now.workers }
+    ensures { IfOk result (λ all. all.items ≡ outcomes day.now.payloads) }
+{
+    let mut pieces = by_worker;
+    pieces.push(Vec::from_slice(alloc, parts.fixed())?)?;
+    let fault = match merge(alloc, day.len(), pieces) {
+        Ok(outcomes) => return Ok(outcomes),
+        Err(fault) => fault,
+    };
+    match fault {
+        MergeFault::Memory => Err(AllocError),
+        _ => unreachable!(),
+    }
+}
+
+// Replays a day that is split, as `run` does.
+fn run_split<R: Threads + Wait + Sync, A: Allocator + Copy + Send + Sync, G: Gate>(
     rt: &R,
     alloc: A,
-    parts: &Parts<'_, A>,
+    day: &Day<A>,
     board: &Board<A>,
     writers: Vec<TopWriter, A>,
+    parts: &Parts<A>,
     gate: &G,
-) -> Result<Summary<A>, AllocError>
-    requires { AreNew parts.now.day (locates_of_day parts.now.day) board.now writers.items }
-    ensures summary { IfOk result (λ made. IsSummary parts.now.day
-        made.refused.items made.stocks.items made.event) }
+) -> Result<Replayed<A>, AllocError>
+    requires new { AreNew day.now.payloads (locates_of_day day.now.payloads) board.now writers.items }
+    requires parts { ArePartsOf day.now.payloads parts.now }
+    ensures replayed { IfOk result (λ made. IsReplayed day.now.payloads
+        made.outcomes.items made.stocks.items made.event) }
     ensures writers { IfOk result (λ made.
-        made.writers.items ≡ map (at_last parts.now.day) writers.items) }
+        made.writers.items ≡ map (at_last day.now.payloads) writers.items) }
 {
     let waiting = waiting_workers(alloc, parts, writers)?;
-    let made = finish_all(rt, alloc, parts, board, waiting, gate)?;
-    let gathered = gather(alloc, parts, made)?;
-    Ok(Summary {
-        refused: all_refused(alloc, parts, gathered.refused)?,
+    let made = finish_all(rt, alloc, day, board, parts, waiting, gate)?;
+    let gathered = gather(alloc, made)?;
+    Ok(Replayed {
+        outcomes: outcomes_of(alloc, day, parts, gathered.pieces)?,
         stocks: in_order(alloc, parts, gathered.stocks)?,
         event: parts.event(),
         writers: in_order(alloc, parts, gathered.writers)?,
-    })
-}
-
-/// The same as [`run`], of a day that is split already: the caller passes its parts, one for each worker. After an
-/// error the writers are gone.
-pub fn run_parts<R: Threads + Wait + Sync, A: Allocator + Copy + Send + Sync, G: Gate>(
-    rt: &R,
-    alloc: A,
-    parts: &Parts<'_, A>,
-    board: &Board<A>,
-    writers: Vec<TopWriter, A>,
-    gate: &G,
-) -> Result<Replayed<A>, AllocError>
-    requires { AreNew parts.now.day (locates_of_day parts.now.day) board.now writers.items }
-    ensures replayed { IfOk result (λ made. IsReplayed parts.now.day
-        made.outcomes.items made.stocks.items made.event) }
-    ensures writers { IfOk result (λ made.
-        made.writers.items ≡ map (at_last parts.now.day) writers.items) }
-{
-    let summary = summarize_parts(rt, alloc, parts, board, writers, gate)?;
-    Ok(Replayed {
-        outcomes: outcomes_with(alloc, parts, &summary.refused)?,
-        stocks: summary.stocks,
-        event: summary.event,
-        writers: summary.writers,
     })
 }
 
@@ -219,10 +208,6 @@ pub fn run<R: Threads + Wait + Sync, A: Allocator + Copy + Send + Sync, G: Gate>
         made.writers.items ≡ map (at_last day.now.payloads) writers.items) }
     ensures workers { IsErrOf result RunFault.Workers ↔ ((workers ≡ 0) ⊎ (64 < workers)) }
 {
-    let parts = match split(rt, alloc, day, workers) {
-        Ok(parts) => parts,
-        Err(SplitFault::Memory) => return Err(RunFault::Memory),
-        Err(SplitFault::Workers) => return Err(RunFault::Workers),
-    };
-    Ok(run_parts(rt, alloc, &parts, board, writers, gate)?)
+    let parts = split(rt, alloc, day, workers)?;
+    Ok(run_split(rt, alloc, day, board, writers, &parts, gate)?)
 }

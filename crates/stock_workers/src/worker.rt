@@ -1,15 +1,15 @@
 //! One worker with the writers of its stocks' cells.
-ghost use Rattle.std.specs.Prelude.{◌≡◌, ◌≤◌, All, IfOk, IfSome, MatchOption, OnErr, length, map};
+ghost use Rattle.std.specs.Prelude.{◌≡◌, ◌<◌, ℕ, All, IfOk, List, MatchOption, OnErr, length, slice_index};
 ghost use Rattle.std.specs.List.{Contains};
-ghost use Rattle.itch_table.specs.Shows.{top_after};
-ghost use Rattle.day_core.specs.Owners.{own_locates};
-ghost use Rattle.day_core.specs.Workers.{MayGrowNext, first_state, machine_at, worker_locates};
+ghost use Rattle.day_core.specs.Owners.{locates_by, machine_of, own_locates};
+ghost use Rattle.day_core.specs.Splitting.{ArePartsOf};
 ghost use Rattle.top_cell.specs.Boards.{IsOn};
-ghost use Rattle.stock_workers.specs.Working.{PublishesTurn, ShowsTurn, WritersAt, WritersStand, stands, writer_state};
+ghost use Rattle.stock_workers.specs.Working.{IsWorkerOf, MayGrowNext, TakesTurn, WritersAt, codes_of, first_working, locates_in, places_of, progress_in, stands, writer_state};
 
 use crate::gate::Gate;
-use day_core::{Parts, Piece, Runner};
-use itch_table::Top;
+use binaryfile::Day;
+use day_core::{Parts, Piece, new_stocks};
+use itch_table::locate_in;
 use std::alloc::{AllocError, Allocator};
 use std::marker::Model;
 use std::sync::Wait;
@@ -19,33 +19,58 @@ use top_cell::{Board, TopWriter};
 
 /// One worker of a day that is split, with the writers of its stocks' cells: whatever it has done is shown there.
 ///
-/// It borrows the parts of the day. It is seen as where it stands in the day, and the cells of its stocks.
+/// It borrows the parts of the day. It is seen as these, its number, how many of its messages it has done, and its stocks'
+/// machines and writers.
 #[derive(Drop)]
 pub struct Worker<'p, A: Allocator> {
-    runner: Runner<'p, A>,
+    parts: &'p Parts<A>,
+    worker: u32,
+    done: usize,
+    // The locate codes of its stocks, rising, and the machine and the writer of each.
+    locates: Vec<u16, A>,
+    stocks: Vec<Stock<A>, A>,
     writers: Vec<TopWriter, A>,
 }
 
 impl<'p, A: Allocator> Model for Worker<'p, A> {
-    ghost use Rattle.std.specs.Prelude.{map};
-    ghost use Rattle.stock_workers.specs.Working.{Working, WritersStand};
+    ghost use Rattle.std.specs.Prelude.{◌≡◌};
+    ghost use Rattle.std.specs.Coded.{codes};
+    ghost use Rattle.std.specs.List.Sorted.{IsStrictlyIncreasing};
+    ghost use Rattle.itch_table.specs.CodedWorld.{coded_world};
+    ghost use Rattle.day_core.specs.Owners.{locates_by};
+    ghost use Rattle.stock_workers.specs.Working.{Working};
 
     ghost Value = { Working };
 
-    ghost view = { λ w. record { state = w.runner; places = map (λ t. t.place) w.writers.items } };
+    ghost coded = { Prim.hlevel (codes, coded_world) };
 
-    ghost invariant = { λ w. WritersStand w.runner w.writers.items };
+    ghost view = { λ w. record {
+      parts = w.parts.now;
+      worker = w.worker;
+      done = w.done;
+      stocks = w.stocks.items;
+      writers = w.writers.items;
+    } };
+
+    ghost invariant = { λ w. IsStrictlyIncreasing w.locates.items
+        × (w.locates.items ≡ locates_by w.parts.now.workers w.worker w.parts.now.locates) };
 }
 
-// Shows a message that was done, whatever became of it: publishes the best bid and ask that it leaves.
-fn show<A: Allocator>(writer: &mut TopWriter, board: &Board<A>, piece: Piece, best: Top)
-    requires own { IsOn board.now writer.old.place }
-    requires later { writer.old.message ≤ piece.message }
-    requires within { piece.message ≤ length writer.old.place.day }
-    requires top { best ≡ top_after writer.old.place.day writer.old.place.locate piece.message }
-    ensures { writer.new ≡ record writer.old { message = piece.message } }
+// Those of some locate codes whose stocks belong to a worker.
+fn own_codes<A: Allocator + Copy>(
+    alloc: A,
+    locates: &[u16],
+    workers: u32,
+    worker: u32,
+) -> Result<Vec<u16, A>, AllocError>
+    requires { 0 < workers }
+    ensures { IfOk result (λ codes. codes.items ≡ locates_by workers worker locates.now) }
 {
-    writer.publish(board, piece.message, best);
+    locates
+        .iter()
+        .copied()
+        .filter(|locate| u32::from(*locate) % workers == worker)
+        .collect(alloc)
 }
 
 impl<'p, A: Allocator + Copy> Worker<'p, A> {
@@ -55,83 +80,108 @@ impl<'p, A: Allocator + Copy> Worker<'p, A> {
     /// After an error the writers are gone.
     pub fn new(
         alloc: A,
-        parts: &'p Parts<'p, A>,
+        parts: &'p Parts<A>,
         worker: u32,
         writers: Vec<TopWriter, A>,
     ) -> Result<Worker<'p, A>, AllocError>
-        requires { WritersAt parts.now.day (λ _. 0)
-            (own_locates parts.now.workers worker parts.now.day) writers.items }
-        ensures { IfOk result (λ made. made
-            ≡ record { state = first_state parts.now worker; places = map (λ w. w.place) writers.items }) }
+        ensures first { IfOk result (λ made. made ≡ first_working parts.now worker writers.items) }
+        ensures of { IfOk result (λ made. (day : List (List ℕ)) → ArePartsOf day parts.now
+            → WritersAt day (λ _. 0) (own_locates parts.now.workers worker day) writers.items
+            → IsWorkerOf day made) }
     {
-        let runner = Runner::new(alloc, parts, worker)?;
-        Ok(Worker { runner, writers })
+        let locates = own_codes(alloc, parts.locates(), parts.workers(), worker)?;
+        let stocks = new_stocks(alloc, &locates)?;
+        Ok(Worker {
+            parts,
+            worker,
+            done: 0,
+            locates,
+            stocks,
+            writers,
+        })
     }
 
     /// Waits at the gate with the worker's next message, does it on the machine of its stock, publishes the best bid
     /// and ask that it leaves, and returns what became of it; none, with nothing changed, exactly where the worker has
     /// done all of them. Each message is published, also where the best bid and ask stay as they were. The caller
-    /// passes the writers' board.
+    /// passes the day that was split, and the writers' board.
     ///
     /// An error comes only where a message is left that would be applied and may need a new order or trade. Nothing was
     /// published and the worker is as it was, so that its next turn comes to the gate with the same message again. It
     /// may wait at the gate, and for nothing else.
-    #[inline(always)]
     pub fn turn<R: Threads + Wait + Sync, G: Gate>(
         &mut self,
         rt: &R,
+        day: &Day<A>,
         board: &Board<A>,
         gate: &G,
     ) -> Result<Option<Piece>, AllocError>
-        requires { All (IsOn board.now) self.old.places }
-        ensures turned { IfOk result (PublishesTurn self.old self.new) }
-        ensures shown { IfOk result (λ made. IfSome made (ShowsTurn self.old.state self.new.state)) }
+        requires day { IsWorkerOf day.now.payloads self.old }
+        requires board { All (IsOn board.now) (places_of self.old) }
+        ensures turned { IfOk result (TakesTurn day.now.payloads self.old self.new) }
+        // So that its next turn may be taken, whatever the result.
+        ensures stands { IsWorkerOf day.now.payloads self.new }
+        ensures same { places_of self.new ≡ places_of self.old }
         ensures err { OnErr result (self.new ≡ self.old) }
-        ensures grows { OnErr result (MayGrowNext self.old.state) }
+        ensures grows { OnErr result (MayGrowNext day.now.payloads self.old) }
     {
-        if let Some(message) = self.runner.next_message() {
-            gate.at(rt, self.runner.worker(), message);
-        }
-        let Some(turned) = self.runner.turn()? else {
+        let own = self.parts.own(self.worker);
+        if self.done >= own.len() {
             return Ok(None);
-        };
-        let best = self.runner.stock_at(turned.index).top();
-        show(&mut self.writers[turned.index], board, turned.piece, best);
-        Ok(Some(turned.piece))
+        }
+        let message = own[self.done];
+        gate.at(rt, self.worker, message);
+        let payload = day.payload(message);
+        let index = self.index_of(locate_in(payload)).unwrap();
+        let outcome = self.stocks[index].step(payload)?;
+        let top = self.stocks[index].top();
+        self.writers[index].publish(board, message, top);
+        self.done += 1;
+        Ok(Some(Piece { message, outcome }))
     }
 }
 
 impl<'p, A: Allocator> Worker<'p, A> {
+    // Where a stock stands among its own; none where it isn't one of them.
+    fn index_of(&self, locate: u16) -> Option<usize>
+        ensures { MatchOption result (¬ Contains (codes_of self.now) locate) (λ index.
+            (index < length (codes_of self.now)) × (slice_index (codes_of self.now) index ≡ locate)) }
+    {
+        self.locates.binary_search(&locate).ok()
+    }
+
     /// The machine of one of the worker's stocks, after the last of its messages that the worker has done; none where
     /// it isn't one of them.
     pub fn stock(&self, locate: u16) -> Option<&Stock<A>>
-        ensures { MatchOption result (¬ Contains (worker_locates self.now.state) locate)
-            (λ stock. stock.now ≡ machine_at self.now.state locate) }
+        ensures { (day : List (List ℕ)) → IsWorkerOf day self.now
+            → MatchOption result (¬ Contains (locates_in day self.now) locate)
+            (λ stock. stock.now ≡ machine_of day locate (progress_in day self.now locate)) }
     {
-        self.runner.stock(locate)
+        let index = self.index_of(locate)?;
+        self.stocks.get(index)
     }
 
     /// The writer of one of the worker's stocks, at the last of its messages that the worker has done, of one of the
     /// worker's own cells; none where it isn't one of them.
     pub fn writer(&self, locate: u16) -> Option<&TopWriter>
-        ensures { MatchOption result (¬ Contains (worker_locates self.now.state) locate)
-            (λ writer. (writer_state writer.now ≡ stands self.now.state locate)
-            × Contains self.now.places writer.now.place) }
+        ensures { (day : List (List ℕ)) → IsWorkerOf day self.now
+            → MatchOption result (¬ Contains (locates_in day self.now) locate) (λ writer.
+            (writer_state writer.now ≡ stands day self.now locate) × Contains self.now.writers writer.now) }
     {
-        match self.runner.index_of(locate) {
-            Some(index) => Some(&self.writers[index]),
-            None => None,
-        }
+        let index = self.index_of(locate)?;
+        self.writers.get(index)
     }
 
     // The machines of its stocks and their writers, by rising locate code.
     pub(crate) fn into_stocks(self) -> (Vec<Stock<A>, A>, Vec<TopWriter, A>)
-        ensures stocks { result.0.items
-            ≡ map (machine_at self.entry.state) (worker_locates self.entry.state) }
-        ensures writers { WritersStand self.entry.state result.1.items }
-        ensures places { map (λ w. w.place) result.1.items ≡ self.entry.places }
+        ensures stocks { result.0.items ≡ self.entry.stocks }
+        ensures writers { result.1.items ≡ self.entry.writers }
     {
-        let Worker { runner, writers } = self;
-        (runner.into_stocks(), writers)
+        let Worker {
+            stocks,
+            writers,
+            ..
+        } = self;
+        (stocks, writers)
     }
 }

@@ -131,8 +131,8 @@ impl Engine {
         let mut sink = Sink::new(writer);
         let (one, two) = (WorkerCount::ONE, WorkerCount::new(2).unwrap());
         let run = match self {
-            Engine::Replay => replay_run(rt, alloc, &mut feed, &mut sink, one, &FreeGate),
-            Engine::TwoWorkers => replay_run(rt, alloc, &mut feed, &mut sink, two, &FreeGate),
+            Engine::Replay => replay_run(rt, alloc, &mut feed, &mut sink, 1, &FreeGate),
+            Engine::TwoWorkers => replay_run(rt, alloc, &mut feed, &mut sink, 2, &FreeGate),
             Engine::Report => report_run(rt, alloc, &mut feed, &mut sink, SEGMENT, one, &Silent),
             Engine::TwoThreads => {
                 report_run(rt, alloc, &mut feed, &mut sink, SEGMENT, two, &Silent)

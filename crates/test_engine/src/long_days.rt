@@ -79,7 +79,7 @@ fn a_long_day_of_many_stocks_is_the_same_for_all_numbers_of_workers(
         let mut report = Vec::new(alloc);
         let mut feed = Feed::new(day.as_slice());
         let mut sink = Sink::new(&mut report);
-        let returned = replay_run(&rt, alloc, &mut feed, &mut sink, count, &gate);
+        let returned = replay_run(&rt, alloc, &mut feed, &mut sink, count.get(), &gate);
         same("a result", &(workers, returned), &(workers, Ok(0)))?;
         let within = gate.within.load(Ordering::SeqCst);
         let beyond = gate.beyond.load(Ordering::SeqCst);

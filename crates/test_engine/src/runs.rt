@@ -102,7 +102,7 @@ fn try_replay<T: AllocGlobal + Threads + Wait + Sync>(rt: &T, workers: u32) -> R
         rt.alloc(),
         &mut Feed::new(FILE),
         &mut Sink::new(&mut output),
-        count,
+        count.get(),
         &gate,
     );
     same("a result", &(workers, returned), &(workers, Ok(1)))?;
@@ -197,7 +197,7 @@ fn refused_messages_stand_by_their_numbers(rt: HostRuntime) -> Result<(), Fail> 
             rt.alloc(),
             &mut Feed::new(REFUSALS),
             &mut Sink::new(&mut output),
-            worker_count(workers)?,
+            worker_count(workers)?.get(),
             &FreeGate,
         );
         same("a result", &(workers, returned), &(workers, Ok(4)))?;

@@ -1,7 +1,7 @@
 //! A day replayed for several numbers of workers, beside the plain machine, and in segments of several sizes.
 use crate::comparing::{same_stocks, step};
 use binaryfile::{Day, Feed, Sink};
-use day_core::{WorkerCount, replay_parts, split};
+use day_core::{Turns, WorkerCount, merge, split};
 use file_replay::Silent;
 use itch_engine::{replay_run, report_run};
 use itch_table::{Outcome, Part, Plain, part};
@@ -68,8 +68,8 @@ fn same_day<A: Allocator + Copy>(
     same_stocks(alloc, &wanted.plain, stocks, wanted.messages)
 }
 
-// Replays a day by its parts, one after another.
-fn compare_parts<R: Threads + Sync, A: Allocator + Copy + Send + Sync>(
+// Does the turns of a day's workers one after another, and puts together what became of the messages.
+fn compare_turns<R: Threads + Sync, A: Allocator + Copy + Send + Sync>(
     rt: &R,
     alloc: A,
     day: &Day<A>,
@@ -77,8 +77,21 @@ fn compare_parts<R: Threads + Sync, A: Allocator + Copy + Send + Sync>(
     wanted: &Wanted<A>,
 ) -> Result<(), Fail> {
     let parts = split(rt, alloc, day, workers)?;
-    let found = replay_parts(alloc, &parts)?;
-    same_day(alloc, &found.outcomes, &found.stocks, found.event, wanted)
+    let mut turns = Turns::new(rt, alloc, day, workers)?;
+    let mut pieces = Vec::new(alloc);
+    pieces.push(parts.fixed().to_vec(alloc)?)?;
+    for worker in 0..workers {
+        let mut own = Vec::new(alloc);
+        for _ in parts.own(worker) {
+            own.extend(turns.turn(worker)?)?;
+        }
+        pieces.push(own)?;
+    }
+    same_list(
+        "the outcomes",
+        &merge(alloc, day.len(), pieces)?,
+        &wanted.outcomes,
+    )
 }
 
 // Replays a day by workers in threads.
@@ -108,7 +121,7 @@ fn report_of<R: Threads + Wait + Sync, A: Allocator + Copy + Send + Sync>(
     day: &Day<A>,
     workers: u32,
 ) -> Result<(Vec<u8, A>, u32), Fail> {
-    let workers = worker_count(workers)?;
+    let workers = worker_count(workers)?.get();
     let mut report = Vec::new(alloc);
     let refused = replay_run(
         rt,
@@ -156,7 +169,7 @@ pub fn compare_workers<R: Threads + Wait + Sync, A: Allocator + Copy + Send + Sy
     let wanted = follow(alloc, day)?;
     let (report, refused) = report_of(rt, alloc, day, 1)?;
     for workers in WORKERS {
-        compare_parts(rt, alloc, day, workers, &wanted)?;
+        compare_turns(rt, alloc, day, workers, &wanted)?;
         compare_run(rt, alloc, day, workers, &wanted)?;
         let found = report_of(rt, alloc, day, workers)?;
         same_bytes("a report", &found.0, &report)?;

@@ -5,10 +5,9 @@ use Rattle.std.proofs.lemmas.List.Elements.{All-map}
 use Rattle.std.proofs.lemmas.Option.{slice_get-get_or}
 use Rattle.itch_table.specs.Shows.{locates_of_day}
 use Rattle.day_core.specs.Owners.{own_locates}
-use Rattle.day_core.specs.Workers.{WorkerState}
 use Rattle.top_cell.specs.Boards.{AreNew, CellId, IsOn, WriterAt}
 use Rattle.stock_workers.specs.Running.{IsWaiting, at_last}
-use Rattle.stock_workers.specs.Working.{Working, WriterState, writer_state}
+use Rattle.stock_workers.specs.Working.{WriterState, writer_state}
 
 -- all stocks are the only worker's
 all_own : (ls : List ℕ) → filter (λ l. eqb (l % 1) 0) ls ≡ ls
@@ -27,20 +26,14 @@ all_fresh day (w ∷ ws) all = ap₂ ◌∷◌ (all 0 w (omega arith)) (all_fres
 pub all_on : (day : List (List ℕ)) (board : List CellId) (ws : List WriterAt) → AreNew day (locates_of_day day) board ws → All (λ w. IsOn board w.place) ws
 all_on day board ws new = λ k d lt. (new.each k (get_or ws k d) (slice_get-get_or ws k d lt)).1
 
-pub only_waits : (day : List (List ℕ)) (board : List CellId) (ws : List WriterAt) → AreNew day (locates_of_day day) board ws → IsWaiting (record { day = day; workers = 1 }) board 0 ws
+pub only_waits : (day : List (List ℕ)) (board : List CellId) (ws : List WriterAt) → AreNew day (locates_of_day day) board ws → IsWaiting day 1 board 0 ws
 unfolding own_locates
 only_waits day board ws new = record {
-  one = omega arith;
   none_done =
       all_fresh day ws (λ k d lt. ap writer_state (new.each k (get_or ws k d) (slice_get-get_or ws k d lt)).0)
       ∙ ap (map (fresh day)) (new.stocks ∙ sym (all_own (locates_of_day day)));
   on_board = all_on day board ws new;
 }
-
--- so are its cells
-pub on_board : (board : List CellId) (ws : List WriterAt) (worker : Working) (state : WorkerState)
-    → worker ≡ record { state = state; places = map (λ w. w.place) ws } → All (λ w. IsOn board w.place) ws → All (IsOn board) worker.places
-on_board board ws worker state is on = subst (All (IsOn board)) (sym (ap (λ (w : Working). w.places) is)) (All-map (IsOn board) (λ w. w.place) ws on)
 
 -- writers that have shown all of a day are on the board where they were
 pub still_on : (day : List (List ℕ)) (board : List CellId) (ws after : List WriterAt) → after ≡ map (at_last day) ws → All (λ w. IsOn board w.place) ws → All (λ w. IsOn board w.place) after

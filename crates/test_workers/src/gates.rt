@@ -4,7 +4,6 @@ ghost use Rattle.top_cell.specs.Boards.{AreNew, IsOn};
 
 use crate::screens::first_screen;
 use binaryfile::{Day, Feed, Sink};
-use day_core::WorkerCount;
 use itch_engine::replay_run;
 use std::alloc::{Allocator, Global};
 use std::sync::Wait;
@@ -84,7 +83,7 @@ fn two_workers_of_a_report_run_beside_each_other(rt: HostRuntime) -> Result<(), 
         alloc,
         &mut Feed::new(day.bytes()),
         &mut Sink::new(&mut report),
-        WorkerCount::new(2).unwrap(),
+        2,
         &gate,
     );
     let met = gate.met.load(Ordering::SeqCst);

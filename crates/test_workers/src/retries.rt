@@ -1,8 +1,10 @@
 //! Turns that are refused memory and taken again, at a gate that notes with which messages it is called.
 ghost use Rattle.std.specs.Prelude.{All};
 ghost use Rattle.top_cell.specs.Boards.{IsOn};
+ghost use Rattle.stock_workers.specs.Working.{IsWorkerOf, places_of};
 
-use crate::turns::{only_worker, prepare, turn};
+use crate::turns::{only_worker, prepare};
+use binaryfile::Day;
 use std::alloc::Global;
 use std::sync::Wait;
 use std::sync::atomic::{AtomicU64, Ordering};
@@ -38,10 +40,12 @@ impl Gate for Noting {
 fn take_turns<'h, R: Threads + Wait + Sync>(
     rt: &R,
     heap: &'h Refusing<Global>,
+    day: &Day<&'h Refusing<Global>>,
     board: &Board<&'h Refusing<Global>>,
     worker: &mut Worker<'_, &'h Refusing<Global>>,
 ) -> Result<Tried, Fail>
-    requires { All (IsOn board.now) worker.old.places }
+    requires worker { IsWorkerOf day.now.payloads worker.old }
+    requires board { All (IsOn board.now) (places_of worker.old) }
 {
     let gate = Noting {
         digits: AtomicU64::new(0),
@@ -50,13 +54,13 @@ fn take_turns<'h, R: Threads + Wait + Sync>(
     let mut wanted = 0;
     for message in 1..=7 {
         wanted = with_digit(wanted, message);
-        if turn(rt, board, worker, &gate).is_err() {
+        if worker.turn(rt, day, board, &gate).is_err() {
             tried = Some(heap.tried(true));
             wanted = with_digit(wanted, message);
-            turn(rt, board, worker, &gate)?;
+            worker.turn(rt, day, board, &gate)?;
         }
     }
-    let last = turn(rt, board, worker, &gate)?;
+    let last = worker.turn(rt, day, board, &gate)?;
     let digits = gate.digits.load(Ordering::SeqCst);
     same("the gate's messages", &(last, digits), &(None, wanted))?;
     Ok(tried.unwrap_or_else(|| heap.tried(false)))
@@ -70,9 +74,9 @@ fn try_turns<R: Threads + Wait + Sync>(
 ) -> Result<Tried, Fail> {
     let day = two_stocks(heap)?;
     let (parts, waiting) = prepare(rt, heap, &day)?;
-    let (mut worker, board, _) = only_worker(heap, &parts, waiting)?;
+    let (mut worker, board, _) = only_worker(heap, &day, &parts, waiting)?;
     heap.restart(refusal);
-    take_turns(rt, heap, &board, &mut worker)
+    take_turns(rt, heap, &day, &board, &mut worker)
 }
 
 #[test]

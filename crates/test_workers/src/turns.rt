@@ -1,7 +1,9 @@
 //! One worker, turn by turn.
 ghost use Rattle.std.specs.Prelude.{◌≡◌, [], All, IfOk};
 ghost use Rattle.top_cell.specs.Boards.{IsOn};
+ghost use Rattle.day_core.specs.Splitting.{ArePartsOf};
 ghost use Rattle.stock_workers.specs.Running.{IsWaiting};
+ghost use Rattle.stock_workers.specs.Working.{IsWorkerOf, places_of};
 
 use crate::screens::first_screen;
 use crate::stocks::{Said, said_by, with_bid};
@@ -12,9 +14,11 @@ use std::alloc::{AllocError, Allocator, Global};
 use std::sync::Wait;
 use std::test::Fail;
 use std::thread::Threads;
-use stock_workers::{FreeGate, Gate, Worker};
+use stock_workers::{FreeGate, Worker};
 use test_refusing::{Refusal, Refusing, Tried, refuse_any, refuse_each};
-use test_support::{AAPL, MSFT, Ticker, crossed_book, day_with, same, system, two_stocks};
+use test_support::{
+    AAPL, MSFT, Ticker, crossed_book, day_with, same, same_list, system, two_stocks,
+};
 use top_cell::{Board, Reading, Screen, TopWriter};
 
 /// The writers of the only worker of a day, their board, and a screen of the day's first stock.
@@ -26,12 +30,15 @@ pub struct Waiting<A: Allocator> {
 }
 
 /// The parts of a day for one worker, and what the worker is made of.
-pub fn prepare<'d, R: Threads + Wait + Sync, A: Allocator + Copy + Send + Sync>(
+pub fn prepare<R: Threads + Wait + Sync, A: Allocator + Copy + Send + Sync>(
     rt: &R,
     alloc: A,
-    day: &'d Day<A>,
-) -> Result<(Parts<'d, A>, Waiting<A>), Fail>
-    ensures waits { IfOk result (λ made. IsWaiting made.0 made.1.board 0 made.1.writers.items) }
+    day: &Day<A>,
+) -> Result<(Parts<A>, Waiting<A>), Fail>
+    ensures parts { IfOk result (λ made. ArePartsOf day.now.payloads made.0) }
+    ensures one { IfOk result (λ made. made.0.workers ≡ 1) }
+    ensures waits { IfOk result (λ made.
+        IsWaiting day.now.payloads 1 made.1.board 0 made.1.writers.items) }
     ensures screen { IfOk result (λ made. IsOn made.1.board made.1.screen.place) }
 {
     let parts = split(rt, alloc, day, 1)?;
@@ -48,12 +55,16 @@ pub fn prepare<'d, R: Threads + Wait + Sync, A: Allocator + Copy + Send + Sync>(
 /// The only worker of a day, its board, and a screen of the day's first stock.
 pub fn only_worker<'p, A: Allocator + Copy>(
     alloc: A,
-    parts: &'p Parts<'p, A>,
+    day: &Day<A>,
+    parts: &'p Parts<A>,
     waiting: Waiting<A>,
 ) -> Result<(Worker<'p, A>, Board<A>, Screen), AllocError>
-    requires waits { IsWaiting parts.now waiting.board 0 waiting.writers.items }
+    requires parts { ArePartsOf day.now.payloads parts.now }
+    requires one { parts.now.workers ≡ 1 }
+    requires waits { IsWaiting day.now.payloads 1 waiting.board 0 waiting.writers.items }
     requires screen { IsOn waiting.board waiting.screen.place }
-    ensures worker { IfOk result (λ made. All (IsOn made.1) made.0.places) }
+    ensures worker { IfOk result (λ made. IsWorkerOf day.now.payloads made.0) }
+    ensures board { IfOk result (λ made. All (IsOn made.1) (places_of made.0)) }
     ensures screen { IfOk result (λ made. IsOn made.1 made.2.place) }
 {
     let Waiting {
@@ -63,19 +74,6 @@ pub fn only_worker<'p, A: Allocator + Copy>(
     } = waiting;
     let worker = Worker::new(alloc, parts, 0, writers)?;
     Ok((worker, board, screen))
-}
-
-/// A worker's turn, after which its next one may be taken.
-pub fn turn<R: Threads + Wait + Sync, A: Allocator + Copy, G: Gate>(
-    rt: &R,
-    board: &Board<A>,
-    worker: &mut Worker<'_, A>,
-    gate: &G,
-) -> Result<Option<Piece>, AllocError>
-    requires { All (IsOn board.now) worker.old.places }
-    ensures { worker.new.places ≡ worker.old.places }
-{
-    worker.turn(rt, board, gate)
 }
 
 // What becomes of a message.
@@ -105,17 +103,19 @@ fn words_of(reading: Reading) -> [u64; 4] {
 // what is looked at there.
 fn follow<R: Threads + Wait + Sync, A: Allocator + Copy>(
     rt: &R,
+    day: &Day<A>,
     board: &Board<A>,
     worker: &mut Worker<'_, A>,
     screen: &mut Screen,
     turns: &mut Turns<'_, A>,
     wanted: &[(Option<Piece>, [u64; 4])],
 ) -> Result<(), Fail>
-    requires worker { All (IsOn board.now) worker.old.places }
+    requires worker { IsWorkerOf day.now.payloads worker.old }
+    requires board { All (IsOn board.now) (places_of worker.old) }
     requires screen { IsOn board.now screen.old.place }
 {
     for after in wanted {
-        let piece = turn(rt, board, worker, &FreeGate)?;
+        let piece = worker.turn(rt, day, board, &FreeGate)?;
         let words = words_of(screen.read(rt, board));
         same("a turn", &(piece, words), after)?;
         let looked = (turns.turn(0)?, turns.look(1));
@@ -129,8 +129,8 @@ fn a_screen_reads_what_each_turn_leaves(rt: HostRuntime) -> Result<(), Fail> {
     let alloc = rt.alloc();
     let day = crossed_book(alloc)?;
     let (parts, waiting) = prepare(&rt, alloc, &day)?;
-    let (mut worker, board, mut screen) = only_worker(alloc, &parts, waiting)?;
-    let mut turns = Turns::new(alloc, &parts)?;
+    let (mut worker, board, mut screen) = only_worker(alloc, &day, &parts, waiting)?;
+    let mut turns = Turns::new(&rt, alloc, &day, 1)?;
     let crossed = [3, 0x000f_6950_000f_4240, 100, 50];
     let wanted = [
         (piece(1, Outcome::Applied), [1, 0, 0, 0]),
@@ -141,17 +141,27 @@ fn a_screen_reads_what_each_turn_leaves(rt: HostRuntime) -> Result<(), Fail> {
         (piece(3, Outcome::Applied), crossed),
         (None, crossed),
     ];
-    follow(&rt, &board, &mut worker, &mut screen, &mut turns, &wanted)
+    follow(
+        &rt,
+        &day,
+        &board,
+        &mut worker,
+        &mut screen,
+        &mut turns,
+        &wanted,
+    )
 }
 
 // A worker of a number that is no worker's, without writers.
-#[tactic(auto, using(crate::proofs::NoWorker::no_locates))]
 fn no_worker<'p, A: Allocator + Copy>(
     alloc: A,
-    parts: &'p Parts<'p, A>,
+    day: &Day<A>,
+    parts: &'p Parts<A>,
     number: u32,
 ) -> Result<Worker<'p, A>, Fail>
-    ensures { IfOk result (λ worker. worker.places ≡ []) }
+    requires { ArePartsOf day.now.payloads parts.now }
+    ensures worker { IfOk result (IsWorkerOf day.now.payloads) }
+    ensures places { IfOk result (λ worker. places_of worker ≡ []) }
 {
     if number < parts.workers() {
         return Err(Fail::new("a number of a worker"));
@@ -175,20 +185,6 @@ fn has_stocks<A: Allocator>(worker: &Worker<'_, A>, stocks: [(u16, bool); 3]) ->
     Ok(())
 }
 
-// A worker has the messages with these numbers, and no others.
-fn has_messages<A: Allocator>(
-    parts: &Parts<'_, A>,
-    worker: u32,
-    numbers: &[u32],
-) -> Result<(), Fail> {
-    let mut own = parts.own(worker);
-    for number in numbers {
-        let found = own.next().map(|message| message.number);
-        same("a message of a worker", &found, &Some(*number))?;
-    }
-    same("its last one", &own.next().is_none(), &true)
-}
-
 // Numbers from 2 on have nothing of a day that is split for two workers, who have these messages.
 fn past_two_workers<R: Threads + Wait + Sync, A: Allocator + Copy + Send + Sync>(
     rt: &R,
@@ -198,12 +194,12 @@ fn past_two_workers<R: Threads + Wait + Sync, A: Allocator + Copy + Send + Sync>
     odd: &[u32],
 ) -> Result<(), Fail> {
     let parts = split(rt, alloc, day, 2)?;
-    has_messages(&parts, 0, even)?;
-    has_messages(&parts, 1, odd)?;
+    same_list("the messages of worker 0", parts.own(0), even)?;
+    same_list("the messages of worker 1", parts.own(1), odd)?;
     let (board, _writers) = Board::new(alloc, day)?;
     for number in [2, 3, 63, 64, u32::MAX] {
-        let mut worker = no_worker(alloc, &parts, number)?;
-        let returned = turn(rt, &board, &mut worker, &FreeGate)?;
+        let mut worker = no_worker(alloc, day, &parts, number)?;
+        let returned = worker.turn(rt, day, &board, &FreeGate)?;
         same("a turn", &(number, returned), &(number, None))?;
         has_stocks(&worker, [(1, false), (2, false), (3, false)])?;
     }
@@ -227,9 +223,9 @@ fn make_worker<'h, R: Threads + Wait + Sync>(
 ) -> Result<Tried, Fail> {
     let (parts, waiting) = prepare(rt, heap, day)?;
     heap.restart(refusal);
-    let made = only_worker(heap, &parts, waiting).is_ok();
+    let made = only_worker(heap, day, &parts, waiting).is_ok();
     let tried = heap.tried(!made);
-    has_messages(&parts, 0, &[1, 2, 3, 4, 5, 6, 7])?;
+    same_list("its messages", parts.own(0), &[1, 2, 3, 4, 5, 6, 7])?;
     Ok(tried)
 }
 
@@ -260,7 +256,7 @@ fn a_worker_without_memory_is_none(rt: HostRuntime) -> Result<(), Fail> {
     let growths = refuse_each(|refusal: Refusal| -> Result<Tried, Fail> {
         try_worker(&rt, &heap, refusal)
     })?;
-    same("some growths", &(growths > 2 && growths <= 100), &true)
+    same("some growths", &(growths >= 2 && growths <= 100), &true)
 }
 
 // What a worker has of a stock: what its machine says, and the message of its writer.
@@ -345,15 +341,18 @@ fn find_without_memory<'h>(
 // Takes turns of a worker with memory.
 fn lead<R: Threads + Wait + Sync, A: Allocator + Copy>(
     rt: &R,
+    day: &Day<A>,
     board: &Board<A>,
     worker: &mut Worker<'_, A>,
     turns: &[After],
 ) -> Result<(), Fail>
-    requires { All (IsOn board.now) worker.old.places }
-    ensures { IfOk result (λ _. worker.new.places ≡ worker.old.places) }
+    requires worker { IsWorkerOf day.now.payloads worker.old }
+    requires board { All (IsOn board.now) (places_of worker.old) }
+    ensures worker { IfOk result (λ _. IsWorkerOf day.now.payloads worker.new) }
+    ensures same { IfOk result (λ _. places_of worker.new ≡ places_of worker.old) }
 {
     for wanted in turns {
-        let piece = turn(rt, board, worker, &FreeGate)?;
+        let piece = worker.turn(rt, day, board, &FreeGate)?;
         same("an earlier turn", &piece, &wanted.0)?;
     }
     Ok(())
@@ -372,17 +371,17 @@ fn try_turn<R: Threads + Wait + Sync>(
     };
     let day = two_stocks(heap)?;
     let (parts, waiting) = prepare(rt, heap, &day)?;
-    let (mut worker, board, mut screen) = only_worker(heap, &parts, waiting)?;
-    lead(rt, &board, &mut worker, earlier)?;
+    let (mut worker, board, mut screen) = only_worker(heap, &day, &parts, waiting)?;
+    lead(rt, &day, &board, &mut worker, earlier)?;
     find_without_memory(heap, &worker)?;
     let before = see(rt, heap, &board, &worker, &mut screen);
     heap.restart(refusal);
-    let mut returned = turn(rt, &board, &mut worker, &FreeGate);
+    let mut returned = worker.turn(rt, &day, &board, &FreeGate);
     let tried = heap.tried(returned.is_err());
     if tried.refused {
         let after = see(rt, heap, &board, &worker, &mut screen);
         same("a refused turn", &after, &before)?;
-        returned = turn(rt, &board, &mut worker, &FreeGate);
+        returned = worker.turn(rt, &day, &board, &FreeGate);
     }
     let (first, second, reading) = see(rt, heap, &board, &worker, &mut screen);
     let (piece, one, two) = *wanted;

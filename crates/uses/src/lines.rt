@@ -3,7 +3,6 @@ ghost use Rattle.std.specs.Prelude.{◌≡◌, ◌↔◌, IsErrOf};
 ghost use Rattle.binaryfile.specs.Devices.{HasFailed};
 
 use binaryfile::{Feed, Sink};
-use day_core::WorkerCount;
 use itch_engine::{ProgFault, replay_run};
 use std::alloc::Allocator;
 use std::io::{self, Read, Write};
@@ -47,7 +46,7 @@ pub fn report_lines<T: Threads + Wait + Sync, A: Allocator + Copy + Send + Sync,
 {
     let mut counter = LineCounter { lines: 0 };
     let mut sink = Sink::new(&mut counter);
-    replay_run(rt, alloc, feed, &mut sink, WorkerCount::ONE, &FreeGate)?;
+    replay_run(rt, alloc, feed, &mut sink, 1, &FreeGate)?;
     Ok(counter.lines)
 }
 

@@ -9,7 +9,6 @@ use crate::hex_input::decode_digits;
 use crate::limits::MOST_HEX_BYTES;
 use crate::report::file::Report;
 use binaryfile::{Feed, Sink, read_to_end, send};
-use day_core::WorkerCount;
 use std::alloc::Allocator;
 use std::io::{Read, Write};
 use std::sync::Wait;
@@ -26,7 +25,7 @@ fn report_of_digits<R: Threads + Wait + Sync, A: Allocator + Copy + Send + Sync>
     ensures fault { IfErr result (Fails digits_replayer input.items) }
 {
     let bytes = decode_digits(alloc, input)?;
-    report_of_file(rt, alloc, bytes, WorkerCount::ONE, &FreeGate)
+    report_of_file(rt, alloc, bytes, 1, &FreeGate)
 }
 
 /// Reads a day file that is given in hexadecimal digits, replays it and writes the report, as [`replay_run`] does.

@@ -1,7 +1,8 @@
 //! The engine that loads a day file and replays it, with a gate.
-ghost use Rattle.std.specs.Prelude.{◌≡◌, ◌-◌, ◌<◌, ◌^◌, Err, IfOk, IfErr, count_by, length};
+ghost use Rattle.std.specs.Prelude.{◌≡◌, ◌-◌, ◌<◌, ◌≤◌, ◌^◌, ℕ, Err, IfOk, IfErr, List, count_by, length};
 ghost use Rattle.binaryfile.specs.Loading.{HasMoreMessages};
-ghost use Rattle.day_core.specs.Replaying.{is_passed};
+ghost use Rattle.itch_table.specs.After.{outcomes};
+ghost use Rattle.day_core.specs.Replaying.{is_passed, refused_of};
 ghost use Rattle.file_replay.specs.Files.{IsFileSummary};
 ghost use Rattle.itch_engine.specs.Runs.{Fails, Runs};
 ghost use Rattle.itch_engine.specs.ReplayEngines.{Replays, replayer};
@@ -10,7 +11,7 @@ use crate::fault::ProgFault;
 use crate::limits::{MOST_FILE_BYTES, MOST_MESSAGES};
 use crate::report::file::{Report, report_of};
 use binaryfile::{Day, Feed, Sink, read_to_end, send};
-use day_core::{Piece, WorkerCount, parts_of};
+use day_core::Piece;
 use day_replay::Summary;
 use file_replay::FileSummary;
 use itch_table::Outcome;
@@ -18,21 +19,42 @@ use std::alloc::{AllocError, Allocator};
 use std::io::{Read, Write};
 use std::sync::Wait;
 use std::thread::Threads;
-use stock_workers::{Gate, summarize_parts};
+use stock_workers::{Gate, RunFault, run};
 use top_cell::Board;
 
-// How many of these messages were passed over.
-fn passed_among(pieces: &[Piece]) -> u32
-    requires { length pieces.now < 2 ^ 32 }
-    ensures { result ≡ count_by (λ p. is_passed p.outcome) pieces.now }
+// How many of these outcomes are of messages that were passed over.
+fn passed_among(found: &[Outcome]) -> u32
+    requires { length found.now < 2 ^ 32 }
+    ensures { result ≡ count_by is_passed found.now }
 {
     let mut passed = 0;
-    for piece in pieces {
-        if let Outcome::Passed = piece.outcome {
+    for outcome in found {
+        if let Outcome::Passed = outcome {
             passed += 1;
         }
     }
     passed
+}
+
+// The refused ones of the messages of a day whose outcomes these are, by rising number.
+fn refused_among<A: Allocator + Copy>(
+    alloc: A,
+    found: &[Outcome],
+) -> Result<Vec<Piece, A>, AllocError>
+    requires { length found.now < 2 ^ 32 }
+    ensures { IfOk result (λ refused. (day : List (List ℕ)) → found.now ≡ outcomes day
+        → refused.items ≡ refused_of day) }
+{
+    let mut refused = Vec::new(alloc);
+    for (before, outcome) in found.iter().enumerate() {
+        if let Outcome::Refused(_) = outcome {
+            refused.push(Piece {
+                message: before as u32 + 1,
+                outcome: *outcome,
+            })?;
+        }
+    }
+    Ok(refused)
 }
 
 // What a day makes, replayed by this many workers on a board of its own, which call the gate before each message.
@@ -40,19 +62,23 @@ fn replay_day<R: Threads + Wait + Sync, A: Allocator + Copy + Send + Sync, G: Ga
     rt: &R,
     alloc: A,
     day: &Day<A>,
-    workers: WorkerCount,
+    workers: u32,
     gate: &G,
 ) -> Result<FileSummary<A>, AllocError>
+    requires { (0 < workers) × (workers ≤ 64) }
     ensures { IfOk result (λ made. IsFileSummary day.now made) }
 {
-    let parts = parts_of(rt, alloc, day, workers)?;
-    let (board, writers) = Board::of_stocks(alloc, parts.day(), parts.locates())?;
-    let made = summarize_parts(rt, alloc, &parts, &board, writers, gate)?;
+    let (board, writers) = Board::new(alloc, day)?;
+    let made = match run(rt, alloc, day, &board, writers, workers, gate) {
+        Ok(made) => made,
+        Err(RunFault::Memory) => return Err(AllocError),
+        Err(RunFault::Workers) => unreachable!(),
+    };
     Ok(FileSummary {
         summary: Summary {
             messages: day.len(),
-            passed: passed_among(parts.fixed()),
-            refused: made.refused,
+            passed: passed_among(&made.outcomes),
+            refused: refused_among(alloc, &made.outcomes)?,
             stocks: made.stocks,
             event: made.event,
         },
@@ -66,9 +92,10 @@ pub(crate) fn report_of_file<R: Threads + Wait + Sync, A: Allocator + Copy + Sen
     rt: &R,
     alloc: A,
     input: Vec<u8, A>,
-    workers: WorkerCount,
+    workers: u32,
     gate: &G,
 ) -> Result<Report<A>, ProgFault>
+    requires { (0 < workers) × (workers ≤ 64) }
     ensures report { IfOk result (λ report. Replays input.items report.text.items report.refused) }
     ensures fault { IfErr result (Fails replayer input.items) }
     // Whatever memory is left.
@@ -85,13 +112,13 @@ pub(crate) fn report_of_file<R: Threads + Wait + Sync, A: Allocator + Copy + Sen
 /// [`ProgFault::Write`] the bytes that were taken are a prefix of the report; after another fault none was sent.
 /// [`ProgFault::Read`] comes exactly where the feed has failed, [`ProgFault::TooManyBytes`] above
 /// [`MOST_FILE_BYTES`] bytes, and [`ProgFault::TooManyMessages`] above [`MOST_MESSAGES`] messages. The report is the
-/// same for every number of workers: each replays the messages of its stocks in a thread of its own, calls the gate
-/// before each of them, and may wait there. Where no thread can be made, the work is done all the same.
+/// same for every number of workers, from 1 to 64: each replays the messages of its stocks in a thread of its own, calls
+/// the gate before each of them, and may wait there. Where no thread can be made, the work is done all the same.
 ///
 /// ```text
 /// let mut feed = Feed::new(file);
 /// let mut sink = Sink::new(output);
-/// let refused = replay_run(rt, rt.alloc(), &mut feed, &mut sink, WorkerCount::ONE, &FreeGate)?;
+/// let refused = replay_run(rt, rt.alloc(), &mut feed, &mut sink, 1, &FreeGate)?;
 /// ```
 pub fn replay_run<
     T: Threads + Wait + Sync,
@@ -104,9 +131,10 @@ pub fn replay_run<
     alloc: A,
     feed: &mut Feed<R>,
     sink: &mut Sink<W>,
-    workers: WorkerCount,
+    workers: u32,
     gate: &G,
 ) -> Result<u32, ProgFault>
+    requires { (0 < workers) × (workers ≤ 64) }
     ensures { Runs replayer R.remaining W.contents feed.old feed.new sink.old sink.new result }
 {
     let input = read_to_end(alloc, feed, MOST_FILE_BYTES)?;

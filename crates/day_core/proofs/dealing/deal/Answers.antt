@@ -1,57 +1,49 @@
-use Rattle.std.proofs.Common.{◌≡◌, ℕ, length, map, sym, subst, ◌∙◌, arith}
-use Rattle.std.proofs.lemmas.Iterator.Adapters.{YieldsList-from_vec}
-use Rattle.std.proofs.lemmas.Iterator.Consumers.{YieldsList-end, YieldsList-turn}
-use Rattle.std.proofs.lemmas.List.{length_push}
-use Rattle.day_core.specs.Stretches.{AreListed, IsChunk, IsListed, cut}
-use Rattle.day_core.proofs.Chunks.{chunks_all, next_chunk}
-use Rattle.day_core.proofs.dealing.deal.Given as given
+use Rattle.std.proofs.Common.{◌≡◌, ◌+◌, ◌-◌, ◌<◌, ◌^◌, ℕ, Bool, false, List, [], length, get_or, filter, map, refl, ap, sym, subst, ◌∙◌, arith}
+use Rattle.std.specs.List.{range_with_len}
+use Rattle.std.specs.List.Sorted.{IsStrictlyIncreasing}
+use Rattle.std.proofs.lemmas.List.Kept.{IsStrictlyIncreasing-filter}
+use Rattle.itch_table.specs.declared.outcome.Part.{Part}
+use Rattle.itch_table.specs.Parts.{part}
+use Rattle.itch_table.proofs.DayLocates.{range_rises}
+use Rattle.day_core.specs.Splitting.{AreDealt}
+use Rattle.day_core.proofs.Dealt.{all_dealt, dealt_fixed, dealt_none, dealt_own}
+use Rattle.day_core.proofs.StocksSeen.{seen_none}
 use Rattle.day_core.proofs.dealing.deal.Goals as goal
+use Rattle.day_core.proofs.dealing.deal.Goals.{in-Locate+in_ok-give-in-Locate, in-Nowhere+in_ok-push-in-Nowhere}
 
-pub append-requires : goal.append-requires
-unfolding IsListed
-append-requires g c = c.in_ok-all.ensures.0.seen_are.long ∙ sym (c.in_ok-whole.ensures c.args.day.now.payloads c.args.workers 0).0.seen_are.long
+pub loop-before-init : goal.loop-before-init
+loop-before-init g c =
+    dealt_none _ _ _ _ _ _ (seen_none _ _ c.in_ok-seen.ensures.long c.in_ok-seen.ensures.none) c.in_ok-own.ensures c.new-fixed.ensures.items refl
 
-pub returns-then-messages-lt-MANY-clause-dealt : goal.returns-then-messages-lt-MANY-clause-dealt
-returns-then-messages-lt-MANY-clause-dealt g c =
+pub loop-before-preserved : goal.loop-before-preserved
+loop-before-preserved g c =
     let day = c.args.day.now.payloads in
-    let before = c.in_ok-whole.ensures day c.args.workers 0 in
-    rw (← c.len-messages.ensures) ((c.in_ok-append.ensures {u = tt}) day c.args.workers 0 0 _ before c.in_ok-all.ensures)
+    let n = c.loop-before.before in
+    let more : n < length day = omega (arith, c.loop-before-test.true, c.len-before-end.ensures) in
+    let before = c.loop-before.invariant in
+    elim c.match-whose-before.branch [
+      | in-Locate+in_ok-give-in-Locate w ↦
+          rw (w.seen-is, w.own-is, w.fixed-is, w.event-is, w.in_ok-give-in-Locate.ensures, w.from.ensures, w.from-in-Locate.ensures)
+          (dealt_own _ _ _ _ _ _ _ before more w.in-Locate.locate (sym w.in-Locate.is ∙ c.requires.each n _ more) c.get-count.ensures.some)
+      | in-Nowhere+in_ok-push-in-Nowhere w ↦
+          let read = w.payload.ensures ∙ ap (λ (k : ℕ). get_or day k w.payload.result.now) (let same : n + 1 - 1 ≡ n = omega arith in same) in
+          rw (w.seen-is, w.own-is, w.fixed-is, w.event-is, w.in_ok-push-in-Nowhere.ensures.items, w.event_after-event.ensures)
+          (dealt_fixed _ _ _ _ _ _ _ before more w.in-Nowhere.outcome (sym w.in-Nowhere.is ∙ c.requires.each n _ more) w.payload.result.now read)
+    ]
 
-pub loop-chunk-init : goal.loop-chunk-init
-loop-chunk-init g c =
+pub invariant_of-result : goal.invariant_of-result
+invariant_of-result g c =
+    subst IsStrictlyIncreasing (sym c.in_ok-locates_seen.ensures) (IsStrictlyIncreasing-filter (λ (locate : ℕ). get_or c.deref.result.now locate false) _ (range_rises 0 (length c.deref.result.now)))
+
+pub returns-clause-parts : goal.returns-clause-parts
+returns-clause-parts g c =
     let day = c.args.day.now.payloads in
-    let begin : 0 ≡ cut (length day) 0 = omega arith in
-    subst (λ (n : ℕ). AreListed day c.args.workers 0 n c.in_ok-whole.whole.seen.items (map (λ lists. lists.items) c.in_ok-whole.whole.own.items) c.in_ok-whole.whole.fixed.items c.in_ok-whole.whole.event)
-    begin (c.in_ok-whole.ensures day c.args.workers 0)
-
--- the chunk that is put after the others
-found : (g : given.Over) (c : goal.After-whole-in-loop-chunk-1 g) → IsChunk c.args.day.now.payloads c.args.workers (length c.loop-chunk.yielded) c.in_ok-more.more.seen.items
-    c.in_ok-more.more.own.items c.in_ok-more.more.fixed.items c.in_ok-more.more.event
-found g c =
-    let made = c.in_ok-chunk-items.chunk-items in
-    let gives = c.into_iter-chunk-iterator.ensures.into_iter_gives in
-    let list = YieldsList-from_vec {s = c.into_iter-chunk-iterator.result} made.items gives.0 (gives.1 ∙ made.ok.0) in
-    let turn = YieldsList-turn list c.loop-chunk.yielded c.loop-chunk.chunk-iterator c.loop-chunk.yielded_by c.next.result c.next.new.self c.in-Some.chunk c.in-Some.is c.next.ensures.steps in
-    next_chunk (λ chunk v. IsChunk c.args.day.now.payloads c.args.workers chunk v.seen.items v.own.items v.fixed.items v.event)
-    made.items (length c.loop-chunk.yielded) c.in-Some.chunk c.in_ok-more.more (c.in_ok-chunk-items.ensures {u = tt}) turn.0 turn.1 (c.in_ok-more.was {u = tt})
-
-pub append-requires-in-loop-chunk : goal.append-requires-in-loop-chunk
-unfolding IsListed
-append-requires-in-loop-chunk g c = (found g c).0.seen_are.long ∙ sym c.loop-chunk.invariant.0.seen_are.long
-
-pub loop-chunk-preserved : goal.loop-chunk-preserved
-loop-chunk-preserved g c =
-    rw length_push ((c.in_ok-append-2.ensures {u = tt}) c.args.day.now.payloads c.args.workers 0 _ _ c.loop-chunk.invariant (found g c.before.before.before))
-
-pub returns-clause-dealt : goal.returns-clause-dealt
-returns-clause-dealt g c =
-    let day = c.args.day.now.payloads in
-    let made = c.in_ok-chunk-items.chunk-items in
-    let gives = c.into_iter-chunk-iterator.ensures.into_iter_gives in
-    let list = YieldsList-from_vec {s = c.into_iter-chunk-iterator.result} made.items gives.0 (gives.1 ∙ made.ok.0) in
-    let ends = YieldsList-end list c.loop-chunk.yielded c.loop-chunk.chunk-iterator c.loop-chunk.yielded_by c.next.result c.next.new.self c.in-None.is c.next.ensures.steps in
-    let all =
-    chunks_all (λ chunk v. IsChunk day c.args.workers chunk v.seen.items v.own.items v.fixed.items v.event)
-    (length day) made.items (length c.loop-chunk.yielded) (c.in_ok-chunk-items.ensures {u = tt}) ends.1 in
-    subst (λ (n : ℕ). AreListed day c.args.workers 0 n c.loop-chunk.whole.seen.items (map (λ lists. lists.items) c.loop-chunk.whole.own.items) c.loop-chunk.whole.fixed.items c.loop-chunk.whole.event)
-    all c.loop-chunk.invariant
+    let now = c.loop-before in
+    let own = map (λ o. o.items) now.own.items in
+    let done : now.before ≡ length day = omega (arith, c.loop-before-test.false, now.auto.before-end, c.len-before-end.ensures) in
+    let some : 0 < c.args.workers = omega (arith, c.get-count.ensures) in
+    let few : length day < 2 ^ 32 = omega (arith, c.len-before-end.ensures, c.len-before-end.type_inv) in
+    let all = subst (λ (n : ℕ). AreDealt day c.args.workers n now.seen.items own now.fixed.items now.event) done
+    (subst (λ (w : ℕ). AreDealt day w now.before now.seen.items own now.fixed.items now.event) c.get-count.ensures.value now.invariant) in
+    all_dealt day _ now.seen.items some few all
+    (c.in_ok-locates_seen.ensures ∙ ap (λ (seen : List Bool). filter (λ (locate : ℕ). get_or seen locate false) (range_with_len 0 (length seen))) c.deref.ensures.value)

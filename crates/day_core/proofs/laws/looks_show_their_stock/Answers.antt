@@ -1,4 +1,4 @@
-use Rattle.day_core.proofs.Showing.{shows_progress}
+use Rattle.day_core.proofs.Looks.{shows_progress}
 use Rattle.day_core.proofs.laws.looks_show_their_stock.Goals as goal
 
 pub returns : goal.returns

@@ -39,7 +39,7 @@ bounds-locates-index g c =
     let road = YieldsList-from_enumerate {s = s} (YieldsList-from_vec {s = enumerate_source s} values items long) count in
     let turn = YieldsList-turn road c.loop-index.yielded c.loop-index.index-iterator c.loop-index.yielded_by c.next.result c.next.new.self (c.in-Some.index, c.in-Some.value) c.in-Some.is c.next.ensures.steps in
     let at = value_at values (length c.loop-index.yielded) c.in-Some.index c.in-Some.value turn.0 turn.1 in
-    omega (arith, at, c.requires, ap length c.locates-locates.ensures)
+    omega (arith, at, c.requires, ap length c.locates-locates.ensures.locates)
 
 pub give-requires : goal.give-requires
 give-requires g c =
@@ -63,7 +63,7 @@ loop-index-preserved g c =
     let road = YieldsList-from_enumerate {s = s} (YieldsList-from_vec {s = enumerate_source s} values items long) count in
     let turn = YieldsList-turn road c.loop-index.yielded c.loop-index.index-iterator c.loop-index.yielded_by c.next.result c.next.new.self (c.in-Some.index, v) c.in-Some.is c.next.ensures.steps in
     let here = value_at values at c.in-Some.index v turn.0 turn.1 in
-    let lt : at < length locates = omega (arith, here, c.requires, ap length c.locates-locates.ensures) in
+    let lt : at < length locates = omega (arith, here, c.requires, ap length c.locates-locates.ensures.locates) in
     let locate : c.from.result ≡ get_or locates at 0 = c.from.ensures ∙ ap (λ (k : ℕ). get_or locates k 0) here.1 in
     record {
       long = ap length c.in_ok-give.ensures ∙ length-set (map (λ own. own.items) c.loop-index.lists.items) _ _ ∙ c.loop-index.invariant.long;
@@ -91,7 +91,7 @@ returns-clause-order g c = λ f are.
     let count : enumerate_count s ≡ 0 = ap enumerate_count begun ∙ c.enumerate-index-items.ensures.count in
     let road = YieldsList-from_enumerate {s = s} (YieldsList-from_vec {s = enumerate_source s} values items long) count in
     let ends = YieldsList-end road c.loop-index.yielded c.loop-index.index-iterator c.loop-index.yielded_by c.next.result c.next.new.self c.in-None.is c.next.ensures.steps in
-    let all = take_all (length c.loop-index.yielded) locates (omega (arith, ends.1, length-enumerate_from 0 values, c.requires, ap length c.locates-locates.ensures)) ∙ c.locates-locates.ensures in
+    let all = take_all (length c.loop-index.yielded) locates (omega (arith, ends.1, length-enumerate_from 0 values, c.requires, ap length c.locates-locates.ensures.locates)) ∙ c.locates-locates.ensures.locates in
     let workers = c.workers-workers.ensures.workers in
     all_given f c.args.parts.now (map (λ own. own.items) c.loop-index.lists.items)
-    (rw (workers, all) at (c.loop-index.invariant.lists f (are ∙ ap (map f) (sym c.locates-locates.ensures))))
+    (rw (workers, all) at (c.loop-index.invariant.lists f (are ∙ ap (map f) (sym c.locates-locates.ensures.locates))))

@@ -9,7 +9,7 @@ pub loop-locate-init : goal.loop-locate-init
 loop-locate-init g c = λ f are. let some : 0 < c.args.parts.now.workers = omega (arith, c.workers-workers.ensures) in record {
   all = c.in_ok-all.ensures.items;
   left =
-      subst (λ (locates : List ℕ). ByOwner f c.args.parts.now.workers locates (map (λ own. own.items) c.in_ok-queues.queues.items)) (sym c.locates-locates.ensures)
+      subst (λ (locates : List ℕ). ByOwner f c.args.parts.now.workers locates (map (λ own. own.items) c.in_ok-queues.queues.items)) (sym c.locates-locates.ensures.locates)
       (all_left f c.args.parts.now _ some ((c.in_ok-queues.ensures {u = tt}) ∙ are));
 }
 
@@ -49,6 +49,6 @@ loop-locate-preserved g c = λ f are.
       left = left_by (λ v. v.items) f c.args.parts.now.workers locates at c.loop-locate.queues.items _ c.loop-locate-test.true before.left mine c.pop_front.new.self (cc);
     }
 
-pub returns-clause-order : goal.returns-clause-order
-returns-clause-order g c = λ f are.
-    (c.loop-locate.invariant f are).all ∙ ap (map f) (take_all c.loop-locate.locate-index c.locates-locates.result.now (omega arith) ∙ c.locates-locates.ensures)
+pub returns : goal.returns
+returns g c = λ f are.
+    (c.loop-locate.invariant f are).all ∙ ap (map f) (take_all c.loop-locate.locate-index c.locates-locates.result.now (omega arith) ∙ c.locates-locates.ensures.locates)

@@ -1,6 +1,6 @@
 use Rattle.std.proofs.Common.{rules}
 use Rattle.std.proofs.lemmas.List.Sorted.{IsPermutation-trans, IsNonDecreasingBy-from_sort_by_key}
-use Rattle.day_core.proofs.Refused.{in_order_are}
+use Rattle.day_replay.proofs.RefusedMessages.{in_order_are}
 use Rattle.day_replay.proofs.ending.all_refused.Goals as goal
 
 pub returns : goal.returns

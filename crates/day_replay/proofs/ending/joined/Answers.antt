@@ -3,17 +3,13 @@ use Rattle.std.specs.List.Sorted.{IsPermutation}
 use Rattle.std.proofs.lemmas.List.Sorted.{IsPermutation-refl}
 use Rattle.day_core.specs.declared.merging.Piece.{Piece}
 use Rattle.day_core.specs.Replaying.{refused_by, refused_of}
-use Rattle.day_core.specs.Splitting.{Split}
-use Rattle.day_core.proofs.Refused.{below_all, below_more, below_none, refused_below}
+use Rattle.day_replay.proofs.RefusedMessages.{below_all, below_more, below_none, refused_below}
 use Rattle.day_replay.proofs.WholeDay.{refused_are, refused_is}
 use Rattle.day_replay.proofs.ending.joined.Goals as goal
 
-abbrev split_of : List (List ℕ) → Split
-split_of day = record { day = day; workers = 128 }
-
 pub loop-batch-init : goal.loop-batch-init
 loop-batch-init g c = λ day has.
-    subst (λ ps. IsPermutation ps c.new-all.result.items) (sym (below_none (split_of day)))
+    subst (λ ps. IsPermutation ps c.new-all.result.items) (sym (below_none day 128))
     (subst (IsPermutation []) (sym c.new-all.ensures.items) (IsPermutation-refl _))
 
 pub loop-batch-preserved : goal.loop-batch-preserved
@@ -21,9 +17,9 @@ loop-batch-preserved g c = λ day has.
     let i = c.loop-batch.batch-index in
     let below : i < 128 = omega (arith, c.requires, c.loop-batch-test.true) in
     let b = c.batch-item.result in
-    let own : b.refused ≡ refused_by (split_of day) i = ap (λ b. b.refused) c.batch-item.is ∙ (has i b below).refused_are ∙ refused_is day i in
+    let own : b.refused ≡ refused_by day 128 i = ap (λ b. b.refused) c.batch-item.is ∙ (has i b below).refused_are ∙ refused_is day i in
     let items = (c.in_ok-extend_from_slice.ensures {u = tt}).items ∙ ap (λ (ps : List Piece). c.loop-batch.all.items ++ ps) (c.refused.ensures ∙ own) in
-    subst (IsPermutation (refused_below (split_of day) (i + 1))) (sym items) (below_more (split_of day) i c.loop-batch.all.items (c.loop-batch.invariant day has))
+    subst (IsPermutation (refused_below day 128 (i + 1))) (sym items) (below_more day 128 i c.loop-batch.all.items (c.loop-batch.invariant day has))
 
 pub returns : goal.returns
 returns g c = λ day has none.
@@ -31,4 +27,4 @@ returns g c = λ day has none.
     let done : c.loop-batch.batch-index ≡ 128 = omega (arith, c.requires, c.loop-batch-test.false) in
     let items = (c.in_ok-extend_from_slice-2.ensures {u = tt}).items ∙ ap (λ (ps : List Piece). all ++ ps) (c.refused-2.ensures ∙ ap (λ f. f.refused) none ∙ refused_are day) in
     subst (IsPermutation (refused_of day)) (sym items)
-    (below_all (split_of day) (omega arith) all (subst (λ (n : ℕ). IsPermutation (refused_below (split_of day) n) all) done (c.loop-batch.invariant day has)))
+    (below_all day 128 (omega arith) all (subst (λ (n : ℕ). IsPermutation (refused_below day 128 n) all) done (c.loop-batch.invariant day has)))

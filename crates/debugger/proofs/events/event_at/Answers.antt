@@ -2,7 +2,7 @@ use Rattle.std.proofs.Common.{length, ap, ◌∙◌, arith}
 use Rattle.std.specs.Prelude.{None, Some}
 use Rattle.itch_layouts.specs.Shapes.{shape_of}
 use Rattle.itch_table.specs.Projection.{event_with}
-use Rattle.day_core.proofs.Running.{payload_is}
+use Rattle.day_core.proofs.MachineSteps.{payload_is}
 use Rattle.debugger.specs.Sessions.{systems_of}
 use Rattle.debugger.proofs.Shown.{event_latest, is_event}
 use Rattle.debugger.proofs.events.event_at.Goals as goal

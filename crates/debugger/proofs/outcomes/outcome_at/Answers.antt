@@ -1,6 +1,6 @@
 use Rattle.std.proofs.Common.{◌≤◌, ◌-◌, List, ℕ, sym, ap, ◌∙◌, arith}
 use Rattle.day_core.specs.Owners.{machine_of}
-use Rattle.day_core.proofs.Running.{payload_is}
+use Rattle.day_core.proofs.MachineSteps.{payload_is}
 use Rattle.debugger.proofs.Shown.{outcome_few, outcome_fixed, outcome_own, outcome_takes}
 use Rattle.debugger.proofs.outcomes.outcome_at.Goals as goal
 

@@ -1,9 +1,11 @@
 use Rattle.std.proofs.Common.{All}
+use Rattle.stock_workers.specs.Working.{IsWorkerOf, places_of}
 use Rattle.top_cell.specs.Boards.{IsOn}
 use Rattle.test_workers.proofs.turns.follow.Given as goal
 
 abbrev pub invariant-loop-after : goal.invariant-loop-after
 invariant-loop-after g l = record {
-  worker : All (IsOn l.board) l.worker.places;
+  worker : IsWorkerOf l.day.payloads l.worker;
+  board : All (IsOn l.board) (places_of l.worker);
   screen : IsOn l.board l.screen.place;
 }

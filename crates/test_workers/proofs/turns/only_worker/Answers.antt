@@ -1,8 +1,16 @@
-use Rattle.test_workers.proofs.OnlyWorker.{on_board}
-use Rattle.day_core.specs.Workers.{first_state}
+use Rattle.std.proofs.Common.{List, ℕ, All, map, sym, ap, subst, ◌∙◌}
+use Rattle.std.proofs.lemmas.List.Elements.{All-map}
+use Rattle.day_core.specs.Owners.{own_locates}
+use Rattle.top_cell.specs.Boards.{IsOn}
+use Rattle.stock_workers.specs.Working.{Working, WritersAt, places_of}
 use Rattle.test_workers.proofs.turns.only_worker.Goals as goal
 
 pub returns-clause-worker : goal.returns-clause-worker
 returns-clause-worker g c =
-    let waiting = c.args.waiting in
-    on_board waiting.board waiting.writers.items c.in_ok-worker.worker (first_state c.args.parts.now 0) c.in_ok-worker.ensures c.requires.waits.on_board
+    c.in_ok-worker.ensures.of c.args.day.now.payloads c.requires.parts
+    (subst (λ (n : ℕ). WritersAt c.args.day.now.payloads (λ k. 0) (own_locates n 0 c.args.day.now.payloads) c.args.waiting.writers.items) (sym c.requires.one) c.requires.waits.none_done)
+
+pub returns-clause-board : goal.returns-clause-board
+returns-clause-board g c =
+    subst (λ (w : Working). All (IsOn c.args.waiting.board) (places_of w)) (sym c.in_ok-worker.ensures.first)
+    (All-map (IsOn c.args.waiting.board) (λ w. w.place) c.args.waiting.writers.items c.requires.waits.on_board)

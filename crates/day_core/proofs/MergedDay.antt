@@ -1,0 +1,160 @@
+-- The pieces of all workers and those of no stock make a day: each message has one.
+use Rattle.std.proofs.Common.{◌≡◌, ◌≢◌, ℕ, zero, suc, ◌+◌, ◌<◌, ◌≤◌, List, [], ◌∷◌, ◌++◌, length, Bool, true, false, cond, eqb, get_or, filter, map, take, drop, refl, sym, ap, ap₂, subst, ◌∙◌, arith, inl, inr}
+use Rattle.std.specs.List.{All, Contains, range_with_len, sum_by}
+use Rattle.std.proofs.lemmas.Bool.{cases_Bool, cases_eq, eq-eqb, ne_eqb}
+use Rattle.std.proofs.lemmas.Grind.{flat_map-append}
+use Rattle.std.proofs.lemmas.List.{append-nil, get_or-map, length-map, take-append-drop, take_more}
+use Rattle.std.proofs.lemmas.List.Elements.{All-append}
+use Rattle.std.proofs.lemmas.List.FromFn.{get_or-range_with_len, length-range_with_len}
+use Rattle.std.proofs.lemmas.List.Sums.{sum_by-cons}
+use Rattle.std.proofs.lemmas.Nat.{mod_below}
+use Rattle.itch_table.specs.declared.outcome.Outcome.{Outcome}
+use Rattle.itch_table.specs.declared.outcome.Outcome.TheVariants.{Passed}
+use Rattle.itch_table.specs.declared.outcome.Part.{Part}
+use Rattle.itch_table.specs.declared.outcome.Part.TheVariants.{Locate, Nowhere}
+use Rattle.itch_table.specs.After.{outcome, outcomes}
+use Rattle.day_core.specs.declared.merging.MergeFault.{MergeFault}
+use Rattle.day_core.specs.declared.merging.MergeFault.TheVariants.{Double, Memory, Missing, Stranger}
+use Rattle.day_core.specs.declared.merging.Piece.{Piece}
+use Rattle.day_core.specs.Merging.{IsMerged, IsMergeFault, joined, named}
+use Rattle.day_core.specs.Owners.{fixed_pieces, is_nowhere, is_own, own_of, owner, part_at, piece_of}
+use Rattle.day_core.specs.Replaying.{IsPieceOf, each_worker, pieces_by}
+use Rattle.day_core.proofs.Kept.{kept_within}
+use Rattle.day_core.proofs.Lists.{map_by_all}
+use Rattle.day_core.proofs.Merged.{named-append, named_push_same}
+use Rattle.day_core.proofs.Progress.{own_within}
+
+-- ---- sums that have one term
+
+sum_before : (g : ℕ → ℕ) (n a count : ℕ) → ((m : ℕ) → m ≢ n → g m ≡ 0) → n < a → sum_by g (range_with_len a count) ≡ 0
+sum_before g n a zero none lt = refl
+sum_before g n a (suc count) none lt =
+    omega (arith, sum_by-cons g a (range_with_len (a + 1) count), none a (λ e. omega (arith, e, lt)), sum_before g n (a + 1) count none (omega (arith, lt)))
+
+sum_of_one : (g : ℕ → ℕ) (n a count : ℕ) → ((m : ℕ) → m ≢ n → g m ≡ 0) → a ≤ n → n < a + count → sum_by g (range_with_len a count) ≡ g n
+sum_of_one g n a zero none le lt = absurd (omega (arith, le, lt))
+sum_of_one g n a (suc count) none le lt =
+    let first = sum_by-cons g a (range_with_len (a + 1) count) in
+    elim (cases_eq a n) [
+      | inl same ↦ omega (arith, first, sum_before g n (a + 1) count none (omega (arith, same)), ap g same)
+      | inr differ ↦ omega (arith, first, none a differ, sum_of_one g n (a + 1) count none (omega (arith, le, differ)) (omega (arith, lt)))
+    ]
+
+sum_of_kept : (p : ℕ → Bool) (g : ℕ → ℕ) (xs : List ℕ) → sum_by g (filter p xs) ≡ sum_by (λ m. cond (p m) (g m) 0) xs
+sum_of_kept p g [] = refl
+sum_of_kept p g (x ∷ xs) = one (p x) ∙ ap (λ (k : ℕ). cond (p x) (g x) 0 + k) (sum_of_kept p g xs) ∙ sym (sum_by-cons (λ m. cond (p m) (g m) 0) x xs)
+  where
+    one : (b : Bool) → sum_by g (cond b (x ∷ filter p xs) (filter p xs)) ≡ cond b (g x) 0 + sum_by g (filter p xs)
+    one true = sum_by-cons g x (filter p xs)
+    one false = omega arith
+
+-- ---- how often a message is named
+
+named_among : (day : List (List ℕ)) (n : ℕ) (xs : List ℕ) → named n (map (piece_of day) xs) ≡ sum_by (λ m. cond (eqb m n) 1 0) xs
+named_among day n [] = refl
+named_among day n (x ∷ xs) =
+    sum_by-cons (λ (p : Piece). cond (eqb p.message n) 1 0) (piece_of day x) (map (piece_of day) xs)
+    ∙ ap (λ (k : ℕ). cond (eqb x n) 1 0 + k) (named_among day n xs) ∙ sym (sum_by-cons (λ m. cond (eqb m n) 1 0) x xs)
+
+named_kept : (day : List (List ℕ)) (p : ℕ → Bool) (n : ℕ) → 1 ≤ n → n ≤ length day → ◌≡◌ {A = ℕ} (named n (map (piece_of day) (filter p (range_with_len 1 (length day))))) (cond (p n) 1 0)
+named_kept day p n some within =
+    named_among day n (filter p (range_with_len 1 (length day))) ∙ sum_of_kept p (λ m. cond (eqb m n) 1 0) (range_with_len 1 (length day))
+    ∙ sum_of_one (λ m. cond (p m) (cond (eqb m n) 1 0) 0) n 1 (length day) other some (omega (arith, within))
+    ∙ ap {B = ℕ} (λ (b : Bool). cond (p n) (cond b 1 0) 0) (eq-eqb n n refl)
+  where
+    nothing : (b : Bool) → cond {A = ℕ} b 0 0 ≡ 0
+    nothing true = refl
+    nothing false = refl
+
+    other : (m : ℕ) → m ≢ n → ◌≡◌ {A = ℕ} (cond (p m) (cond (eqb m n) 1 0) 0) 0
+    other m differ = ap {B = ℕ} (λ (b : Bool). cond (p m) (cond b 1 0) 0) (ne_eqb m n differ) ∙ nothing (p m)
+
+named_by_all : (f : ℕ → List Piece) (g : ℕ → ℕ) (n : ℕ) → ((k : ℕ) → named n (f k) ≡ g k) → (a count : ℕ) → named n (joined (map f (range_with_len a count))) ≡ sum_by g (range_with_len a count)
+named_by_all f g n are a zero = refl
+named_by_all f g n are a (suc count) =
+    named-append n (f a) (joined (map f (range_with_len (a + 1) count)))
+    ∙ ap₂ (λ (j k : ℕ). j + k) (are a) (named_by_all f g n are (a + 1) count) ∙ sym (sum_by-cons g a (range_with_len (a + 1) count))
+
+-- ---- the pieces of a day
+
+module _ (day : List (List ℕ)) (workers : ℕ) (some : 0 < workers) where
+  abbrev pub all_pieces : List (List Piece)
+  all_pieces = each_worker (pieces_by day workers) workers ++ fixed_pieces day ∷ []
+
+  own_named : (n : ℕ) → 1 ≤ n → n ≤ length day → (worker : ℕ) → named n (pieces_by day workers worker) ≡ cond (is_own workers worker (part_at day n)) 1 0
+  unfolding own_of
+  own_named n low high worker = named_kept day (λ m. is_own workers worker (part_at day m)) n low high
+
+  fixed_named : (n : ℕ) → 1 ≤ n → n ≤ length day → named n (fixed_pieces day) ≡ cond (is_nowhere (part_at day n)) 1 0
+  unfolding fixed_pieces
+  fixed_named n low high = named_kept day (λ m. is_nowhere (part_at day m)) n low high
+
+  one_owner : (p : Part) → sum_by (λ worker. cond (is_own workers worker p) 1 0) (range_with_len 0 workers) + cond (is_nowhere p) 1 0 ≡ 1
+  one_owner (Locate locate) =
+      let one = sum_of_one (λ worker. cond (eqb (owner workers locate) worker) 1 0) (owner workers locate) 0 workers
+      (λ m differ. ap {B = ℕ} (λ (b : Bool). cond b 1 0) (ne_eqb (owner workers locate) m (λ e. differ (sym e)))) (omega arith) (omega (arith, mod_below locate workers some)) in
+      omega (arith, one, ap {B = ℕ} (λ (b : Bool). cond b 1 0) (eq-eqb (owner workers locate) (owner workers locate) refl))
+  one_owner (Nowhere o) = omega (arith, sum_of_one (λ worker. 0) 0 0 workers (λ m differ. refl) (omega arith) (omega (arith, some)))
+
+  pub named_once : (n : ℕ) → 1 ≤ n → n ≤ length day → named n (joined all_pieces) ≡ 1
+  named_once n low high =
+      ap (named n) (flat_map-append (λ list. list) (each_worker (pieces_by day workers) workers) (fixed_pieces day ∷ []) ∙ ap (λ (ps : List Piece). joined (each_worker (pieces_by day workers) workers) ++ ps) (append-nil (fixed_pieces day)))
+      ∙ named-append n (joined (each_worker (pieces_by day workers) workers)) (fixed_pieces day)
+      ∙ ap₂ (λ (j k : ℕ). j + k)
+      (named_by_all (pieces_by day workers) (λ worker. cond (is_own workers worker (part_at day n)) 1 0) n (own_named n low high) 0 workers)
+      (fixed_named n low high)
+      ∙ one_owner (part_at day n)
+
+  -- each is of the day
+  of_day : (xs : List ℕ) → ((i : ℕ) → i < length xs → (1 ≤ get_or xs i 0) × (get_or xs i 0 ≤ length day)) → All (IsPieceOf day) (map (piece_of day) xs)
+  of_day xs within i d lt =
+      let room : i < length xs = omega (arith, lt, length-map xs (piece_of day)) in
+      rw (get_or-map (piece_of day) xs i 0 d room) (record { some = (within i room).0; within = (within i room).1; has = refl })
+
+  own_of_day : (worker : ℕ) → All (IsPieceOf day) (pieces_by day workers worker)
+  own_of_day worker = of_day (own_of workers worker day) (λ i lt. own_within workers worker day i 0 lt)
+
+  fixed_of_day : All (IsPieceOf day) (fixed_pieces day)
+  unfolding fixed_pieces
+  fixed_of_day = of_day _ (λ i lt. let in_range = kept_within (λ n. is_nowhere (part_at day n)) 1 (length day) i 0 lt in (omega (arith, in_range), omega (arith, in_range)))
+
+  by_workers : (a count : ℕ) → All (IsPieceOf day) (joined (map (pieces_by day workers) (range_with_len a count)))
+  by_workers a zero = λ i d lt. absurd (omega (arith, lt))
+  by_workers a (suc count) = All-append (IsPieceOf day) (pieces_by day workers a) _ (own_of_day a) (by_workers (a + 1) count)
+
+  all_of_day : All (IsPieceOf day) (joined all_pieces)
+  all_of_day =
+      subst (All (IsPieceOf day)) (sym (flat_map-append (λ list. list) (each_worker (pieces_by day workers) workers) (fixed_pieces day ∷ [])))
+      (All-append (IsPieceOf day) _ _ (by_workers 0 workers) (subst (All (IsPieceOf day)) (sym (append-nil (fixed_pieces day))) fixed_of_day))
+
+  contained : (p : Piece) → Contains (joined all_pieces) p → IsPieceOf day p
+  contained p has = subst (IsPieceOf day) has.2 (all_of_day has.0 p has.1)
+
+  -- ---- put together
+
+  pub merged_is : (found : List Outcome) → IsMerged (length day) (joined all_pieces) found → found ≡ outcomes day
+  merged_is found merged =
+      map_by_all (outcome day) (range_with_len 1 (length day)) found (merged.long ∙ sym (length-range_with_len 1 (length day)))
+      (λ k d lt.
+      let below : k < length day = omega (arith, lt, length-range_with_len 1 (length day)) in
+      let here : k + 1 ≡ get_or (range_with_len 1 (length day)) k 0 = omega (arith, get_or-range_with_len 1 (length day) k 0 below) in
+      (contained _ (merged.each k d below).1).has ∙ ap (outcome day) here)
+
+  pub only_memory : (fault : MergeFault) → IsMergeFault (length day) (joined all_pieces) fault → fault ≡ Memory
+  only_memory Memory is = refl
+  only_memory (Missing n) is = absurd (omega (arith, is.none, named_once n is.inside.0 is.inside.1))
+  only_memory (Double n) is =
+      let ps = joined all_pieces in
+      let none : Piece = record { message = 0; outcome = Passed } in
+      let faulty = is.faulty none in
+      let piece = get_or ps is.index none in
+      let again : named n (take (is.index + 1) ps) ≡ named n (take is.index ps) + 1 =
+      ap (named n) (take_more ps is.index none is.within) ∙ named_push_same n (take is.index ps) piece (sym faulty.0) in
+      let whole : named n ps ≡ named n (take (is.index + 1) ps) + named n (drop (is.index + 1) ps) =
+      ap (named n) (sym (take-append-drop (is.index + 1) ps)) ∙ named-append n (take (is.index + 1) ps) (drop (is.index + 1) ps) in
+      absurd (omega (arith, whole, again, faulty.2, named_once n faulty.1.0 faulty.1.1))
+  only_memory (Stranger n) is =
+      let none : Piece = record { message = 0; outcome = Passed } in
+      let faulty = is.faulty none in
+      let piece = all_of_day is.index none is.within in
+      absurd (faulty.1 (omega (arith, faulty.0, piece.some), omega (arith, faulty.0, piece.within)))
