@@ -1,15 +1,20 @@
 -- A worker of a day: before its first message, one message later, and after its last.
-use Rattle.std.proofs.Common.{◌≡◌, ◌≢◌, ℕ, ◌+◌, ◌-◌, ◌<◌, ◌≤◌, List, [], All, length, get_or, set, map, MatchOption, None, Option, Some, refl, sym, ap, ap₂, subst, ◌∙◌, arith}
+use Rattle.std.proofs.Common.{◌≡◌, ◌≢◌, ℕ, ◌+◌, ◌-◌, ◌^◌, ◌<◌, ◌≤◌, List, [], All, length, get_or, set, map, MatchOption, None, Option, Some, refl, sym, ap, ap₂, subst, ◌∙◌, arith}
 use Rattle.std.specs.Prelude.{IfSome, IsSome}
 use Rattle.std.specs.List.{Contains}
 use Rattle.std.proofs.Math.Seq.{map-set_same}
-use Rattle.std.proofs.lemmas.List.{get_or-map, length-map, length-set, map-set}
+use Rattle.std.proofs.lemmas.List.{get_or-map, length-map, map-set}
 use Rattle.itch_table.specs.declared.order.Top.{Top}
+use Rattle.itch_table.specs.declared.outcome.Outcome.{Outcome}
 use Rattle.itch_table.specs.declared.outcome.Part.TheVariants.{Locate}
+use Rattle.itch_table.specs.After.{outcome}
+use Rattle.itch_table.specs.Held.{one_stock}
 use Rattle.itch_table.specs.Levels.{top}
+use Rattle.itch_table.specs.Machine.{MayGrow}
 use Rattle.itch_table.specs.Parts.{part}
 use Rattle.itch_table.specs.Projection.{payload_at}
 use Rattle.itch_table.specs.Shows.{locates_of_day, top_after}
+use Rattle.itch_table.specs.Table.{step}
 use Rattle.itch_table.specs.World.{orders_of}
 use Rattle.itch_table.proofs.DayLocates.{rising}
 use Rattle.stock_machine.specs.StockRows.{StockMachine}
@@ -21,10 +26,15 @@ use Rattle.day_core.proofs.Codes.{code_once, code_owner, own_code_there, own_cod
 use Rattle.day_core.proofs.Dealt.{own_is}
 use Rattle.day_core.proofs.Lists.{map_same, map_set}
 use Rattle.day_core.proofs.MachineSteps.{machine_first, payload_is, top_is}
-use Rattle.day_core.proofs.NextMessage.{mine, next_stock, next_within, reached, stayed}
-use Rattle.day_core.proofs.Progress.{machine_last, progress_first, progress_last, progress_rises}
+use Rattle.day_core.proofs.NextMessage.{few_steps, grows, mine, next_stock, next_within, own_part, reached, stayed, stepped}
+use Rattle.day_core.proofs.Progress.{own_few, machine_last, progress_first, progress_last, progress_rises}
 use Rattle.top_cell.specs.Boards.{CellId, IsOn, WriterAt}
-use Rattle.stock_workers.specs.Working.{HasTurned, IsWorkerOf, MayGrowNext, Working, WriterState, WritersAt, codes_of, first_working, locates_in, messages_of, next_of, places_of, progress_in, stands, writer_state}
+use Rattle.stock_workers.specs.declared.worker.Next.{Next}
+use Rattle.stock_workers.specs.Working.{HasTurned, IsNext, IsWorkerOf, MayGrowNext, Working, WriterState, WritersAt, codes_of, first_working, locates_in, messages_of, next_of, places_of, progress_in, stands, writer_state}
+
+-- a worker of these parts
+abbrev pub working : DayParts → ℕ → ℕ → List StockMachine → List WriterAt → Working
+working parts worker done stocks writers = record { parts = parts; worker = worker; done = done; stocks = stocks; writers = writers }
 
 pub own_codes_are : (parts : DayParts) (workers worker : ℕ) (locates codes : List ℕ) → workers ≡ parts.workers → locates ≡ parts.locates → codes ≡ locates_by workers worker locates → codes ≡ locates_by parts.workers worker parts.locates
 own_codes_are parts workers worker locates codes same listed is = is ∙ ap₂ (λ (n : ℕ) (ls : List ℕ). locates_by n worker ls) same listed
@@ -210,6 +220,45 @@ module _ (day : List (List ℕ)) (w : Working) (is : IsWorkerOf day w) (place : 
           same_places = map-set_same (λ (v : WriterAt). v.place) w.writers place new t (ap (λ (v : WriterAt). v.place) (published ∙ ap (λ (v : WriterAt). let z : WriterAt = record v { message = n } in z) at));
           stands = stands_then;
         }
+
+-- ---- its next message
+
+module _ (day : List (List ℕ)) (w : Working) (is : IsWorkerOf day w) (next : Next) (to : IsNext day w next) where
+  pub next_in_day : (1 ≤ next.message) × (next.message ≤ length day)
+  next_in_day =
+      let within = next_within day w.parts.workers w.worker w.done to.more in
+      (omega (arith, within, to.message_is), omega (arith, within, to.message_is))
+
+  payload_next : (payload : List ℕ) → payload ≡ get_or day (next.message - 1) payload → payload ≡ payload_at day (next_of day w)
+  payload_next payload read = payload_is day next.message payload next_in_day.0 next_in_day.1 read ∙ ap (payload_at day) to.message_is
+
+  pub few_done : w.done < 2 ^ 32
+  few_done = omega (arith, to.more, own_few w.parts.workers w.worker day, is.parts_are.few)
+
+  -- the machine that takes it
+  module _ (m : StockMachine) (at : m ≡ get_or w.stocks next.place m) where
+    stood : m ≡ machine_of day (get_or (codes_of w) next.place 0) (progress_in day w (get_or (codes_of w) next.place 0))
+    stood = stock_stands day w is next.place to.listed m at
+
+    pub few : m.steps < 2 ^ 32 - 1
+    few = few_steps day w.parts.workers w.worker w.done to.more (get_or (codes_of w) next.place 0) to.stock_is m stood is.parts_are.few
+
+    module _ (payload : List ℕ) (read : payload ≡ get_or day (next.message - 1) payload) where
+      pub takes : part payload ≡ Locate m.locate
+      takes =
+          ap part (payload_next payload read)
+          ∙ own_part day w.parts.workers w.worker w.done to.more (get_or (codes_of w) next.place 0) to.stock_is m stood payload (payload_next payload read)
+
+      pub may_grow : MayGrow (one_stock m.locate m.world) payload → MayGrowNext day w
+      may_grow may = record {
+        more = to.more;
+        adds = grows day w.parts.workers w.worker w.done to.more (get_or (codes_of w) next.place 0) to.stock_is m stood payload (payload_next payload read) may;
+      }
+
+      pub took : (after : StockMachine) (o : Outcome) → after.locate ≡ m.locate → after.steps ≡ m.steps + 1 → (o, after.world) ≡ step m.world payload
+          → (after ≡ machine_of day (get_or (codes_of w) next.place 0) (next_of day w)) × (o ≡ outcome day (next_of day w))
+      took after o same steps gives =
+          stepped day w.parts.workers w.worker w.done to.more (get_or (codes_of w) next.place 0) to.stock_is m stood after o payload (payload_next payload read) same steps gives
 
 -- ---- after the last message
 

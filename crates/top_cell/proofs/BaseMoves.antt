@@ -1,27 +1,21 @@
 -- Opening a cell, and what splits a view and joins two.
-use Rattle.std.proofs.Common.{◌≡◌, ◌≢◌, ◌⊎◌, ℕ, zero, suc, ◌≤◌, max, List, [], ◌∷◌, ◌++◌, length, set, Some, None, inl, inr, refl, sym, ap, ◌∙◌, subst, ⊎_elim, arith, zero-le, length-append, length-set}
+use Rattle.std.proofs.Common.{◌≡◌, ◌⊎◌, ℕ, zero, suc, ◌≤◌, max, List, [], ◌∷◌, ◌++◌, length, set, Some, None, inl, inr, refl, sym, ap, ◌∙◌, subst, ⊎_elim, arith, zero-le, length-append, length-set}
 use Rattle.std.proofs.lemmas.List.{get_or_past}
 use mathlib.Core.Option.{some, some-ne-none, some-injective}
 use lib.ListN.{get_elem?}
-use Rattle.atomic_table.specs.Table.{Splits, Joins}
-use Rattle.atomic_table.proofs.Lists.{at_last, at_longer, at_set, set_again, set_else}
+use Rattle.atomic_table.specs.Table.{Allows, Joins, Me, Splits, keeps}
+use Rattle.atomic_table.proofs.Lists.{at_longer, set_again, set_else}
 use Rattle.itch_table.proofs.Tops.{zeros_at_first}
-use Rattle.top_cell.specs.Rule.{IsAboveNoteOrNow, ShowsOf, Sees, Fits, IsOpen, CellHolds, new_cell, open_cell, CellRule, new_sight, note_of, sight}
-use Rattle.top_cell.specs.Opens.{first_view}
+use Rattle.top_cell.specs.Rule.{IsAboveNoteOrNow, Sees, Fits, IsOpen, CellHolds, new_cell, open_cell, CellRule, Turns, new_sight, note_of, sight, zeros}
+use Rattle.top_cell.specs.Opens.{Opened, first_view}
 use Rattle.top_cell.specs.Splits.{screen_beside}
 use Rattle.top_cell.specs.Joins.{joined}
-use Rattle.top_cell.proofs.Views.{Finds, open_at, all_fit, writer_stays, with_views, screen_turns}
+use Rattle.top_cell.proofs.Views.{Finds, open_at, all_fit, writer_stays, with_views, screen_turns, unmoved}
 use Rattle.top_cell.specs.declared.rule.DayStock.{DayStock}
 use Rattle.top_cell.specs.declared.rule.Rest.{Rest}
 use Rattle.top_cell.specs.declared.rule.Sight.{Sight}
 use Rattle.top_cell.specs.declared.rule.View.{View}
 use Rattle.top_cell.specs.declared.rule.View.TheVariants.{Unopened, WriterOf, ScreenOf, Spent}
-
-shows_zero : (s : DayStock) → ShowsOf s 0 (0 ∷ 0 ∷ 0 ∷ 0 ∷ [])
-shows_zero s = zeros_at_first s.day s.locate
-
-unopened_says : Unopened ≡ Spent → ⊥
-unopened_says e = cc
 
 no_words : (words : List ℕ) → None ≡ Some words → ⊥
 no_words words e = cc
@@ -33,47 +27,33 @@ at_end [] a b (suc j) e = absurd (some-ne-none b (sym e))
 at_end (x ∷ xs) a b zero e = inl e
 at_end (x ∷ xs) a b (suc j) e = ⊎_elim inl (λ t. inr (ap suc t.0, t.1)) (at_end xs a b j e)
 
--- a seat more at which nothing is known
-pub one_spent_more : (words : List ℕ) (views : List View) → CellHolds words views → CellHolds words (views ++ Spent ∷ [])
-one_spent_more words views (new_cell n) = new_cell record {
-  opener = n.opener;
-  zeros = n.zeros;
-  each = λ j u e. ⊎_elim (n.each j u) (λ t. inr (sym t.1)) (at_end views Spent u j e);
+-- a new cell is opened at its first seat
+first_fits : (s : DayStock) (j : ℕ) (u : View) → get_elem? (first_view s ∷ []) j ≡ some u → Fits s 0 (0 ∷ 0 ∷ 0 ∷ 0 ∷ []) 0 0 [] j u
+first_fits s zero u e = subst (Fits s 0 (0 ∷ 0 ∷ 0 ∷ 0 ∷ []) 0 0 [] 0) (some-injective (first_view s) u e) (refl, refl, refl, refl, refl)
+first_fits s (suc j) u e = absurd (some-ne-none u (sym e))
+
+opened_at : (id : ℕ) (s : DayStock) → get_elem? (Unopened ∷ []) id ≡ some Unopened → CellHolds zeros (set (Unopened ∷ []) id (first_view s))
+opened_at zero s at = open_cell record {
+  stock = s;
+  count = 0;
+  shown = 0 ∷ 0 ∷ 0 ∷ 0 ∷ [];
+  number = 0;
+  writer = 0;
+  noted = [];
+  are = refl;
+  four = refl;
+  at_rest = λ _. (zeros_at_first s.day s.locate, zero-le);
+  one_writer = (first_view s, refl, refl);
+  few_noted = zero-le;
+  each = first_fits s;
 }
-one_spent_more words views (open_cell o) =
-    with_views words views (views ++ Spent ∷ []) o (o.one_writer.0, at_longer views (Spent ∷ []) o.writer o.one_writer.0 o.one_writer.1, o.one_writer.2)
-    (omega (arith, length-append views (Spent ∷ [])))
-    (λ j u e. ⊎_elim (o.each j u) (λ t. subst (Fits o.stock o.count o.shown o.number o.writer o.noted j) t.1 tt) (at_end views Spent u j e))
+opened_at (suc id) s at = absurd (some-ne-none Unopened (sym at))
 
--- a cell is opened at a seat of its own
-pub opened_beside : (stock : DayStock) (words : List ℕ) (views : List View) (id : ℕ) → CellHolds words views → get_elem? views id ≡ some Unopened → CellHolds words (set views id Spent ++ first_view stock ∷ [])
-opened_beside stock words views id (new_cell n) at =
-    let end = length (set views id Spent) in
-    open_cell record {
-      stock = stock;
-      count = 0;
-      shown = 0 ∷ 0 ∷ 0 ∷ 0 ∷ [];
-      number = 0;
-      writer = end;
-      noted = [];
-      are = n.zeros;
-      four = refl;
-      at_rest = λ _. (shows_zero stock, zero-le);
-      one_writer = (first_view stock, at_last (set views id Spent) (first_view stock) end refl, refl);
-      few_noted = zero-le;
-      each = λ j u e. ⊎_elim
-          (λ was. ⊎_elim (λ t. subst (Fits stock 0 (0 ∷ 0 ∷ 0 ∷ 0 ∷ []) 0 end [] j) t.1 tt) (λ t. others j u t.0 t.1) (at_set views id j Spent u was))
-          (λ t. subst (Fits stock 0 (0 ∷ 0 ∷ 0 ∷ 0 ∷ []) 0 end [] j) t.1 (sym t.0, refl, refl, refl, refl))
-          (at_end (set views id Spent) (first_view stock) u j e);
-    }
-  where
-    opener : id ≡ n.opener
-    opener = ⊎_elim (λ t. t.0) (λ e. absurd (unopened_says e)) (n.each id Unopened at)
-
-    others : (j : ℕ) (u : View) → j ≢ id → get_elem? views j ≡ some u → Fits stock 0 (0 ∷ 0 ∷ 0 ∷ 0 ∷ []) 0 (length (set views id Spent)) [] j u
-    others j u apart e =
-        ⊎_elim (λ t. absurd (apart (t.0 ∙ sym opener))) (λ is. subst (Fits stock 0 (0 ∷ 0 ∷ 0 ∷ 0 ∷ []) 0 (length (set views id Spent)) [] j) (sym is) tt) (n.each j u e)
-opened_beside stock words views id (open_cell o) at = absurd (o.each id Unopened at)
+opens_at : (words : List ℕ) (views : List View) (id : ℕ) (s : DayStock) → CellHolds words views → get_elem? views id ≡ some Unopened → CellHolds words (set views id (first_view s))
+opens_at words views id s (new_cell are only) at =
+    subst (λ (z : List ℕ × List View). CellHolds z.0 (set z.1 id (first_view s))) (λ i. (sym are i, sym only i))
+    (opened_at id s (subst (λ (vs : List View). get_elem? vs id ≡ some Unopened) only at))
+opens_at words views id s (open_cell o) at = absurd (o.each id Unopened at)
 
 -- a new screen has found nothing, and nothing is noted of its seat
 finds_new : (noted : List Sight) (seat count number n : ℕ) → length noted ≤ seat → Finds count number (note_of noted seat) (new_sight n)
@@ -105,6 +85,9 @@ screen_goes words views id s v at h =
     (all_fit (Fits o.stock o.count o.shown o.number o.writer o.noted) views id Spent tt (λ j u _ e. o.each j u e))
 
 module _ {S : Type 0} where
+  pub opens : (slots id : ℕ) (s : DayStock) (c : List (ℕ × S)) → Allows CellRule slots id (Unopened, c) 0 (λ n. n) (λ _ m. Turns (Opened s) (Unopened, c) m)
+  opens slots id s c st h _ at _ = (first_view s, keeps, tt, unmoved st id c (first_view s) 0 (opens_at st.words st.views id s h at), (refl, refl))
+
   pub writer_splits : (id : ℕ) (s : DayStock) (own : Rest) → Splits {S = S} CellRule id (WriterOf s own) (WriterOf s own) (ScreenOf s (new_sight own.number))
   writer_splits id s own st h at =
       let o = open_at st.words st.views id (WriterOf s own) refl h at in
@@ -129,6 +112,9 @@ module _ {S : Type 0} where
       ⊎_elim (λ t. inl (t.0, omega (arith, t.1))) (λ t. inr (t.0, omega (arith, t.1, theirs.below))) mine.won in
       let sees : Sees o.count o.shown o.number note both = record { below = omega (arith, mine.below, theirs.below); last = mine.last; began = mine.began; even = mine.even; fit = mine.fit; looked = mine.looked; tried = mine.tried; won = won } in
       screen_goes st.words (set st.views id (ScreenOf s both)) other t w there (screen_turns st.words st.views id s v both o at sees)
+
+  pub opens_as : (slots id : ℕ) (me : Me S View) (s : DayStock) → me ≡ (Unopened, []) → Allows CellRule slots id me 0 (λ n. n) (λ _ m. Turns (Opened s) me m)
+  opens_as slots id me s is = subst (λ (z : Me S View). Allows CellRule slots id z 0 (λ n. n) (λ _ m. Turns (Opened s) z m)) (sym is) (opens slots id s [])
 
   pub writer_splits_as : (id : ℕ) (v : View) (s : DayStock) (own : Rest) → v ≡ WriterOf s own → Splits {S = S} CellRule id v v (screen_beside v)
   writer_splits_as id v s own is = subst (λ u. Splits {S = S} CellRule id u u (screen_beside u)) (sym is) (writer_splits id s own)

@@ -3,7 +3,5 @@ pub mod Shown
 pub mod WriterSteps
 pub mod ReaderSteps
 pub mod BaseMoves
-pub mod Cells
-pub mod SeatSteps
 pub mod TriesTold
 pub mod Places

@@ -7,8 +7,7 @@ use Rattle.atomic_table.specs.Seated.{TableId}
 use Rattle.itch_table.specs.Shows.{locates_of_day}
 use Rattle.itch_table.proofs.DayLocates.{rising}
 use Rattle.std.proofs.lemmas.List.Kept.{AllPairs-from_increasing}
-use Rattle.top_cell.specs.Boards.{CellId, WriterAt, AreApart, AreNew, IsOn, cell_id, cells_of, new_writer, place}
-use Rattle.top_cell.specs.Cells.{HasCells}
+use Rattle.top_cell.specs.Boards.{CellId, WriterAt, AreApart, AreNew, IsOn, new_writer, place}
 use Rattle.top_cell.specs.Seats.{CellSeat, IsSeatOf}
 
 -- ---- items of lists
@@ -38,18 +37,10 @@ within (z ∷ zs) (suc k) x e = omega (arith, within zs k x e)
 
 -- ---- cells of a board
 
--- a seat of a writer or of a screen, on its board
-pub seat_on : (board : List CellId) (table : TableId) (cells : ℕ) (seat : CellSeat) → IsOn board (place seat)
-    → ((index : ℕ) (cell : CellId) → slice_get board index ≡ Some cell → cell.table ≡ table) → cells ≡ length board
-    → HasCells table cells → IsSeatOf table cells seat
-seat_on board table cells seat on of count words =
-    (of _ _ on, omega (arith, count, within board seat.index _ on), words)
-
--- all cells of a board are in one table
-pub of_table : (table : TableId) (locates : List ℕ) (index : ℕ) (cell : CellId) → slice_get (cells_of table locates) index ≡ Some cell → cell.table ≡ table
-of_table table [] index cell e = absurd (cc)
-of_table table (l ∷ ls) zero cell e = let same : Some (cell_id l table) ≡ Some cell = e in cc
-of_table table (l ∷ ls) (suc index) cell e = of_table table ls index cell e
+-- the cell of a seat, by what a board says of the cell at an index
+pub seat_on : (board : List CellId) (table : TableId) (seat : CellSeat) (index : ℕ) → IsOn board (place seat index)
+    → ((cell : CellId) → slice_get board index ≡ Some cell → table ≡ cell.table) → table.words ≡ 5 → IsSeatOf table seat
+seat_on board table seat index on is five = (sym (is _ on), five)
 
 -- ---- cells that are apart
 
@@ -77,12 +68,9 @@ day_apart day board writers new = apart board (subst (AllPairs (λ a b. a < b)) 
 
 -- ---- new boards
 
-module _ (day : List (List ℕ)) (locates : List ℕ) (board : List CellId) (writers : List WriterAt) (locate : ℕ) (table : TableId) (new : AreNew day locates board writers) where
-  abbrev cell : CellId
-  cell = cell_id locate table
-
+module _ (day : List (List ℕ)) (locates : List ℕ) (board : List CellId) (writers : List WriterAt) (cell : CellId) (new : AreNew day locates board writers) where
   abbrev w : WriterAt
-  w = new_writer day locate (length writers) cell
+  w = new_writer day cell.locate (length writers) cell
 
   each : (k : ℕ) (u : WriterAt) → slice_get (writers ++ w ∷ []) k ≡ Some u
       → (u ≡ new_writer day u.place.locate k u.place.cell) × IsOn (board ++ cell ∷ []) u.place
@@ -95,22 +83,31 @@ module _ (day : List (List ℕ)) (locates : List ℕ) (board : List CellId) (wri
       (at_push writers w u k e)
 
   -- one cell more, and its writer
-  pub one_more : AreNew day (locates ++ locate ∷ []) (board ++ cell ∷ []) (writers ++ w ∷ [])
+  one_more : AreNew day (locates ++ cell.locate ∷ []) (board ++ cell ∷ []) (writers ++ w ∷ [])
   one_more = record {
-    stocks = map-append (λ u. u.place.locate) writers (w ∷ []) ∙ ap (λ l. l ++ locate ∷ []) new.stocks;
-    cells = map-append (λ c. c.locate) board (cell ∷ []) ∙ ap (λ l. l ++ locate ∷ []) new.cells;
+    stocks = map-append (λ u. u.place.locate) writers (w ∷ []) ∙ ap (λ l. l ++ cell.locate ∷ []) new.stocks;
+    cells = map-append (λ c. c.locate) board (cell ∷ []) ∙ ap (λ l. l ++ cell.locate ∷ []) new.cells;
     long = omega (arith, new.long, length-append writers (w ∷ []), length-append board (cell ∷ []));
     each = each;
   }
 
+-- no cells
+pub none_new : (day : List (List ℕ)) (board : List CellId) (writers : List WriterAt) → board ≡ [] → writers ≡ [] → AreNew day [] board writers
+none_new day board writers b ws = subst (λ (z : List CellId × List WriterAt). AreNew day [] z.0 z.1) (λ i. (sym b i, sym ws i)) (record {
+  stocks = refl;
+  cells = refl;
+  long = refl;
+  each = λ k w e. let none : slice_get [] k ≡ Some w = e in absurd (cc);
+})
+
 -- the same, of lists that came to be so
-pub more_new : (day : List (List ℕ)) (locates locates' : List ℕ) (board board' : List CellId) (writers writers' : List WriterAt) (locate index : ℕ) (table : TableId) (w : WriterAt)
-    → AreNew day locates board writers → index ≡ length board → w ≡ new_writer day locate index (cell_id locate table)
-    → locates' ≡ locates ++ locate ∷ [] → board' ≡ board ++ cell_id locate table ∷ [] → writers' ≡ writers ++ w ∷ []
+pub more_new : (day : List (List ℕ)) (locates locates' : List ℕ) (board board' : List CellId) (writers writers' : List WriterAt) (locate index : ℕ) (cell : CellId) (w : WriterAt)
+    → AreNew day locates board writers → index ≡ length writers → cell.locate ≡ locate → w ≡ new_writer day locate index cell
+    → locates' ≡ locates ++ locate ∷ [] → board' ≡ board ++ cell ∷ [] → writers' ≡ writers ++ w ∷ []
     → AreNew day locates' board' writers'
-more_new day locates locates' board board' writers writers' locate index table w new at is l b ws =
-    let cell = cell_id locate table in
-    let same : index ≡ length writers = at ∙ new.long in
-    let last : writers' ≡ writers ++ new_writer day locate (length writers) cell ∷ [] = ws ∙ ap (λ (u : WriterAt). writers ++ u ∷ []) (is ∙ ap (λ (k : ℕ). new_writer day locate k cell) same) in
-    subst (λ (z : List ℕ × (List CellId × List WriterAt)). AreNew day z.0 z.1.0 z.1.1) (λ i. (sym l i, (sym b i, sym last i)))
-    (one_more day locates board writers locate table new)
+more_new day locates locates' board board' writers writers' locate index cell w new at of is l b ws =
+    let more = l ∙ ap (λ (n : ℕ). locates ++ n ∷ []) (sym of) in
+    let last : writers' ≡ writers ++ new_writer day cell.locate (length writers) cell ∷ [] =
+    ws ∙ ap (λ (u : WriterAt). writers ++ u ∷ []) (is ∙ (λ i. new_writer day (sym of i) (at i) cell)) in
+    subst (λ (z : List ℕ × (List CellId × List WriterAt)). AreNew day z.0 z.1.0 z.1.1) (λ i. (sym more i, (sym b i, sym last i)))
+    (one_more day locates board writers cell new)

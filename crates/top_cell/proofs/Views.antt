@@ -20,10 +20,15 @@ says (Writing s x) = true
 says (ScreenOf s v) = true
 says Spent = false
 
+-- what is known of a cell that isn't opened yet
+only_unopened : (seat : ℕ) (v : View) → get_elem? (Unopened ∷ []) seat ≡ some v → v ≡ Unopened
+only_unopened zero v e = sym (some-injective Unopened v e)
+only_unopened (suc seat) v e = absurd (some-ne-none v (sym e))
+
 -- a view that says something is a view of a cell that is open
 pub open_at : (words : List ℕ) (views : List View) (seat : ℕ) (v : View) → says v ≡ true → CellHolds words views → get_elem? views seat ≡ some v → IsOpen words views
-open_at words views seat v does (new_cell n) at =
-    absurd (⊎_elim (λ t. true≢false (sym does ∙ ap says t.1)) (λ e. true≢false (sym does ∙ ap says e)) (n.each seat v at))
+open_at words views seat v does (new_cell _ only) at =
+    absurd (true≢false (sym does ∙ ap says (only_unopened seat v (subst (λ (vs : List View). get_elem? vs seat ≡ some v) only at))))
 open_at words views seat v does (open_cell o) at = o
 
 pub set_there : (l : List View) (i : ℕ) (a b : View) → get_elem? l i ≡ some a → get_elem? (set l i b) i ≡ some b

@@ -2,10 +2,9 @@
 use Rattle.std.specs.Prelude.{◌≡◌, ℕ, List, Some, length, map, slice_get}
 use Rattle.atomic_table.specs.Seated.{TableId}
 use Rattle.top_cell.specs.Rule.{stock_of}
-use Rattle.top_cell.specs.Cells.{HasCells}
 use Rattle.top_cell.specs.Seats.{CellSeat}
 
--- a cell: the locate code of its stock, and the identity of its board's table
+-- a cell: the locate code of its stock, and the identity of its table
 pub record CellId : Type 0 where
   pub locate : ℕ
   pub table : TableId
@@ -30,7 +29,7 @@ pub record ChangeAt : Type 0 where
   pub to : ℕ
   pub put : ℕ
 
--- a screen, which stands at a message: its seat on the board's table, how often it has loaded the count or a word
+-- a screen, which stands at a message: its seat at the cell, how often it has loaded the count or a word
 -- there, how often it has loaded the count, has begun a try and has won one, the last count that it has loaded, and
 -- the even one at which its last try began
 pub record ScreenAt : Type 0 where
@@ -44,22 +43,17 @@ pub record ScreenAt : Type 0 where
   pub last : ℕ
   pub began : ℕ
 
--- the cell of a stock on a table
 abbrev pub cell_id : ℕ → TableId → CellId
 cell_id locate table = record { locate = locate; table = table }
 
--- the cell of a seat
-abbrev pub place : CellSeat → Place
-place seat = record {
+-- the cell of a seat, at an index on its board
+abbrev pub place : CellSeat → ℕ → Place
+place seat index = record {
   day = (stock_of seat.me.0).day;
   locate = (stock_of seat.me.0).locate;
-  index = seat.index;
+  index = index;
   cell = cell_id (stock_of seat.me.0).locate seat.table_id;
 }
-
--- the cells of these stocks, in one table
-abbrev pub cells_of : TableId → List ℕ → List CellId
-cells_of table locates = map (λ locate. cell_id locate table) locates
 
 -- the cell is one of this board
 abbrev pub IsOn : List CellId → Place → Type 0
@@ -70,11 +64,6 @@ abbrev pub AreApart : List CellId → Type 0
 AreApart board =
     (i j : ℕ) (c d : CellId) → slice_get board i ≡ Some c → slice_get board j ≡ Some d
     → c.locate ≡ d.locate → i ≡ j
-
--- the table has a cell for each of these stocks, which are told apart by their locate codes
-abbrev pub IsBoard : TableId → ℕ → List ℕ → Type 0
-IsBoard table count locates =
-    AreApart (cells_of table locates) × (count ≡ length locates) × HasCells table count
 
 -- a screen that stands at a message and has made no loads, at a seat
 abbrev pub new_screen : Place → ℕ → ℕ → ScreenAt

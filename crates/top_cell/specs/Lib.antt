@@ -1,5 +1,4 @@
 pub mod Rule
-pub mod Cells
 pub mod Opens
 pub mod WriterBegins
 pub mod WriterPuts

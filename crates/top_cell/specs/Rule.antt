@@ -16,6 +16,10 @@ use Rattle.top_cell.specs.declared.rule.View.TheVariants.{Unopened, WriterOf, Wr
 abbrev pub day_stock : List (List ℕ) → ℕ → DayStock
 day_stock day locate = record { day = day; locate = locate }
 
+-- the count and the four words of a cell that isn't opened yet
+abbrev pub zeros : List ℕ
+zeros = 0 ∷ 0 ∷ 0 ∷ 0 ∷ 0 ∷ []
+
 -- the number of messages that four words are of
 abbrev pub number_in : List ℕ → ℕ
 number_in words = slice_index words 0
@@ -125,16 +129,9 @@ pub record IsOpen (words : List ℕ) (views : List View) : Type 0 where
   pub each : (seat : ℕ) (v : View) → get_elem? views seat ≡ some v
       → Fits stock count shown number writer noted seat v
 
--- a cell that isn't opened yet: it has five zeros, and nothing is known at any seat, but at one that it isn't opened
-pub record IsNew (words : List ℕ) (views : List View) : Type 0 where
-  pub opener : ℕ
-  pub zeros : words ≡ 0 ∷ 0 ∷ 0 ∷ 0 ∷ 0 ∷ []
-  pub each : (seat : ℕ) (v : View) → get_elem? views seat ≡ some v
-      → ((seat ≡ opener) × (v ≡ Unopened)) ⊎ (v ≡ Spent)
-
--- the words and the views of a cell: it isn't opened yet, or it is open
+-- the words and the views of a cell: it isn't opened yet, has zeros and one seat, or it is open
 pub data CellHolds (words : List ℕ) (views : List View) : Type 0 where
-  new_cell : IsNew words views → CellHolds words views
+  new_cell : words ≡ zeros → views ≡ Unopened ∷ [] → CellHolds words views
   open_cell : IsOpen words views → CellHolds words views
 
 -- the rule of a cell

@@ -25,7 +25,6 @@
 //! }
 //! ```
 //!
-//! [`Board::of_stocks`] is [`Board::new`] where the day is split already: it takes `parts.locates()` of `day_core`.
 //! [`Screen::read`] takes `rt`, since it may wait; [`Screen::glance`] makes a bounded number of loads.
 //! [`TopWriter::screen`] makes a screen, and [`Screen::split`] a further one.
 //!
@@ -37,7 +36,6 @@ mod kinds;
 mod reading;
 mod rule;
 mod screen;
-mod seat;
 pub mod steps;
 mod trying;
 mod writer;

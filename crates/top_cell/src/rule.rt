@@ -1,5 +1,5 @@
-//! The rule of a board's cells, and what the writer and the screens of a cell know.
-use atomic_table::{Shared, Table, TableRule};
+//! The rule of a cell, and what its writer and its screens know.
+use atomic_table::{Shared, TableRule};
 use std::collections::LinkedList;
 
 /// A stock of a day. No value of it is made.
@@ -50,32 +50,27 @@ pub enum View {
     Writing(DayStock, Change),
     /// A screen's: its stock, and what it knows of the cell.
     ScreenOf(DayStock, Sight),
-    /// Nothing: the seat is of another cell, or isn't used any more.
+    /// Nothing: the seat isn't used any more.
     Spent,
 }
 
-/// What is known at one seat of a board. No value of it is made.
-pub enum Standing {
-    /// At the first seat: that the cells from this index on aren't opened yet.
-    Opener(u64),
-    /// Of the cell at this index.
-    At(u64, View),
+/// The rule that every step of a cell keeps.
+pub struct CellRule;
+
+impl TableRule<(), View, ()> for CellRule {
+    ghost use Rattle.top_cell.specs.Rule.{CellRule};
+    ghost use Rattle.top_cell.specs.declared.rule.View.TheVariants.{Unopened};
+
+    ghost holds = { λ _. CellRule };
+
+    ghost first = { λ _. Unopened };
 }
 
-/// The rule that every step of a board keeps.
-pub struct BoardRule;
-
-impl TableRule<(), Standing, u64> for BoardRule {
-    ghost use Rattle.top_cell.specs.Cells.{BoardRule};
-    ghost use Rattle.top_cell.specs.declared.rule.Standing.TheVariants.{Opener};
-
-    ghost holds = { BoardRule };
-
-    ghost first = { λ _. Opener 0 };
-}
-
-/// The words of all cells of a board, as all threads see them. They are given how many cells there are.
-pub type Words = Shared<(), Standing, u64, BoardRule>;
+/// The count and the words of a cell, as all threads see them.
+pub type SharedCell = Shared<(), View, (), CellRule>;
 
 /// The same with their memory.
-pub type Cells<A> = Table<(), Standing, u64, BoardRule, A>;
+pub type CellTable<A> = atomic_table::Table<(), View, (), CellRule, A>;
+
+/// What a writer or a screen holds of its cell: its place there, and what is known of the cell.
+pub type Seat = atomic_table::Seat<(), View>;

@@ -5,8 +5,10 @@ ghost use Rattle.top_cell.specs.Boards.{IsOn, new_screen};
 ghost use Rattle.top_cell.specs.Readings.{words_read};
 
 use crate::board::Board;
+use crate::kinds::joins::Joins;
+use crate::kinds::splits::Splits;
 use crate::reading::Reading;
-use crate::seat::Seat;
+use crate::rule::Seat;
 use crate::trying::try_times;
 use std::alloc::Allocator;
 use std::marker::Model;
@@ -21,6 +23,7 @@ use std::sync::Wait;
 #[derive(Drop)]
 pub struct Screen {
     pub(crate) seat: Seat,
+    pub(crate) index: u16,
     pub(crate) locate: u16,
     pub(crate) message: u32,
 }
@@ -33,7 +36,7 @@ impl Model for Screen {
     ghost Value = { ScreenAt };
 
     ghost view = { λ s. record {
-      place = place s.seat;
+      place = place s.seat s.index;
       seat = s.seat.id;
       message = s.message;
       loads = (sight_of s.seat.me.0).loads;
@@ -104,7 +107,7 @@ impl Screen {
         ensures even { IfOk result (λ _. (self.new.last ≡ self.new.began) × (self.new.last % 2 ≡ 0)) }
         ensures loads { (self.old.loads < self.new.loads) × (self.new.loads ≤ self.old.loads + 6 * tries) }
     {
-        match try_times(board.cells(), &mut self.seat, tries) {
+        match try_times(board.cell(self.index), &mut self.seat, tries) {
             Ok(words) => {
                 let reading = Reading::of(&words);
                 self.message = reading.message;
@@ -146,8 +149,10 @@ impl Screen {
         ensures same { self.new ≡ self.old }
         ensures screen { result ≡ new_screen self.old.place self.old.message result.seat }
     {
+        let cell = board.cell(self.index);
         Screen {
-            seat: self.seat.split(board.cells()),
+            seat: cell.split_seat::<Splits>(&mut self.seat),
+            index: self.index,
             locate: self.locate,
             message: self.message,
         }
@@ -163,10 +168,12 @@ impl Screen {
     {
         let Screen {
             seat,
+            index: _,
             locate: _,
             message,
         } = other;
-        self.seat.join(board.cells(), seat);
+        let cell = board.cell(self.index);
+        cell.join_seat::<Joins>(&mut self.seat, seat);
         self.message = self.message.max(message);
     }
 }

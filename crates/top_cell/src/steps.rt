@@ -5,7 +5,7 @@ ghost use Rattle.itch_table.specs.Shows.{top_after};
 ghost use Rattle.top_cell.specs.Boards.{IsOn};
 
 use crate::board::Board;
-use crate::seat::Seat;
+use crate::rule::Seat;
 use crate::writer::TopWriter;
 use crate::writing::{begin_write, end_write, put_word};
 use itch_table::Top;
@@ -18,6 +18,7 @@ use std::marker::{Brand, Model};
 /// it changes the cell, and how many of the four words it has put.
 pub struct Opened {
     seat: Seat,
+    index: u16,
     locate: u16,
     message: u32,
     words: [u64; 4],
@@ -32,7 +33,7 @@ impl Model for Opened {
     ghost Value = { ChangeAt };
 
     ghost view = { λ w. record {
-      place = place w.seat;
+      place = place w.seat w.index;
       from = number_of w.seat.me.0;
       to = w.message;
       put = w.put;
@@ -52,13 +53,15 @@ pub fn begin<A: Allocator>(writer: TopWriter, board: &Board<A>, message: u32, to
 {
     let TopWriter {
         mut seat,
+        index,
         locate,
         message: _,
     } = writer;
     let words = top.to_words(message);
-    begin_write::<Brand>(board.cells(), &mut seat, &words);
+    begin_write::<Brand>(board.cell(index), &mut seat, &words);
     Opened {
         seat,
+        index,
         locate,
         message,
         words,
@@ -74,7 +77,7 @@ impl Opened {
         ensures { self.new ≡ record self.old { put = self.old.put + 1 } }
     {
         let word = self.words[self.put];
-        put_word(board.cells(), &mut self.seat, self.put, word);
+        put_word(board.cell(self.index), &mut self.seat, self.put, word);
         self.put += 1;
     }
 
@@ -86,14 +89,16 @@ impl Opened {
     {
         let Opened {
             mut seat,
+            index,
             locate,
             message,
             words: _,
             put: _,
         } = self;
-        end_write(board.cells(), &mut seat);
+        end_write(board.cell(index), &mut seat);
         TopWriter {
             seat,
+            index,
             locate,
             message,
         }

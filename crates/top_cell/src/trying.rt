@@ -8,12 +8,11 @@ ghost use Rattle.top_cell.specs.declared.rule.View.TheVariants.{ScreenOf};
 use crate::kinds::reader_begins::ReaderBegins;
 use crate::kinds::reader_ends::ReaderEnds;
 use crate::kinds::reader_takes::ReaderTakes;
-use crate::rule::Words;
-use crate::seat::Seat;
+use crate::rule::{Seat, SharedCell};
 
 // Takes the four words in an open try that has none.
-fn take_words(cells: &Words, seat: &mut Seat) -> [u64; 4]
-    requires seat { IsSeatOf cells.now.table_id cells.now.key seat.old }
+fn take_words(cell: &SharedCell, seat: &mut Seat) -> [u64; 4]
+    requires seat { IsSeatOf cell.now.table_id seat.old }
     requires begun { (seat.old.me.0 ≡ ScreenOf (stock_of seat.old.me.0) (sight_of seat.old.me.0))
         × ((sight_of seat.old.me.0).taken ≡ Some []) }
     ensures same { IsSameSeat seat.old seat.new }
@@ -24,14 +23,14 @@ fn take_words(cells: &Words, seat: &mut Seat) -> [u64; 4]
 {
     let mut words = [0; 4];
     for index in 0..4 {
-        words[index] = seat.load::<ReaderTakes>(cells, index + 1);
+        words[index] = cell.load::<ReaderTakes>(seat, index + 1);
     }
     words
 }
 
 // Tries once to read the words. An error is the last count that was loaded, where the writer was changing them.
-fn try_once(cells: &Words, seat: &mut Seat) -> Result<[u64; 4], u64>
-    requires seat { IsSeatOf cells.now.table_id cells.now.key seat.old }
+fn try_once(cell: &SharedCell, seat: &mut Seat) -> Result<[u64; 4], u64>
+    requires seat { IsSeatOf cell.now.table_id seat.old }
     requires screen { IsScreen seat.old.me.0 }
     ensures same { IsSameSeat seat.old seat.new }
     ensures screen { IsScreen seat.new.me.0 × (stock_of seat.new.me.0 ≡ stock_of seat.old.me.0)
@@ -40,12 +39,12 @@ fn try_once(cells: &Words, seat: &mut Seat) -> Result<[u64; 4], u64>
     ensures err { IfErr result (λ count. Lost seat.old.me.0 count seat.new.me.0) }
     ensures counts { CountsRise seat.old.me.0 seat.new.me.0 }
 {
-    let began = seat.load::<ReaderBegins>(cells, 0);
+    let began = cell.load::<ReaderBegins>(seat, 0);
     if began % 2 == 1 {
         return Err(began);
     }
-    let words = take_words(cells, seat);
-    let count = seat.load::<ReaderEnds>(cells, 0);
+    let words = take_words(cell, seat);
+    let count = cell.load::<ReaderEnds>(seat, 0);
     if count == began {
         Ok(words)
     } else {
@@ -55,8 +54,8 @@ fn try_once(cells: &Words, seat: &mut Seat) -> Result<[u64; 4], u64>
 
 /// Tries up to `tries` times to read the words. An error is the last count that was loaded, where the writer was in
 /// the way of each try.
-pub(crate) fn try_times(cells: &Words, seat: &mut Seat, tries: u32) -> Result<[u64; 4], u64>
-    requires seat { IsSeatOf cells.now.table_id cells.now.key seat.old }
+pub(crate) fn try_times(cell: &SharedCell, seat: &mut Seat, tries: u32) -> Result<[u64; 4], u64>
+    requires seat { IsSeatOf cell.now.table_id seat.old }
     requires screen { IsScreen seat.old.me.0 }
     requires tries { 1 ≤ tries }
     ensures same { IsSameSeat seat.old seat.new }
@@ -70,7 +69,7 @@ pub(crate) fn try_times(cells: &Words, seat: &mut Seat, tries: u32) -> Result<[u
 {
     let mut count = 0;
     for _ in 0..tries {
-        match try_once(cells, seat) {
+        match try_once(cell, seat) {
             Ok(words) => return Ok(words),
             Err(found) => count = found,
         }

@@ -4,8 +4,9 @@ ghost use Rattle.itch_table.specs.Shows.{top_after};
 ghost use Rattle.top_cell.specs.Boards.{IsOn, new_screen};
 
 use crate::board::Board;
+use crate::kinds::splits::Splits;
+use crate::rule::Seat;
 use crate::screen::Screen;
-use crate::seat::Seat;
 use crate::writing::write;
 use itch_table::Top;
 use std::alloc::Allocator;
@@ -18,6 +19,7 @@ use std::marker::Model;
 #[derive(Drop)]
 pub struct TopWriter {
     pub(crate) seat: Seat,
+    pub(crate) index: u16,
     pub(crate) locate: u16,
     pub(crate) message: u32,
 }
@@ -28,7 +30,7 @@ impl Model for TopWriter {
 
     ghost Value = { WriterAt };
 
-    ghost view = { λ w. record { place = place w.seat; message = w.message } };
+    ghost view = { λ w. record { place = place w.seat w.index; message = w.message } };
 
     ghost invariant = { λ w. IsWritersSeat w.seat w.locate w.message };
 }
@@ -65,7 +67,7 @@ impl TopWriter {
             return;
         }
         let words = top.to_words(message);
-        write(board.cells(), &mut self.seat, &words);
+        write(board.cell(self.index), &mut self.seat, &words);
         self.message = message;
     }
 
@@ -76,8 +78,10 @@ impl TopWriter {
         ensures same { self.new ≡ self.old }
         ensures screen { result ≡ new_screen self.old.place self.old.message result.seat }
     {
+        let cell = board.cell(self.index);
         Screen {
-            seat: self.seat.split(board.cells()),
+            seat: cell.split_seat::<Splits>(&mut self.seat),
+            index: self.index,
             locate: self.locate,
             message: self.message,
         }

@@ -9,13 +9,12 @@ ghost use Rattle.top_cell.specs.WriterPuts.{WriterHasPut};
 use crate::kinds::writer_begins::{Coming, WriterBegins};
 use crate::kinds::writer_ends::WriterEnds;
 use crate::kinds::writer_puts::WriterPuts;
-use crate::rule::Words;
-use crate::seat::Seat;
+use crate::rule::{Seat, SharedCell};
 use std::marker::Brand;
 
 /// Makes the count odd. These words, which show a later message, are to come.
-pub(crate) fn begin_write<J: Coming>(cells: &Words, seat: &mut Seat, words: &[u64; 4])
-    requires seat { IsSeatOf cells.now.table_id cells.now.key seat.old }
+pub(crate) fn begin_write<J: Coming>(cell: &SharedCell, seat: &mut Seat, words: &[u64; 4])
+    requires seat { IsSeatOf cell.now.table_id seat.old }
     requires named { J.words ≡ words.now }
     requires idle { IsIdle seat.old.me.0 × HasFewMessages seat.old.me.0 }
     requires words { ShowsOf (stock_of seat.old.me.0) (number_in words.now) words.now
@@ -23,34 +22,34 @@ pub(crate) fn begin_write<J: Coming>(cells: &Words, seat: &mut Seat, words: &[u6
     ensures same { IsSameSeat seat.old seat.new }
     ensures turns { Turns (WriterBegun words.now) seat.old.me seat.new.me }
 {
-    seat.fetch_add::<WriterBegins<J>>(cells, 0, 1);
+    cell.fetch_add::<WriterBegins<J>>(seat, 0, 1);
 }
 
 /// Puts the next of the new words.
-pub(crate) fn put_word(cells: &Words, seat: &mut Seat, index: usize, word: u64)
-    requires seat { IsSeatOf cells.now.table_id cells.now.key seat.old }
+pub(crate) fn put_word(cell: &SharedCell, seat: &mut Seat, index: usize, word: u64)
+    requires seat { IsSeatOf cell.now.table_id seat.old }
     requires writing { IsWriting seat.old.me.0 × (index < 4) × (index ≡ (change_of seat.old.me.0).put) }
     requires word { word ≡ slice_index (change_of seat.old.me.0).new index }
     ensures same { IsSameSeat seat.old seat.new }
     ensures turns { Turns WriterHasPut seat.old.me seat.new.me }
 {
-    seat.store::<WriterPuts>(cells, index + 1, word);
+    cell.store::<WriterPuts>(seat, index + 1, word);
 }
 
 /// Makes the count even again, where all four words were put.
-pub(crate) fn end_write(cells: &Words, seat: &mut Seat)
-    requires seat { IsSeatOf cells.now.table_id cells.now.key seat.old }
+pub(crate) fn end_write(cell: &SharedCell, seat: &mut Seat)
+    requires seat { IsSeatOf cell.now.table_id seat.old }
     requires writing { IsWriting seat.old.me.0 × ((change_of seat.old.me.0).put ≡ 4)
         × HasFewMessages seat.old.me.0 }
     ensures same { IsSameSeat seat.old seat.new }
     ensures turns { Turns WriterEnded seat.old.me seat.new.me }
 {
-    seat.fetch_add::<WriterEnds>(cells, 0, 1);
+    cell.fetch_add::<WriterEnds>(seat, 0, 1);
 }
 
 /// Makes a whole change to these words, which show a later message.
-pub(crate) fn write(cells: &Words, seat: &mut Seat, words: &[u64; 4])
-    requires seat { IsSeatOf cells.now.table_id cells.now.key seat.old }
+pub(crate) fn write(cell: &SharedCell, seat: &mut Seat, words: &[u64; 4])
+    requires seat { IsSeatOf cell.now.table_id seat.old }
     requires idle { IsIdle seat.old.me.0 × HasFewMessages seat.old.me.0 }
     requires words { ShowsOf (stock_of seat.old.me.0) (number_in words.now) words.now
         × (number_of seat.old.me.0 < number_in words.now) }
@@ -59,9 +58,9 @@ pub(crate) fn write(cells: &Words, seat: &mut Seat, words: &[u64; 4])
         × (number_of seat.new.me.0 ≡ number_in words.now) }
     ensures slots { seat.new.me.1 ≡ seat.old.me.1 }
 {
-    begin_write::<Brand>(cells, seat, words);
+    begin_write::<Brand>(cell, seat, words);
     for index in 0..4 {
-        put_word(cells, seat, index, words[index]);
+        put_word(cell, seat, index, words[index]);
     }
-    end_write(cells, seat);
+    end_write(cell, seat);
 }

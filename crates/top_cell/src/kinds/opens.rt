@@ -1,6 +1,6 @@
-//! Open: the first seat of a board opens the next cell, and gives the seat of the cell's writer beside itself.
-use crate::rule::Standing;
-use atomic_table::Split;
+//! Open: the first seat of a new cell becomes that of its writer.
+use crate::rule::View;
+use atomic_table::Play;
 use std::marker::{Brand, PhantomData};
 
 /// Names the stock of a cell.
@@ -20,10 +20,9 @@ pub struct Opens<J: Naming> {
     named: PhantomData<J>,
 }
 
-impl<J: Naming> Split<Standing> for Opens<J> {
-    ghost use Rattle.top_cell.specs.Opens.{next_opener, opened};
+impl<J: Naming> Play<(), View> for Opens<J> {
+    ghost use Rattle.top_cell.specs.Opens.{Opened};
+    ghost use Rattle.top_cell.specs.Rule.{Turns};
 
-    ghost left = { next_opener };
-
-    ghost right = { opened J.stock };
+    ghost then = { λ _ before _ after. Turns (Opened J.stock) before after };
 }

@@ -1,13 +1,13 @@
 //! Split: beside itself a writer or a screen gives a screen that stands where it stands.
-use crate::rule::Standing;
+use crate::rule::View;
 use atomic_table::Split;
 
 pub struct Splits;
 
-impl Split<Standing> for Splits {
-    ghost use Rattle.top_cell.specs.Splits.{seat_beside};
+impl Split<View> for Splits {
+    ghost use Rattle.top_cell.specs.Splits.{screen_beside};
 
-    ghost left = { λ s. s };
+    ghost left = { λ v. v };
 
-    ghost right = { seat_beside };
+    ghost right = { screen_beside };
 }

@@ -1,5 +1,6 @@
 //! Writer begins: the count goes up by one, and the writer will put four new words.
-use crate::kinds::Kind;
+use crate::rule::View;
+use atomic_table::Play;
 use std::marker::{Brand, PhantomData};
 
 /// Names the words that a writer will put.
@@ -19,8 +20,9 @@ pub struct WriterBegins<J: Coming> {
     named: PhantomData<J>,
 }
 
-impl<J: Coming> Kind for WriterBegins<J> {
+impl<J: Coming> Play<(), View> for WriterBegins<J> {
+    ghost use Rattle.top_cell.specs.Rule.{Turns};
     ghost use Rattle.top_cell.specs.WriterBegins.{WriterBegun};
 
-    ghost by = { λ _. WriterBegun J.words };
+    ghost then = { λ _ before _ after. Turns (WriterBegun J.words) before after };
 }

@@ -1,5 +1,10 @@
-use Rattle.top_cell.proofs.Cells.{opens_as}
+use Rattle.std.proofs.Common.{arith, refl}
+use Rattle.top_cell.specs.Rule.{new_cell}
+use Rattle.top_cell.proofs.BaseMoves.{opens_as}
 use Rattle.top_cell.proofs.board.open.Goals as goal
 
-pub split_seat-table_seat-requires : goal.split_seat-table_seat-requires
-split_seat-table_seat-requires g c = let s = c.requires.own in (s.0, s.1, opens_as _ _ _ _ _ c.requires.next)
+pub of_words-requires : goal.of_words-requires
+of_words-requires g c = new_cell refl refl
+
+pub load-requires : goal.load-requires
+load-requires g c = let e = c.in_ok-table.ensures in (e.2, omega (arith, e.0), opens_as _ _ _ _ e.4)

@@ -1,9 +1,12 @@
 use Rattle.std.proofs.Common.{◌≡◌, ◌<◌, ◌≤◌, length, sym, subst, refl, arith}
 use Rattle.itch_table.specs.Shows.{top_after}
 use Rattle.top_cell.specs.Boards.{WriterAt, IsOn}
-use Rattle.top_cell.proofs.Places.{seat_on}
+use Rattle.top_cell.proofs.Places.{seat_on, within}
 use Rattle.top_cell.proofs.Shown.{shows_words}
 use Rattle.top_cell.proofs.steps.begin.Goals as goal
+
+pub cell-requires : goal.cell-requires
+cell-requires g c = within c.args.board.now _ _ (subst (λ (w : WriterAt). IsOn c.args.board.now w.place) (sym c.writer.view_is) c.requires.own)
 
 pub begin_write-requires : goal.begin_write-requires
 begin_write-requires g c =
@@ -13,6 +16,6 @@ begin_write-requires g c =
     let later = subst (λ (w : WriterAt). w.message < c.args.message) s c.requires.later in
     let last = subst (λ (w : WriterAt). c.args.message ≤ length w.place.day) s c.requires.within in
     let top = subst (λ (w : WriterAt). c.args.top ≡ top_after w.place.day w.place.locate c.args.message) s c.requires.top in
-    let e = c.cells.ensures in
+    let e = c.cell.ensures in
     let shows = shows_words _ c.args.message c.args.top _ last top c.to_words-words.ensures in
-    record { seat = seat_on c.args.board.now _ _ c.writer.inside.seat on e.table e.count e.words; named = refl; idle = (i.0, i.3); words = (shows.0, omega (arith, shows.1, i.1, later)) }
+    record { seat = seat_on c.args.board.now _ c.writer.inside.seat _ on e.table e.five; named = refl; idle = (i.0, i.3); words = (shows.0, omega (arith, shows.1, i.1, later)) }

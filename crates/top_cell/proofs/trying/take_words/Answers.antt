@@ -12,7 +12,7 @@ load-requires c =
     let i = c.loop-index.invariant in
     let s = c.requires.seat in
     let long = length-take-le c.loop-index.index c.loop-index.words (omega (arith, i.1)) in
-    record { cell = (i.0.0 ∙ s.0, omega (arith, i.0.2, s.1), s.2); word = omega (arith, c.loop-index-test.true); allows = reader_takes_as _ _ _ _ _ (take c.loop-index.index c.loop-index.words) _ i.2 refl (omega (arith, long)) (omega (arith, long)) }
+    (i.0.0 ∙ s.0, omega (arith, c.loop-index-test.true, s.1), reader_takes_as _ _ _ _ _ (take c.loop-index.index c.loop-index.words) _ i.2 refl (omega (arith, long)) (omega (arith, long)))
 
 pub loop-index-preserved : goal.loop-index-preserved
 loop-index-preserved c =
@@ -21,12 +21,12 @@ loop-index-preserved c =
     let s = stock_of c.args.seat.now.me.0 in
     let v = sight_of c.args.seat.now.me.0 in
     let k = c.loop-index.index in
-    let t = subst (λ (u : View). ReaderTook c.load.result u c.load.new.self.me.0) i.2 e.turns.0 in
+    let t = subst (λ (u : View). ReaderTook c.load.result u c.load.new.seat.me.0) i.2 e.2.0 in
     let same = sym (same_words (take k c.loop-index.words) t.0 t.1) in
     let more = take_more_set c.loop-index.words k c.load.result (omega (arith, i.1)) in (
-      (e.same.0 ∙ i.0.0, e.same.1 ∙ i.0.1, e.same.2 ∙ i.0.2),
+      (e.0 ∙ i.0.0, e.1 ∙ i.0.1),
       length-set c.loop-index.words k c.load.result ∙ i.1,
       t.3 ∙ ap (λ (ws : List ℕ). ScreenOf s (sight v.number ((v.loads + k) + 1) v.looks v.tries v.wins v.last v.began (Some (ws ++ c.load.result ∷ [])))) same
           ∙ (λ j. ScreenOf s (sight v.number (add_assoc v.loads k 1 j) v.looks v.tries v.wins v.last v.began (Some (sym more j)))),
-      e.turns.1 ∙ i.3,
+      e.2.1 ∙ i.3,
     )

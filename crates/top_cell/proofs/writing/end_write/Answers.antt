@@ -6,4 +6,4 @@ pub fetch_add-requires : goal.fetch_add-requires
 fetch_add-requires c =
     let s = c.requires.seat in
     let w = c.requires.writing in
-    record { cell = s; word = omega arith; allows = writer_ends_as _ _ _ _ _ w.0 w.2 w.1 }
+    (s.0, omega (arith, s.1), writer_ends_as _ _ _ _ _ w.0 w.2 w.1)

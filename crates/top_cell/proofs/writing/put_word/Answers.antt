@@ -8,4 +8,4 @@ pub store-requires : goal.store-requires
 store-requires c =
     let s = c.requires.seat in
     let w = c.requires.writing in
-    record { cell = s; word = omega (arith, w.1); allows = writer_puts_as _ _ _ _ _ _ _ w.0 (omega (arith, w.1, w.2)) (c.requires.word ∙ ap (λ k. slice_index (change_of c.args.seat.now.me.0).new k) w.2) (ap (λ k. k + 1) w.2) }
+    (s.0, omega (arith, w.1, s.1), writer_puts_as _ _ _ _ _ _ _ w.0 (omega (arith, w.1, w.2)) (c.requires.word ∙ ap (λ k. slice_index (change_of c.args.seat.now.me.0).new k) w.2) (ap (λ k. k + 1) w.2))

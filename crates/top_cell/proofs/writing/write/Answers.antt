@@ -13,4 +13,4 @@ loop-index-preserved c =
     let i = c.loop-index.invariant in
     let p = c.put_word.ensures in
     let t = put_now _ _ i.1 p.turns.0 in
-    ((p.same.0 ∙ i.0.0, p.same.1 ∙ i.0.1, p.same.2 ∙ i.0.2), t.0, t.1 ∙ i.2, p.turns.1 ∙ i.3, omega (arith, t.2, i.4), t.3 ∙ i.5)
+    ((p.same.0 ∙ i.0.0, p.same.1 ∙ i.0.1), t.0, t.1 ∙ i.2, p.turns.1 ∙ i.3, omega (arith, t.2, i.4), t.3 ∙ i.5)

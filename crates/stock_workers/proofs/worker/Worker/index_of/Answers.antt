@@ -2,7 +2,7 @@ use Rattle.std.proofs.Common.{◌≡◌, ◌<◌, MatchOption, ℕ, List, length
 use Rattle.std.specs.List.{Contains}
 use Rattle.std.specs.List.Sorted.{IsStrictlyIncreasing}
 use Rattle.day_core.proofs.Codes.{code_found}
-use Rattle.stock_workers.specs.Working.{Working, codes_of}
+use Rattle.stock_workers.specs.Working.{codes_of}
 use Rattle.stock_workers.proofs.worker.Worker.index_of.Goals as goal
 
 pub returns : goal.returns

@@ -1,7 +1,6 @@
-use Rattle.std.proofs.Common.{◌≡◌, ℕ, List, length, get_or, ap, sym, subst, ◌∙◌, arith}
+use Rattle.std.proofs.Common.{ℕ, List, length, get_or, ap, sym, subst, ◌∙◌, arith}
 use Rattle.std.specs.List.{Contains}
-use Rattle.day_core.specs.Owners.{machine_of}
-use Rattle.stock_workers.specs.Working.{Working, progress_in, stands}
+use Rattle.stock_workers.specs.Working.{Working, stands}
 use Rattle.stock_workers.proofs.Standing.{codes_are, got, writer_stands, writers_long}
 use Rattle.stock_workers.proofs.worker.Worker.writer.Goals as goal
 

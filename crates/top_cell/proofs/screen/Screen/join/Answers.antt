@@ -1,19 +1,31 @@
-use Rattle.std.proofs.Common.{◌≡◌, ◌∙◌, sym, subst}
-use Rattle.top_cell.specs.Boards.{ScreenAt, IsOn}
-use Rattle.top_cell.proofs.Places.{seat_on}
+use Rattle.std.proofs.Common.{◌≡◌, ◌∙◌, ℕ, List, Some, ap, arith, sym, subst}
+use Rattle.std.specs.Prelude.{slice_get}
+use Rattle.top_cell.specs.Boards.{AreApart, CellId, ScreenAt, IsOn}
+use Rattle.top_cell.proofs.Places.{seat_on, within}
 use Rattle.top_cell.proofs.BaseMoves.{screens_join_as}
 use Rattle.top_cell.proofs.screen.Screen.join.Goals as goal
 
-pub join-requires : goal.join-requires
-join-requires g c =
+pub cell-cell-requires : goal.cell-cell-requires
+cell-cell-requires g c = within c.args.board.now _ _ (subst (λ (w : ScreenAt). IsOn c.args.board.now w.place) (sym c.self.view_is) c.requires.own)
+
+-- the cells of one stock are one
+one_cell : (board : List CellId) (i j : ℕ) (c d : CellId) → AreApart board → slice_get board i ≡ Some c → slice_get board j ≡ Some d → c.locate ≡ d.locate → c ≡ d
+one_cell board i j c d apart there here same =
+    let found : Some c ≡ Some d = sym there ∙ ap (slice_get board) (apart i j c d there here same) ∙ here in cc
+
+pub join_seat-requires : goal.join_seat-requires
+join_seat-requires g c =
     let s = sym c.self.view_is in
     let t = sym c.other.view_is in
     let on = subst (λ (w : ScreenAt). IsOn c.args.board.now w.place) s c.requires.own in
     let there = subst (λ (w : ScreenAt). IsOn c.args.board.now w.place) t c.requires.other in
     let same = subst (λ (z : ScreenAt × ScreenAt). z.1.place.locate ≡ z.0.place.locate) (λ i. (s i, t i)) c.requires.same in
-    let e = c.cells.ensures in
-    record {
-      cell = seat_on c.args.board.now _ _ c.self.inside.seat on e.table e.count e.words;
-      other = (e.table _ _ there ∙ sym (e.table _ _ on), e.apart _ _ _ _ there on same, c.other.invariant.4);
-      joins = screens_join_as _ _ _ _ _ _ _ _ c.self.invariant.0.0 c.other.invariant.0.0;
-    }
+    let e = c.cell-cell.ensures in
+    let of = seat_on c.args.board.now _ c.self.inside.seat _ on e.table e.five in
+    let one = one_cell c.args.board.now _ _ _ _ e.apart there on same in (
+      of.0,
+      ap (λ (d : CellId). d.table) one ∙ of.0,
+      c.other.invariant.4,
+      omega (arith, of.1),
+      screens_join_as _ _ _ _ _ _ _ _ c.self.invariant.0.0 c.other.invariant.0.0,
+    )

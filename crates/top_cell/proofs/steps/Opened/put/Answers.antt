@@ -1,13 +1,16 @@
 use Rattle.std.proofs.Common.{◌<◌, sym, subst}
 use Rattle.top_cell.specs.Boards.{ChangeAt, IsOn}
-use Rattle.top_cell.proofs.Places.{seat_on}
+use Rattle.top_cell.proofs.Places.{seat_on, within}
 use Rattle.top_cell.proofs.steps.Opened.put.Goals as goal
+
+pub cell-requires : goal.cell-requires
+cell-requires g c = within c.args.board.now _ _ (subst (λ (w : ChangeAt). IsOn c.args.board.now w.place) (sym c.self.view_is) c.requires.own)
 
 pub put_word-requires-clause-seat : goal.put_word-requires-clause-seat
 put_word-requires-clause-seat g c =
     let on = subst (λ (w : ChangeAt). IsOn c.args.board.now w.place) (sym c.self.view_is) c.requires.own in
-    let e = c.cells.ensures in
-    seat_on c.args.board.now _ _ c.self.inside.seat on e.table e.count e.words
+    let e = c.cell.ensures in
+    seat_on c.args.board.now _ c.self.inside.seat _ on e.table e.five
 
 pub put_word-requires-clause-writing : goal.put_word-requires-clause-writing
 put_word-requires-clause-writing g c =

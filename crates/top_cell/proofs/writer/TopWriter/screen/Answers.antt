@@ -1,11 +1,15 @@
-use Rattle.std.proofs.Common.{sym, subst}
+use Rattle.std.proofs.Common.{arith, sym, subst}
 use Rattle.top_cell.specs.Boards.{WriterAt, IsOn}
-use Rattle.top_cell.proofs.Places.{seat_on}
+use Rattle.top_cell.proofs.Places.{seat_on, within}
 use Rattle.top_cell.proofs.BaseMoves.{writer_splits_as}
 use Rattle.top_cell.proofs.writer.TopWriter.screen.Goals as goal
 
-pub split-requires : goal.split-requires
-split-requires g c =
+pub cell-cell-requires : goal.cell-cell-requires
+cell-cell-requires g c = within c.args.board.now _ _ (subst (λ (w : WriterAt). IsOn c.args.board.now w.place) (sym c.self.view_is) c.requires)
+
+pub split_seat-requires : goal.split_seat-requires
+split_seat-requires g c =
     let on = subst (λ (w : WriterAt). IsOn c.args.board.now w.place) (sym c.self.view_is) c.requires in
-    let e = c.cells.ensures in
-    record { cell = seat_on c.args.board.now _ _ c.self.inside.seat on e.table e.count e.words; splits = writer_splits_as _ _ _ _ c.self.invariant.0 }
+    let e = c.cell-cell.ensures in
+    let of = seat_on c.args.board.now _ c.self.inside.seat _ on e.table e.five in
+    (of.0, omega (arith, of.1), writer_splits_as _ _ _ _ c.self.invariant.0)
