@@ -47,7 +47,7 @@ fn any_number_of_workers_makes_the_same_day(rt: HostRuntime) -> Result<(), Fail>
 }
 
 // What the machines of stocks 1 to 3 say.
-type Stocks = [Option<Shown>; 3];
+type Stocks = (Option<Shown>, Option<Shown>, Option<Shown>);
 
 // What the machine of a stock says.
 fn shown_at<A: Allocator + Copy>(
@@ -62,11 +62,11 @@ fn shown_at<A: Allocator + Copy>(
 }
 
 fn stocks_of<A: Allocator + Copy>(alloc: A, turns: &Turns<'_, A>) -> Result<Stocks, Fail> {
-    Ok([
+    Ok((
         shown_at(alloc, turns, 1)?,
         shown_at(alloc, turns, 2)?,
         shown_at(alloc, turns, 3)?,
-    ])
+    ))
 }
 
 // What a turn of the only worker of the two stocks returns, and what the stocks say then.
@@ -78,7 +78,7 @@ fn done(message: u32, outcome: Outcome) -> Option<Piece> {
 
 // The three machines.
 fn said(one: Shown, two: Shown, three: Shown) -> Stocks {
-    [Some(one), Some(two), Some(three)]
+    (Some(one), Some(two), Some(three))
 }
 
 // All of its turns.
@@ -117,9 +117,10 @@ fn try_turn<R: Threads + Sync>(
     all: &[After],
     refusal: Refusal,
 ) -> Result<Tried, Fail> {
-    let Some(((piece, stocks), earlier)) = all.split_last() else {
+    let Some((last, earlier)) = all.split_last() else {
         return Err(Fail::new("no turn"));
     };
+    let (piece, stocks) = *last;
     let day = two_stocks(heap)?;
     let mut turns = Turns::new(rt, heap, &day, 1)?;
     for (wanted, _) in earlier {
@@ -133,8 +134,8 @@ fn try_turn<R: Threads + Sync>(
         same("a refused turn", &stocks_of(heap, &turns)?, &before)?;
         returned = turns.turn(0);
     }
-    same("a turn", &returned, &Ok(*piece))?;
-    same("after a turn", &stocks_of(heap, &turns)?, stocks)?;
+    same("a turn", &returned, &Ok(piece))?;
+    same("after a turn", &stocks_of(heap, &turns)?, &stocks)?;
     Ok(tried)
 }
 
