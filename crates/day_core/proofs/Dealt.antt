@@ -1,10 +1,13 @@
--- The first messages of a day, dealt to its workers: one message more, and a whole day.
-use Rattle.std.proofs.Common.{◌≡◌, ℕ, ◌+◌, ◌-◌, ◌%◌, ◌<◌, ◌^◌, List, [], ◌∷◌, ◌++◌, length, get_or, set, map, filter, replicate, cond, Bool, true, false, Option, None, refl, ap, sym, ◌∙◌, arith, inl, inr, append-nil}
-use Rattle.std.specs.List.{range_with_len}
+-- A day, dealt to its workers: whose each message is, the stocks that are seen, one message more, and a whole day.
+use Rattle.std.proofs.Common.{◌≡◌, ℕ, ◌+◌, ◌-◌, ◌%◌, ◌<◌, ◌^◌, List, [], ◌∷◌, ◌++◌, length, get_or, set, map, filter, replicate, cond, Bool, true, false, Option, None, refl, ap, sym, ◌∙◌, arith, inl, inr, append-nil, zero, suc, subst, ◌≤◌, ◌||◌}
+use Rattle.std.specs.List.{range_with_len, AllZip, list_any}
 use Rattle.std.proofs.lemmas.Bool.{cases_eq, cases_lt, eq-eqb, ne_eqb}
 use Rattle.std.proofs.lemmas.Nat.{mod_below}
-use Rattle.std.proofs.lemmas.List.FromFn.{get_or-map-range_with_len, get_or-range_with_len, length-map-range_with_len, length-range_with_len}
-use Rattle.std.proofs.lemmas.List.{get_or_default, get_or_past, get_or-set_same, get_or-set_other, get_or-replicate, length-replicate, length-set, map-append}
+use Rattle.std.proofs.lemmas.List.FromFn.{get_or-map-range_with_len, length-map-range_with_len, length-range_with_len}
+use Rattle.std.proofs.lemmas.List.{get_or_default, get_or_past, get_or-set_same, get_or-set_other, length-set, map-append, take_all}
+use Rattle.std.proofs.lemmas.Slice.Zip.{AllZip-long}
+use Rattle.std.proofs.Math.Bool.{or-false, or-true}
+use Rattle.std.proofs.lemmas.List.Folds.{list_any_more}
 use Rattle.itch_layouts.specs.Shapes.{shape_of}
 use Rattle.itch_layouts.specs.declared.message.Msg.TheVariants.{System}
 use Rattle.itch_layouts.specs.declared.shape.Shape.{Shape}
@@ -15,17 +18,97 @@ use Rattle.itch_table.specs.declared.outcome.Part.TheVariants.{Locate, Nowhere}
 use Rattle.itch_table.specs.World.{World}
 use Rattle.itch_table.specs.After.{after}
 use Rattle.itch_table.specs.Parts.{part, part_of_shape}
-use Rattle.itch_table.specs.Projection.{event_with}
+use Rattle.itch_table.specs.Projection.{event_with, is_of_stock}
 use Rattle.itch_table.proofs.Days.{after-next, after-none}
 use Rattle.itch_table.proofs.NoStock.{system_sets_event}
 use Rattle.itch_table.proofs.StockDays.{outcomes_stay_fixed}
+use Rattle.itch_table.specs.Shows.{locates_of_day}
 use Rattle.day_core.specs.declared.merging.Piece.{Piece}
-use Rattle.day_core.specs.Splitting.{AreDealt, ArePartsOf, AreSeen, DayParts}
+use Rattle.day_core.specs.Splitting.{AreDealt, ArePartsOf, AreSeen, DayParts, AreWhose, has_until}
 use Rattle.day_core.specs.Owners.{fixed_pieces, fixed_until, is_nowhere, is_own, own_of, own_until, part_at, piece_of}
 use Rattle.day_core.proofs.Kept.{kept_more}
-use Rattle.day_core.proofs.Lists.{map_by_all}
 use Rattle.day_core.proofs.Progress.{own_none}
-use Rattle.day_core.proofs.StocksSeen.{locates_are, seen_nowhere, seen_own}
+use Rattle.day_core.proofs.StocksByWorker.{none_yet, one_set}
+
+-- none before the first message
+pub seen_none : (day : List (List ℕ)) (seen : List Bool) → length seen ≡ 0x1_0000 → ((k : ℕ) → k < 0x1_0000 → get_or seen k false ≡ false) → AreSeen day 0 seen
+seen_none day seen long none = record { long = long; each = λ code low. none code low }
+
+-- one message more
+module _ (day : List (List ℕ)) (n : ℕ) (seen : List Bool) (before : AreSeen day n seen) (lt : n < length day) where
+  one_more : (code : ℕ) → has_until day code (n + 1) ≡ (has_until day code n || is_of_stock code (get_or day n []))
+  one_more code = list_any_more (is_of_stock code) day n [] lt
+
+  stays : (code : ℕ) → code < 0x1_0000 → is_of_stock code (get_or day n []) ≡ false → get_or seen code false ≡ has_until day code (n + 1)
+  stays code low off =
+      before.each code low ∙ sym (one_more code ∙ ap (λ (b : Bool). has_until day code n || b) off ∙ or-false (has_until day code n))
+
+  pub seen_own : (locate : ℕ) → Locate locate ≡ part (get_or day n []) → AreSeen day (n + 1) (set seen locate true)
+  seen_own locate is = record {
+    long = length-set seen locate true ∙ before.long;
+    each = λ code low. elim (cases_eq code locate) [
+      | inl same ↦
+          let room : code < length seen = omega (arith, before.long, low) in
+          let mine : is_of_stock code (get_or day n []) ≡ true = rw (← is) (eq-eqb locate code (sym same)) in
+          ap (λ (k : ℕ). get_or (set seen k true) code false) (sym same)
+          ∙ get_or-set_same seen code true false room
+          ∙ sym (one_more code ∙ ap (λ (b : Bool). has_until day code n || b) mine ∙ or-true (has_until day code n))
+      | inr differ ↦
+          let off : is_of_stock code (get_or day n []) ≡ false = rw (← is) (ne_eqb locate code (λ e. differ (sym e))) in
+          get_or-set_other seen locate code true false differ ∙ stays code low off
+    ];
+  }
+
+  pub seen_nowhere : (fixed : Outcome) → Nowhere fixed ≡ part (get_or day n []) → AreSeen day (n + 1) seen
+  seen_nowhere fixed is = record {
+    long = before.long;
+    each = λ code low. let off : is_of_stock code (get_or day n []) ≡ false = rw (← is) refl in stays code low off;
+  }
+
+-- two tests that agree on a range keep the same of it
+same_kept : (p q : ℕ → Bool) (a n : ℕ) → ((k : ℕ) → a ≤ k → k < a + n → p k ≡ q k) → filter p (range_with_len a n) ≡ filter q (range_with_len a n)
+same_kept p q a zero agree = refl
+same_kept p q a (suc n) agree =
+    let rest = same_kept p q (a + 1) n (λ k low high. agree k (omega arith) (omega arith)) in
+    let now = agree a (omega arith) (omega arith) in
+    rw (now, rest) refl
+
+-- a whole day
+pub locates_are : (day : List (List ℕ)) (seen : List Bool) (locates : List ℕ) → AreSeen day (length day) seen
+    → locates ≡ filter (λ locate. get_or seen locate false) (range_with_len 0 (length seen)) → locates ≡ locates_of_day day
+unfolding locates_of_day
+locates_are day seen locates are is =
+    is ∙ ap (λ (n : ℕ). filter (λ (locate : ℕ). get_or seen locate false) (range_with_len 0 n)) are.long
+    ∙ same_kept (λ (locate : ℕ). get_or seen locate false) (λ (locate : ℕ). list_any (is_of_stock locate) day) 0 0x1_0000
+    (λ k low high. are.each k (omega arith) ∙ ap (list_any (is_of_stock k)) (take_all (length day) day (omega arith)))
+
+-- ---- the stocks that are seen
+
+-- the item that stands beside a number of a range
+beside : {Y : Type 0} (R : ℕ → Y → Type 0) (a n : ℕ) (ys : List Y) (i : ℕ) (d : Y) → AllZip R (range_with_len a n) ys → i < length ys → R (a + i) (get_or ys i d)
+beside R a zero [] i d zip lt = absurd (omega arith)
+beside R a zero (y ∷ ys) i d zip lt = absurd zip
+beside R a (suc n) [] i d zip lt = absurd zip
+beside R a (suc n) (y ∷ ys) zero d zip lt = let same : a ≡ a + 0 = omega arith in subst (λ (k : ℕ). R k y) same zip.0
+beside R a (suc n) (y ∷ ys) (suc i) d zip lt =
+    let same : a + 1 + i ≡ a + suc i = omega arith in
+    subst (λ (k : ℕ). R k (get_or ys i d)) same (beside R (a + 1) n ys i d zip.1 (omega arith))
+
+abbrev pub IsWhose : List (List ℕ) → ℕ → Part → Type 0
+IsWhose day before own = own ≡ part (get_or day before [])
+
+pub whose_from : (day : List (List ℕ)) (whose given : List Part) (places : List ℕ) → AllZip (IsWhose day) places given → places ≡ range_with_len 0 (length day) → whose ≡ given → AreWhose day whose
+whose_from day whose given places found all is =
+    let each : AllZip (IsWhose day) (range_with_len 0 (length day)) whose = subst (λ (ps : List Part). AllZip (IsWhose day) (range_with_len 0 (length day)) ps) (sym is) (subst (λ (ns : List ℕ). AllZip (IsWhose day) ns given) all found) in
+    let long : length whose ≡ length day = AllZip-long (IsWhose day) (range_with_len 0 (length day)) whose each ∙ length-range_with_len 0 (length day) in
+    record {
+      long = long;
+      each = λ before d lt.
+          let here : 0 + before ≡ before = omega arith in
+          beside (IsWhose day) 0 (length day) whose before d each (omega (arith, lt, long)) ∙ ap (λ (k : ℕ). part (get_or day k [])) here;
+    }
+
+-- ---- whose each message is, in a list that threads have made
 
 -- a stock's message leaves the event
 event_stays : (shape : Shape) (locate : ℕ) (event : Option ℕ) → part_of_shape shape ≡ Locate locate → event_with shape event ≡ event
@@ -37,8 +120,7 @@ pub dealt_none : (day : List (List ℕ)) (workers : ℕ) (seen : List Bool) (own
     → own ≡ replicate workers [] → fixed ≡ [] → event ≡ None → AreDealt day workers 0 seen own fixed event
 dealt_none day workers seen own fixed event none empty nothing never = record {
   seen_are = none;
-  own_long = ap length empty ∙ length-replicate workers [];
-  own_are = λ worker lt. ap (λ (ls : List (List ℕ)). get_or ls worker []) empty ∙ get_or-replicate workers worker [] [] lt;
+  own_are = none_yet workers own empty;
   fixed_are = nothing;
   event_is = never ∙ sym (ap (λ (w : World). w.event) (after-none day));
 }
@@ -70,21 +152,16 @@ module _ (day : List (List ℕ)) (workers n : ℕ) (seen : List Bool) (own : Lis
   dealt_own locate is some =
       let owner = locate % workers in
       let below : owner < workers = mod_below locate workers some in
-      let pushed = get_or own owner [] ++ (n + 1) ∷ [] in
+      let here : get_or own owner [] ≡ own_until workers owner day n =
+      ap (λ (ls : List (List ℕ)). get_or ls owner []) before.own_are ∙ get_or-map-range_with_len (λ worker. own_until workers worker day n) 0 workers owner owner [] below (omega arith)
+      in
+      let mine = eq-eqb owner owner refl in
       record {
         seen_are = seen_own day n seen before.seen_are more locate is;
-        own_long = length-set own owner pushed ∙ before.own_long;
-        own_are = λ worker lt. elim (cases_eq worker owner) [
-          | inl same ↦
-              let room : owner < length own = omega (arith, below, before.own_long) in
-              let tested = eq-eqb owner owner refl in
-              rw (same, get_or-set_same own owner pushed [] room, own_more owner (Locate locate) is, tested)
-              (ap (λ (l : List ℕ). l ++ (n + 1) ∷ []) (before.own_are owner below))
-          | inr differ ↦
-              let tested = ne_eqb owner worker (λ e. differ (sym e)) in
-              rw (get_or-set_other own owner worker pushed [] differ, own_more worker (Locate locate) is, tested)
-              (before.own_are worker lt ∙ sym (append-nil _))
-        ];
+        own_are =
+            one_set (λ worker. own_until workers worker day n) (λ worker. own_until workers worker day (n + 1)) workers owner _ own below before.own_are
+            (ap (λ (l : List ℕ). l ++ (n + 1) ∷ []) here ∙ sym (rw mine at (own_more owner (Locate locate) is)))
+            (λ worker differ. let tested = ne_eqb owner worker (λ e. differ (sym e)) in (rw tested at (own_more worker (Locate locate) is)) ∙ append-nil _);
         fixed_are = before.fixed_are ∙ sym (fixed_more (Locate locate) is ∙ append-nil (fixed_until day n));
         event_is = before.event_is ∙ sym (event_stays (shape_of (get_or day n [])) locate (after day n).event (sym is)) ∙ event_next;
       }
@@ -96,8 +173,7 @@ module _ (day : List (List ℕ)) (workers n : ℕ) (seen : List Bool) (own : Lis
       let here : payload ≡ get_or day n [] = read ∙ get_or_default day n payload [] more in
       record {
         seen_are = seen_nowhere day n seen before.seen_are more outcome is;
-        own_long = before.own_long;
-        own_are = λ worker lt. before.own_are worker lt ∙ sym (own_more worker (Nowhere outcome) is ∙ append-nil (own_until workers worker day n));
+        own_are = before.own_are ∙ (λ i. map (λ worker. sym (own_more worker (Nowhere outcome) is ∙ append-nil (own_until workers worker day n)) i) (range_with_len 0 workers));
         fixed_are =
             ap (λ (ps : List Piece). ps ++ record { message = n + 1; outcome = outcome } ∷ []) before.fixed_are
             ∙ ap (λ (o : Outcome). fixed_until day n ++ record { message = n + 1; outcome = o } ∷ []) (sym known)
@@ -113,11 +189,7 @@ all_dealt day parts seen some few dealt found = record {
   some = some;
   few = few;
   locates_are = locates_are day seen parts.locates dealt.seen_are found;
-  own_are = map_by_all (λ worker. own_of parts.workers worker day) (range_with_len 0 parts.workers) parts.own (dealt.own_long ∙ sym (length-range_with_len 0 parts.workers))
-      (λ k d lt.
-      let below : k < parts.workers = omega (arith, lt, length-range_with_len 0 parts.workers) in
-      let same : k ≡ get_or (range_with_len 0 parts.workers) k 0 = omega (arith, get_or-range_with_len 0 parts.workers k 0 below) in
-      get_or_default parts.own k d [] (omega (arith, below, dealt.own_long)) ∙ dealt.own_are k below ∙ ap (λ (w : ℕ). own_of parts.workers w day) same);
+  own_are = dealt.own_are;
   fixed_are = dealt.fixed_are;
   event_is = dealt.event_is;
 }

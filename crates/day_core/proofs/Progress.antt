@@ -1,7 +1,7 @@
 -- How far a stock is once its worker has done some of its messages.
 use Rattle.std.proofs.Common.{◌≡◌, ℕ, zero, suc, ◌+◌, ◌-◌, ◌<◌, ◌≤◌, List, [], ◌∷◌, ◌++◌, length, Bool, true, false, cond, get_or, filter, take, refl, sym, ap, subst, ◌∙◌, arith, append-nil, inl, inr}
 use Rattle.std.specs.List.{range_with_len}
-use Rattle.std.proofs.lemmas.Bool.{cases_Bool, cases_lt, eq-eqb, ne_eqb}
+use Rattle.std.proofs.lemmas.Bool.{cases_lt, eq-eqb, ne_eqb}
 use Rattle.std.proofs.lemmas.List.{take_all}
 use Rattle.std.proofs.lemmas.List.Elements.{filter_more, filter_passes}
 use Rattle.std.proofs.lemmas.List.FromFn.{length-range_with_len}
@@ -57,49 +57,33 @@ pub last_push : (d : ℕ) (xs : List ℕ) (x : ℕ) → last_or d (xs ++ x ∷ [
 last_push d [] x = refl
 last_push d (y ∷ ys) x = last_push y ys x
 
--- a stock's machine is as its last message left it
-abbrev UntilLast : List (List ℕ) → ℕ → ℕ → Type 0
-UntilLast day locate n = machine_of day locate (last_until day locate n) ≡ machine_of day locate n
+last_more : (b : Bool) (x : ℕ) (xs : List ℕ) → last_or 0 (xs ++ cond b (x ∷ []) []) ≡ cond b x (last_or 0 xs)
+last_more true x xs = last_push 0 xs x
+last_more false x xs = ap (last_or 0) (append-nil xs)
 
-until_more : (day : List (List ℕ)) (locate n : ℕ) → UntilLast day locate n → UntilLast day locate (n + 1)
-until_more day locate n before =
+-- what holds of the last message of a stock before the first message, and after each, holds of it throughout
+pub until_last : (day : List (List ℕ)) (locate : ℕ) (P : ℕ → ℕ → Type 0) → P 0 0 → ((n : ℕ) → P (n + 1) (n + 1)) → ((n last : ℕ) → is_of_stock locate (get_or day n []) ≡ false → P n last → P (n + 1) last)
+    → (n : ℕ) → P n (last_until day locate n)
+until_last day locate P none own other zero = none
+until_last day locate P none own other (suc n) =
     let q = λ (m : ℕ). is_locate locate (part_at day m) in
-    let xs = filter q (range_with_len 1 n) in
-    let here : n + 1 - 1 ≡ n = omega arith in
-    ap (λ (l : List ℕ). machine_of day locate (last_or 0 l)) (kept_more q 1 n (n + 1) (omega arith))
-    ∙ elim (cases_Bool (q (n + 1))) [
-      | inl on ↦
-          ap (λ (b : Bool). machine_of day locate (last_or 0 (xs ++ cond b ((n + 1) ∷ []) []))) on
-          ∙ ap (machine_of day locate) (last_push 0 xs (n + 1))
-      | inr off ↦
-          ap (λ (b : Bool). machine_of day locate (last_or 0 (xs ++ cond b ((n + 1) ∷ []) []))) off
-          ∙ ap (λ (l : List ℕ). machine_of day locate (last_or 0 l)) (append-nil xs)
-          ∙ before ∙ sym (machine_stays day locate n (rw here at off))
-    ]
-
--- it is one of the messages until then
-within_more : (day : List (List ℕ)) (locate n : ℕ) → last_until day locate n ≤ n → last_until day locate (n + 1) ≤ n + 1
-within_more day locate n before =
-    let q = λ (m : ℕ). is_locate locate (part_at day m) in
-    let xs = filter q (range_with_len 1 n) in
-    let next : last_until day locate (n + 1) ≡ last_or 0 (xs ++ cond (q (n + 1)) ((n + 1) ∷ []) []) = ap (last_or 0) (kept_more q 1 n (n + 1) (omega arith)) in
-    elim (cases_Bool (q (n + 1))) [
-      | inl on ↦
-          let here : last_until day locate (n + 1) ≡ n + 1 = next ∙ ap (λ (b : Bool). last_or 0 (xs ++ cond b ((n + 1) ∷ []) [])) on ∙ last_push 0 xs (n + 1) in
-          omega (arith, here)
-      | inr off ↦
-          let there : last_until day locate (n + 1) ≡ last_until day locate n =
-          next ∙ ap (λ (b : Bool). last_or 0 (xs ++ cond b ((n + 1) ∷ []) [])) off ∙ ap (last_or 0) (append-nil xs) in
-          omega (arith, before, there)
-    ]
+    let next : last_until day locate (n + 1) ≡ cond (q (n + 1)) (n + 1) (last_until day locate n) =
+    ap (last_or 0) (kept_more q 1 n (n + 1) (omega arith)) ∙ last_more (q (n + 1)) (n + 1) (filter q (range_with_len 1 n))
+    in
+    subst (λ (k : ℕ). P k (last_until day locate k)) (omega arith) (subst (P (n + 1)) (sym next) (by (until_last day locate P none own other n) (q (n + 1)) refl))
+  where
+    by : P n (last_until day locate n) → (b : Bool) → is_locate locate (part_at day (n + 1)) ≡ b → P (n + 1) (cond b (n + 1) (last_until day locate n))
+    by before true on = own n
+    by before false off = other n (last_until day locate n) (let here : n + 1 - 1 ≡ n = omega arith in rw here at off) before
 
 last_within : (day : List (List ℕ)) (locate n : ℕ) → last_until day locate n ≤ n
-last_within day locate zero = omega arith
-last_within day locate (suc n) = subst (λ (k : ℕ). last_until day locate k ≤ k) (omega arith) (within_more day locate n (last_within day locate n))
+last_within day locate = until_last day locate (λ n last. last ≤ n) (omega arith) (λ n. omega arith) (λ n last off le. omega (arith, le))
 
-pub machine_until : (day : List (List ℕ)) (locate n : ℕ) → UntilLast day locate n
-machine_until day locate zero = refl
-machine_until day locate (suc n) = subst (UntilLast day locate) (omega arith) (until_more day locate n (machine_until day locate n))
+-- a stock's machine is as its last message left it
+pub machine_until : (day : List (List ℕ)) (locate n : ℕ) → machine_of day locate (last_until day locate n) ≡ machine_of day locate n
+machine_until day locate =
+    until_last day locate (λ n last. machine_of day locate last ≡ machine_of day locate n) refl (λ n. refl)
+    (λ n last off before. before ∙ sym (machine_stays day locate n off))
 
 module _ (day : List (List ℕ)) (workers locate : ℕ) where
   abbrev own : List ℕ
@@ -112,18 +96,10 @@ module _ (day : List (List ℕ)) (workers locate : ℕ) where
   unfolding progress
   progress_first = refl
 
-  -- a message of the stock
-  pub progress_moved : (done d : ℕ) → done < length own → of_this (get_or own done d) ≡ true → progress day workers locate (done + 1) ≡ get_or own done d
+  -- one message more of its worker
+  pub progress_next : (done d : ℕ) → done < length own → progress day workers locate (done + 1) ≡ cond (of_this (get_or own done d)) (get_or own done d) (progress day workers locate done)
   unfolding progress
-  progress_moved done d lt on =
-      ap (last_or 0) (filter_more of_this own done d lt ∙ ap (λ (b : Bool). filter of_this (take done own) ++ cond b (get_or own done d ∷ []) []) on)
-      ∙ last_push 0 (filter of_this (take done own)) (get_or own done d)
-
-  -- one of another stock
-  pub progress_kept : (done d : ℕ) → done < length own → of_this (get_or own done d) ≡ false → progress day workers locate (done + 1) ≡ progress day workers locate done
-  unfolding progress
-  progress_kept done d lt off =
-      ap (last_or 0) (filter_more of_this own done d lt ∙ ap (λ (b : Bool). filter of_this (take done own) ++ cond b (get_or own done d ∷ []) []) off ∙ append-nil _)
+  progress_next done d lt = ap (last_or 0) (filter_more of_this own done d lt) ∙ last_more (of_this (get_or own done d)) (get_or own done d) (filter of_this (take done own))
 
   narrower : (n : ℕ) → of_this n ≡ true → is_own workers (owner workers locate) (part_at day n) ≡ true
   narrower n on = rw (own_part locate (part_at day n) on) (eq-eqb _ _ refl)
@@ -167,12 +143,15 @@ module _ (day : List (List ℕ)) (workers locate : ℕ) where
 
   progress_step : (done : ℕ) → progress day workers locate done ≤ progress day workers locate (done + 1)
   progress_step done = elim (cases_lt done (length own)) [
-    | inl lt ↦ elim (cases_Bool (of_this (get_or own done 0))) [
-      | inl on ↦ omega (arith, progress_before done 0 lt, last_within day locate (get_or own done 0 - 1), progress_moved done 0 lt on)
-      | inr off ↦ omega (arith, progress_kept done 0 lt off)
-    ]
+    | inl lt ↦
+        let before : progress day workers locate done ≤ get_or own done 0 = omega (arith, progress_before done 0 lt, last_within day locate (get_or own done 0 - 1)) in
+        subst (λ (k : ℕ). progress day workers locate done ≤ k) (sym (progress_next done 0 lt)) (higher (of_this (get_or own done 0)) _ _ before)
     | inr past ↦ omega (arith, past_end done past)
   ]
+    where
+      higher : (b : Bool) (x p : ℕ) → p ≤ x → p ≤ cond b x p
+      higher true x p le = le
+      higher false x p le = omega arith
 
   progress_more : (done more : ℕ) → progress day workers locate done ≤ progress day workers locate (done + more)
   progress_more done zero = omega (arith, ap (progress day workers locate) (let none : done + 0 ≡ done = omega arith in none))

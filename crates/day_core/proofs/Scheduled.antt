@@ -1,13 +1,15 @@
--- Schedules, one event more.
-use Rattle.std.proofs.Common.{◌≡◌, ◌≢◌, ℕ, ◌+◌, ◌<◌, ◌≤◌, List, [], ◌∷◌, ◌++◌, length, get_or, set, take, map, map-id, replicate, eqb, cond, true, false, Option, Some, None, refl, sym, ap, subst, ◌∙◌, arith, inl, inr}
+-- Schedules, one event more, and what their looks show.
+use Rattle.std.proofs.Common.{◌≡◌, ◌≢◌, ℕ, ◌+◌, ◌<◌, ◌≤◌, List, [], ◌∷◌, ◌++◌, length, get_or, set, take, map, map-id, replicate, eqb, cond, true, false, Option, Some, None, refl, sym, ap, subst, ◌∙◌, arith, inl, inr, zero, suc, All, append-nil}
 use Rattle.std.specs.Prelude.{min, count_by, slice_get}
-use Rattle.std.specs.List.{flat_map, range_with_len}
+use Rattle.std.specs.List.{flat_map, range_with_len, AllPairs}
 use Rattle.std.proofs.lemmas.Bool.{cases_eq, eq-eqb, ne_eqb}
 use Rattle.std.proofs.lemmas.Grind.{common_steps, same_number_lists}
-use Rattle.std.proofs.lemmas.List.{flat_map_more, get_or-replicate, get_or-set_same, get_or-set_other, length-set}
+use Rattle.std.proofs.lemmas.List.{flat_map_more, get_or-replicate, get_or-set_same, get_or-set_other, length-set, take_more}
 use Rattle.std.proofs.lemmas.List.FromFn.{get_or-map-range_with_len, length-map-range_with_len, map-range_with_len_more}
 use Rattle.std.proofs.lemmas.Nat.{mod_below}
 use Rattle.std.proofs.lemmas.Option.{slice_get-get_or}
+use Rattle.std.proofs.lemmas.List.Elements.{All-push}
+use Rattle.std.proofs.lemmas.List.Quantifiers.{all_pairs_push}
 use Rattle.day_core.specs.declared.merging.Piece.{Piece}
 use Rattle.day_core.specs.declared.playing.Event.{Event}
 use Rattle.day_core.specs.declared.playing.Event.TheVariants.{Look, Turn}
@@ -15,7 +17,7 @@ use Rattle.day_core.specs.declared.playing.Seen.{Seen}
 use Rattle.day_core.specs.Turns.{TurnsState, TurnsWorker, shown}
 use Rattle.day_core.specs.Owners.{own_of, owner, progress}
 use Rattle.day_core.proofs.Progress.{progress_rises}
-use Rattle.day_core.specs.Schedules.{Changes, turns_after, done_after, is_turn, seen_at, seen_of, seen_until}
+use Rattle.day_core.specs.Schedules.{Changes, turns_after, done_after, is_turn, seen_at, seen_of, seen_until, IsNotBack, SeenNeverGoesBack, message_seen}
 
 -- one event more to count
 count_more : (worker : ℕ) (event : Event) (before : List Event) → count_by (is_turn worker) (before ++ event ∷ []) ≡ count_by (is_turn worker) before + cond (is_turn worker event) 1 0
@@ -123,3 +125,73 @@ pub looks_rise : (day : List (List ℕ)) (workers locate : ℕ) (before more : L
     ≤ progress day workers locate (done_after day workers (before ++ more) (owner workers locate))
 looks_rise day workers locate before more =
     progress_rises day workers locate _ _ (omega (arith, count_rises (owner workers locate) before more))
+
+-- ---- what looks show never goes back
+
+-- the message at which a stock stands after some events
+abbrev stands_at : List (List ℕ) → ℕ → List Event → ℕ → ℕ
+stands_at day workers events locate = progress day workers locate (done_after day workers events (owner workers locate))
+
+-- after some events a stock stands at the message that a look has shown, or at a later one
+abbrev IsReached : List (List ℕ) → ℕ → List Event → Seen → Type 0
+IsReached day workers events seen = message_seen seen ≤ stands_at day workers events seen.locate
+
+-- what looks have shown is reached after some events, and none of it goes back
+record IsSeen (day : List (List ℕ)) (workers : ℕ) (events : List Event) (seen : List Seen) : Type 0 where
+  reached : All (IsReached day workers events) seen
+  pairs : AllPairs IsNotBack seen
+
+-- what a look after some events shows
+abbrev look_after : List (List ℕ) → ℕ → List Event → ℕ → ℕ → Seen
+look_after day workers events screen locate = record {
+  screen = screen;
+  locate = locate;
+  words = shown day workers locate (done_after day workers events (owner workers locate));
+}
+
+module _ (day : List (List ℕ)) (workers : ℕ) where
+  still_reached : (events : List Event) (event : Event) (seen : List Seen) → All (IsReached day workers events) seen → All (IsReached day workers (events ++ event ∷ [])) seen
+  still_reached events event seen reached k d lt =
+      omega (arith, reached k d lt, looks_rise day workers (get_or seen k d).locate events (event ∷ []))
+
+  look_reached : (events : List Event) (screen locate : ℕ) → IsReached day workers events (look_after day workers events screen locate)
+  look_reached events screen locate = omega arith
+
+  seen_next : (events : List Event) (event : Event) (seen : List Seen) → IsSeen day workers events seen
+      → IsSeen day workers (events ++ event ∷ []) (seen ++ seen_at day workers events (Some event))
+  seen_next events (Turn worker) seen before = record {
+    reached = subst (All (IsReached day workers (events ++ Turn worker ∷ []))) (sym (append-nil seen)) (still_reached events (Turn worker) seen before.reached);
+    pairs = subst (AllPairs IsNotBack) (sym (append-nil seen)) before.pairs;
+  }
+  seen_next events (Look screen locate) seen before = record {
+    reached =
+        still_reached events (Look screen locate) (seen ++ look_after day workers events screen locate ∷ [])
+        (All-push (IsReached day workers events) seen (look_after day workers events screen locate) before.reached (look_reached events screen locate));
+    pairs =
+        all_pairs_push IsNotBack seen (look_after day workers events screen locate) before.pairs (λ k d lt same.
+        subst (λ (l : ℕ). message_seen (get_or seen k d) ≤ stands_at day workers events l) same (before.reached k d lt));
+  }
+
+  -- what the first of some events show
+  seen_so_far : (events : List Event) (n : ℕ) → n ≤ length events → IsSeen day workers (take n events) (seen_until day workers events n)
+  seen_so_far events zero le = record {
+    reached = λ k d lt. absurd (omega (arith, lt));
+    pairs = λ i j d before lt. absurd (omega (arith, lt));
+  }
+  seen_so_far events (suc n) le =
+      let event = get_or events n (Turn 0) in
+      let one : n + 1 ≡ suc n = omega arith in
+      let below : n < length events = omega (arith, le) in
+      let more = seen_next (take n events) event (seen_until day workers events n) (seen_so_far events n (omega (arith, le))) in
+      let seen =
+      subst (IsSeen day workers (take n events ++ event ∷ [])) (sym (seen_more day workers events n (Turn 0) below)) more
+      in
+      let taken =
+      subst (λ (es : List Event). IsSeen day workers es (seen_until day workers events (n + 1))) (sym (take_more events n (Turn 0) below)) seen
+      in
+      subst (λ (k : ℕ). IsSeen day workers (take k events) (seen_until day workers events k)) one taken
+
+pub seen_never_goes_back : SeenNeverGoesBack
+seen_never_goes_back day workers events = (seen_so_far day workers events (length events) (omega arith)).pairs
+
+pub ruleset never_back = (looks_rise, seen_never_goes_back)

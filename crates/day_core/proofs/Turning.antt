@@ -1,85 +1,51 @@
 -- A turn of one of a day's workers: how far each stock is after it, and what is kept.
-use Rattle.std.proofs.Common.{◌≡◌, ◌≢◌, ℕ, zero, suc, ◌+◌, ◌<◌, ◌-◌, ◌^◌, ◌≤◌, List, [], ◌∷◌, length, get_or, set, map, replicate, Result, Ok, Err, refl, sym, ap, subst, ◌∙◌, arith, inl, inr}
-use Rattle.std.specs.Prelude.{OnErr}
-use Rattle.std.specs.List.{Contains}
-use Rattle.std.proofs.lemmas.Bool.{cases_eq}
+use Rattle.std.proofs.Common.{◌≡◌, ◌≢◌, ℕ, zero, suc, ◌+◌, ◌<◌, ◌≤◌, List, [], ◌∷◌, length, get_or, set, map, replicate, refl, sym, ap, subst, ◌∙◌, arith, inl, inr}
+use Rattle.std.proofs.lemmas.Bool.{cases_eq, cases_Bool, cases_lt}
 use Rattle.std.proofs.lemmas.List.{get_or_default, get_or-map, get_or-set_same, get_or-set_other, length-map, length-replicate, length-set}
-use Rattle.itch_table.specs.declared.outcome.Part.TheVariants.{Locate}
-use Rattle.itch_table.specs.declared.outcome.Outcome.{Outcome}
-use Rattle.itch_table.specs.After.{outcome}
-use Rattle.itch_table.specs.Held.{one_stock}
-use Rattle.itch_table.specs.Machine.{MayGrow}
-use Rattle.itch_table.specs.Parts.{part}
-use Rattle.itch_table.specs.Projection.{payload_at}
-use Rattle.itch_table.specs.Shows.{locates_of_day}
-use Rattle.itch_table.specs.Table.{step}
+use Rattle.std.specs.List.{Contains}
+use Rattle.itch_table.specs.Shows.{locates_of_day, Shows}
 use Rattle.itch_table.proofs.DayLocates.{rising}
 use Rattle.itch_table.proofs.Tops.{top_after-none}
+use Rattle.itch_table.specs.Projection.{is_locate}
+use Rattle.itch_table.proofs.StockDays.{own_part}
 use Rattle.stock_machine.specs.StockRows.{StockMachine}
-use Rattle.day_core.specs.declared.turns.Next.{Next}
-use Rattle.day_core.specs.Owners.{machine_of, new_machine, own_of, owner, part_at, progress}
+use Rattle.day_core.specs.declared.parts.Next.{Next}
+use Rattle.day_core.specs.Owners.{IsDue, IsNext, MayAddRow, machine_of, new_machine, own_of, owner, progress, part_at}
 use Rattle.day_core.specs.Splitting.{ArePartsOf, DayParts}
-use Rattle.day_core.specs.Turns.{AreTurns, IsNext, MayGrowAt, TurnsState, messages_of, next_of, progress_in, state_of, words_at, workers_of}
-use Rattle.day_core.proofs.Codes.{code_once, code_there}
-use Rattle.day_core.proofs.Dealt.{own_is}
-use Rattle.day_core.proofs.Lists.{all_same, map_same, map_set}
-use Rattle.day_core.proofs.MachineSteps.{machine_first, payload_is}
-use Rattle.day_core.proofs.NextMessage.{few_steps, grows, mine, next_stock, next_within, own_part, reached, stayed, stepped}
-use Rattle.day_core.proofs.Progress.{progress_first}
+use Rattle.day_core.specs.Turns.{AreTurns, MayGrowAt, TurnsState, messages_of, progress_in, state_of, words_at, workers_of, shown}
+use Rattle.day_core.proofs.Codes.{code_once, same_code, code_there}
+use Rattle.day_core.proofs.Kept.{all_same, map_same, map_set}
+use Rattle.day_core.proofs.MachineSteps.{machine_first, due, mine, reached, stayed}
+use Rattle.day_core.proofs.Progress.{progress_first, own_within, past_end, progress_next, progress_within}
 
--- what holds anyway holds where there is an error
-pub on_err : {T E : Type 0} (r : Result T E) (P : Type 0) → P → OnErr r P
-on_err (Ok x) P p = tt
-on_err (Err e) P p = p
+-- a worker comes to a message, whose stock stands at this place among those of the day
+pub record Comes (turns : TurnsState) (parts : DayParts) (stocks : List StockMachine) (cells : List (List ℕ)) (worker place : ℕ) (next : Next) : Type 0 where
+  pub are : AreTurns turns parts stocks cells
+  pub one : worker < workers_of turns
+  pub is : IsNext turns.day (workers_of turns) worker (get_or turns.done worker 0) next
+  pub listed : place < length (locates_of_day turns.day)
+  pub code : get_or (locates_of_day turns.day) place 0 ≡ next.locate
 
--- ---- what a turn reads
+pub comes : {turns : TurnsState} {parts : DayParts} {stocks : List StockMachine} {cells : List (List ℕ)} {worker place : ℕ} {next : Next} → AreTurns turns parts stocks cells → worker < workers_of turns
+    → (done : ℕ) → done ≡ get_or turns.done worker done → IsNext turns.day parts.workers worker done next → (place < length parts.locates) × (get_or parts.locates place 0 ≡ next.locate)
+    → Comes turns parts stocks cells worker place next
+comes {turns} {parts} {stocks} {cells} {worker} {place} {next} are one done done_is is found =
+    let far : done ≡ get_or turns.done worker 0 = done_is ∙ get_or_default turns.done worker done 0 one in
+    record {
+      are = are;
+      one = one;
+      is = rw (are.long, ← far) is;
+      listed = omega (arith, found.0, ap length are.parts_are.locates_are);
+      code = ap (λ (ls : List ℕ). get_or ls place 0) (sym are.parts_are.locates_are) ∙ found.1;
+    }
 
-module _ (turns : TurnsState) (parts : DayParts) (worker done message : ℕ) (own payload : List ℕ) (are : ArePartsOf turns.day parts) (long : workers_of turns ≡ parts.workers)
-    (own_is_got : own ≡ get_or parts.own worker []) (done_is : done ≡ get_or turns.done worker done) (one : worker < workers_of turns) (below : done < length own) (next : message ≡ get_or own done 0) where
-  own_here : own ≡ messages_of turns worker
-  own_here = own_is_got ∙ own_is turns.day parts worker are ∙ ap (λ (k : ℕ). own_of k worker turns.day) (sym long)
+-- or has done all of its messages
+pub all_done : {turns : TurnsState} {parts : DayParts} {stocks : List StockMachine} {cells : List (List ℕ)} {worker : ℕ} → AreTurns turns parts stocks cells → worker < workers_of turns
+    → (done : ℕ) → done ≡ get_or turns.done worker done → length (own_of parts.workers worker turns.day) ≤ done → get_or turns.done worker 0 ≡ length (messages_of turns worker)
+all_done {turns} {parts} {stocks} {cells} {worker} are one done done_is past =
+    omega (arith, are.within worker one, done_is, get_or_default turns.done worker done 0 one, past, ap (λ (k : ℕ). length (own_of k worker turns.day)) are.long)
 
-  far_so : done ≡ get_or turns.done worker 0
-  far_so = done_is ∙ get_or_default turns.done worker done 0 one
-
-  pub more : get_or turns.done worker 0 < length (messages_of turns worker)
-  more = omega (arith, below, far_so, ap length own_here)
-
-  pub message_is : message ≡ next_of turns worker
-  message_is = next ∙ ap (λ (ns : List ℕ). get_or ns done 0) own_here ∙ ap (λ (d : ℕ). get_or (messages_of turns worker) d 0) far_so
-
-  pub in_day : (1 ≤ message) × (message ≤ length turns.day)
-  in_day =
-      let within = next_within turns.day (workers_of turns) worker (get_or turns.done worker 0) more in
-      (omega (arith, within, message_is), omega (arith, within, message_is))
-
-  module _ (read : payload ≡ get_or turns.day (message - 1) payload) where
-    pub payload_here : payload ≡ payload_at turns.day (next_of turns worker)
-    payload_here = payload_is turns.day message payload in_day.0 in_day.1 read ∙ ap (payload_at turns.day) message_is
-
-    pub has_code : (locate : ℕ) × (part payload ≡ Locate locate)
-    has_code =
-        let found = next_stock turns.day (workers_of turns) worker (get_or turns.done worker 0) more in
-        (found.0, ap part payload_here ∙ found.1)
-
-    pub code_here : (locate : ℕ) → part payload ≡ Locate locate → part_at turns.day (next_of turns worker) ≡ Locate locate
-    code_here locate is = sym (ap part payload_here) ∙ is
-
-    pub listed_here : (locate : ℕ) → locate < 0x1_0000 → part payload ≡ Locate locate → Contains parts.locates locate
-    listed_here locate fits is =
-        let within = next_within turns.day (workers_of turns) worker (get_or turns.done worker 0) more in
-        subst (λ (ls : List ℕ). Contains ls locate) (sym are.locates_are) (code_there turns.day (next_of turns worker) locate within.0 within.1 fits (code_here locate is))
-
--- a worker that has come to the end of its messages
-pub through : (turns : TurnsState) (parts : DayParts) (worker done : ℕ) (own : List ℕ) → ArePartsOf turns.day parts → workers_of turns ≡ parts.workers → own ≡ get_or parts.own worker []
-    → done ≡ get_or turns.done worker done → worker < workers_of turns → get_or turns.done worker 0 ≤ length (messages_of turns worker) → length own ≤ done → get_or turns.done worker 0 ≡ length (messages_of turns worker)
-through turns parts worker done own are long own_got done_is one within past =
-    let all : own ≡ messages_of turns worker = own_got ∙ own_is turns.day parts worker are ∙ ap (λ (k : ℕ). own_of k worker turns.day) (sym long) in
-    omega (arith, within, past, ap length all, done_is, get_or_default turns.done worker done 0 one)
-
--- ---- a turn
-
-module _ (turns : TurnsState) (worker : ℕ) (one : worker < workers_of turns) (more : get_or turns.done worker 0 < length (messages_of turns worker)) where
+module _ {turns : TurnsState} {parts : DayParts} {stocks : List StockMachine} {cells : List (List ℕ)} {worker place : ℕ} {next : Next} (come : Comes turns parts stocks cells worker place next) where
   abbrev day : List (List ℕ)
   day = turns.day
 
@@ -89,117 +55,76 @@ module _ (turns : TurnsState) (worker : ℕ) (one : worker < workers_of turns) (
   abbrev done : ℕ
   done = get_or turns.done worker 0
 
-  abbrev then : TurnsState
-  then = state_of turns.day (set turns.done worker (done + 1))
-
-  far : (l : ℕ) → progress_in then l ≡ progress day workers l (get_or (set turns.done worker (done + 1)) (owner workers l) 0)
-  far l = ap (λ (w : ℕ). progress day w l (get_or (set turns.done worker (done + 1)) (owner w l) 0)) (length-set turns.done worker (done + 1))
-
-  done_then : (l : ℕ) → owner workers l ≡ worker → get_or (set turns.done worker (done + 1)) (owner workers l) 0 ≡ done + 1
-  done_then l same = ap (λ (w : ℕ). get_or (set turns.done worker (done + 1)) w 0) same ∙ get_or-set_same turns.done worker (done + 1) 0 one
-
-  done_before : (l : ℕ) → owner workers l ≡ worker → progress_in turns l ≡ progress day workers l done
-  done_before l same = ap (λ (w : ℕ). progress day workers l (get_or turns.done w 0)) same
-
-  module _ (locate : ℕ) (is : part_at day (next_of turns worker) ≡ Locate locate) where
-    own : owner workers locate ≡ worker
-    own = mine day workers worker done more locate is
-
-    -- its stock has come as far as the message, and another stays where it is
-    come : progress_in then locate ≡ next_of turns worker
-    come = far locate ∙ ap (progress day workers locate) (done_then locate own) ∙ reached day workers worker done more locate is
-
-    left : (other : ℕ) → other ≢ locate → progress_in then other ≡ progress_in turns other
-    left other differ = elim (cases_eq (owner workers other) worker) [
-      | inl same ↦ far other ∙ ap (progress day workers other) (done_then other same) ∙ stayed day workers worker done more locate is other same differ ∙ sym (done_before other same)
-      | inr apart ↦ far other ∙ ap (progress day workers other) (get_or-set_other turns.done worker (owner workers other) (done + 1) 0 apart)
-    ]
-
-module _ (turns : TurnsState) (parts : DayParts) (stocks : List StockMachine) (cells : List (List ℕ)) (are : AreTurns turns parts stocks cells) (worker : ℕ) (next : Next) (is : IsNext turns worker next) where
-  abbrev codes : List ℕ
-  codes = locates_of_day turns.day
-
-  abbrev locate : ℕ
-  locate = get_or codes next.place 0
-
-  abbrev n : ℕ
-  n = next_of turns worker
-
   abbrev moved : TurnsState
-  moved = state_of turns.day (set turns.done worker (get_or turns.done worker 0 + 1))
+  moved = state_of day (set turns.done worker (done + 1))
 
-  pub next_in_day : (1 ≤ next.message) × (next.message ≤ length turns.day)
-  next_in_day =
-      let within = next_within turns.day (workers_of turns) worker (get_or turns.done worker 0) is.more in
-      (omega (arith, within, is.message_is), omega (arith, within, is.message_is))
+  pub stocks_long : place < length stocks
+  stocks_long = omega (arith, come.listed, ap length come.are.stocks_are, length-map (locates_of_day day) (λ l. machine_of day l (progress_in turns l)))
 
-  pub payload_next : (payload : List ℕ) → payload ≡ get_or turns.day (next.message - 1) payload → payload ≡ payload_at turns.day n
-  payload_next payload read = payload_is turns.day next.message payload next_in_day.0 next_in_day.1 read ∙ ap (payload_at turns.day) is.message_is
+  pub cells_long : place < length cells
+  cells_long = omega (arith, come.listed, ap length come.are.cells_are, length-map (locates_of_day day) (λ l. words_at day l (progress_in turns l)))
 
-  pub stocks_long : next.place < length stocks
-  stocks_long = omega (arith, is.listed, ap length are.stocks_are, length-map codes (λ l. machine_of turns.day l (progress_in turns l)))
+  -- its stock is its own, and stands where its messages have left it
+  stands : progress_in turns next.locate ≡ progress day workers next.locate done
+  stands = ap (λ (w : ℕ). progress day workers next.locate (get_or turns.done w 0)) (mine come.is)
 
-  pub cells_long : next.place < length cells
-  cells_long = omega (arith, is.listed, ap length are.cells_are, length-map codes (λ l. words_at turns.day l (progress_in turns l)))
+  pub due_there : (m : StockMachine) → m ≡ get_or stocks place m → IsDue day next.message m
+  due_there m at =
+      due come.is m
+      (at ∙ ap (λ (ms : List StockMachine). get_or ms place m) come.are.stocks_are ∙ get_or-map (λ l. machine_of day l (progress_in turns l)) (locates_of_day day) place 0 m come.listed
+      ∙ ap (λ (l : ℕ). machine_of day l (progress_in turns l)) come.code ∙ ap (machine_of day next.locate) stands)
 
-  -- the machine that takes it
-  module _ (m : StockMachine) (at : m ≡ get_or stocks next.place m) where
-    stands : m ≡ machine_of turns.day locate (progress turns.day (workers_of turns) locate (get_or turns.done worker 0))
-    stands =
-        at ∙ ap (λ (ms : List StockMachine). get_or ms next.place m) are.stocks_are ∙ get_or-map (λ l. machine_of turns.day l (progress_in turns l)) codes next.place 0 m is.listed
-        ∙ ap (machine_of turns.day locate) (done_before turns worker is.one is.more locate (own turns worker is.one is.more locate is.stock_is))
+  -- which it leaves as the message says
+  pub machine_then : (m after : StockMachine) → m ≡ get_or stocks place m → after ≡ machine_of day m.locate next.message → after ≡ machine_of day next.locate next.message
+  machine_then m after at is = is ∙ ap (λ (l : ℕ). machine_of day l next.message) (same_code (sym (due_there m at).own ∙ come.is.stock_is))
 
-    pub takes : (payload : List ℕ) → payload ≡ get_or turns.day (next.message - 1) payload → part payload ≡ Locate m.locate
-    takes payload read =
-        ap part (payload_next payload read)
-        ∙ own_part turns.day (workers_of turns) worker (get_or turns.done worker 0) is.more locate is.stock_is m stands payload (payload_next payload read)
-
-    pub few : m.steps < 2 ^ 32 - 1
-    few = few_steps turns.day (workers_of turns) worker (get_or turns.done worker 0) is.more locate is.stock_is m stands are.parts_are.few
-
-    pub may_grow : (payload : List ℕ) → payload ≡ get_or turns.day (next.message - 1) payload → MayGrow (one_stock m.locate m.world) payload → MayGrowAt turns worker
-    may_grow payload read may = record {
-      one = is.one;
-      more = is.more;
-      adds = grows turns.day (workers_of turns) worker (get_or turns.done worker 0) is.more locate is.stock_is m stands payload (payload_next payload read) may;
-    }
-
-    pub took : (after : StockMachine) (o : Outcome) (payload : List ℕ) → payload ≡ get_or turns.day (next.message - 1) payload → after.locate ≡ m.locate → after.steps ≡ m.steps + 1 → (o, after.world) ≡ step m.world payload
-        → (after ≡ machine_of turns.day locate n) × (o ≡ outcome turns.day n)
-    took after o payload read same steps gives =
-        stepped turns.day (workers_of turns) worker (get_or turns.done worker 0) is.more locate is.stock_is m stands after o payload (payload_next payload read) same steps gives
+  pub may_grow : MayAddRow day next.message → MayGrowAt turns worker
+  may_grow adds = record { one = come.one; more = come.is.more; adds = subst (MayAddRow day) come.is.message_is adds }
 
   -- ---- after it
 
-  others : (k : ℕ) → k < length codes → k ≢ next.place → progress_in moved (get_or codes k 0) ≡ progress_in turns (get_or codes k 0)
-  others k lt differ = left turns worker is.one is.more locate is.stock_is (get_or codes k 0) (λ e. differ (code_once codes k next.place (rising turns.day) lt is.listed e))
+  far : (l : ℕ) → progress_in moved l ≡ progress day workers l (get_or (set turns.done worker (done + 1)) (owner workers l) 0)
+  far l = ap (λ (w : ℕ). progress day w l (get_or (set turns.done worker (done + 1)) (owner w l) 0)) (length-set turns.done worker (done + 1))
+
+  own_then : (l : ℕ) → owner workers l ≡ worker → progress_in moved l ≡ progress day workers l (done + 1)
+  own_then l same =
+      far l ∙ ap (progress day workers l) (ap (λ (w : ℕ). get_or (set turns.done worker (done + 1)) w 0) same ∙ get_or-set_same turns.done worker (done + 1) 0 come.one)
+
+  here : progress_in moved (get_or (locates_of_day day) place 0) ≡ next.message
+  here = ap (progress_in moved) come.code ∙ own_then next.locate (mine come.is) ∙ reached come.is
+
+  others : (k : ℕ) → k < length (locates_of_day day) → k ≢ place → progress_in moved (get_or (locates_of_day day) k 0) ≡ progress_in turns (get_or (locates_of_day day) k 0)
+  others k lt differ =
+      let other = get_or (locates_of_day day) k 0 in
+      elim (cases_eq (owner workers other) worker) [
+        | inl same ↦
+            own_then other same ∙ stayed come.is other same (λ e. differ (code_once (locates_of_day day) k place (rising day) lt come.listed (e ∙ sym come.code)))
+            ∙ sym (ap (λ (w : ℕ). progress day workers other (get_or turns.done w 0)) same)
+        | inr apart ↦ far other ∙ ap (progress day workers other) (get_or-set_other turns.done worker (owner workers other) (done + 1) 0 apart)
+      ]
 
   within_moved : (w : ℕ) → w < workers_of moved → get_or moved.done w 0 ≤ length (messages_of moved w)
   within_moved w lt =
-      let same : length (messages_of moved w) ≡ length (messages_of turns w) = ap (λ (k : ℕ). length (own_of k w turns.day)) (length-set turns.done worker (get_or turns.done worker 0 + 1)) in
-      let low : w < workers_of turns = omega (arith, lt, length-set turns.done worker (get_or turns.done worker 0 + 1)) in
+      let same : length (messages_of moved w) ≡ length (messages_of turns w) = ap (λ (k : ℕ). length (own_of k w day)) (length-set turns.done worker (done + 1)) in
       elim (cases_eq w worker) [
         | inl it ↦
-            let now : get_or moved.done w 0 ≡ get_or turns.done worker 0 + 1 = ap (λ (k : ℕ). get_or moved.done k 0) it ∙ get_or-set_same turns.done worker (get_or turns.done worker 0 + 1) 0 is.one in
-            let long : length (messages_of turns w) ≡ length (messages_of turns worker) = ap (λ (k : ℕ). length (messages_of turns k)) it in
-            omega (arith, now, long, same, is.more)
-        | inr apart ↦ omega (arith, get_or-set_other turns.done worker w (get_or turns.done worker 0 + 1) 0 apart, are.within w low, same)
+            let now : get_or moved.done w 0 ≡ done + 1 = ap (λ (k : ℕ). get_or moved.done k 0) it ∙ get_or-set_same turns.done worker (done + 1) 0 come.one in
+            omega (arith, now, ap (λ (k : ℕ). length (messages_of turns k)) it, same, come.is.more)
+        | inr apart ↦ omega (arith, get_or-set_other turns.done worker w (done + 1) 0 apart, come.are.within w (omega (arith, lt, length-set turns.done worker (done + 1))), same)
       ]
 
-  pub turns_then : (m : StockMachine) (words : List ℕ) → m ≡ machine_of turns.day locate n → words ≡ words_at turns.day locate n → AreTurns moved parts (set stocks next.place m) (set cells next.place words)
-  turns_then m words now shows =
-      let here = come turns worker is.one is.more locate is.stock_is in
-      record {
-        parts_are = are.parts_are;
-        long = length-set turns.done worker (get_or turns.done worker 0 + 1) ∙ are.long;
-        within = within_moved;
-        stocks_are =
-            map_set (λ l. machine_of turns.day l (progress_in turns l)) (λ l. machine_of turns.day l (progress_in moved l)) codes stocks next.place m is.listed are.stocks_are
-            (now ∙ ap (machine_of turns.day locate) (sym here)) (λ k lt differ. ap (machine_of turns.day (get_or codes k 0)) (others k lt differ));
-        cells_are =
-            map_set (λ l. words_at turns.day l (progress_in turns l)) (λ l. words_at turns.day l (progress_in moved l)) codes cells next.place words is.listed are.cells_are
-            (shows ∙ ap (words_at turns.day locate) (sym here)) (λ k lt differ. ap (words_at turns.day (get_or codes k 0)) (others k lt differ));
-      }
+  pub turns_then : (m : StockMachine) (words : List ℕ) → m ≡ machine_of day next.locate next.message → words ≡ words_at day next.locate next.message → AreTurns moved parts (set stocks place m) (set cells place words)
+  turns_then m words now shows = record {
+    parts_are = come.are.parts_are;
+    long = length-set turns.done worker (done + 1) ∙ come.are.long;
+    within = within_moved;
+    stocks_are =
+        map_set (λ l. machine_of day l (progress_in turns l)) (λ l. machine_of day l (progress_in moved l)) (locates_of_day day) stocks place m come.listed come.are.stocks_are
+        (now ∙ (λ i. machine_of day (sym come.code i) (sym here i))) (λ k lt differ. ap (machine_of day (get_or (locates_of_day day) k 0)) (others k lt differ));
+    cells_are =
+        map_set (λ l. words_at day l (progress_in turns l)) (λ l. words_at day l (progress_in moved l)) (locates_of_day day) cells place words come.listed come.are.cells_are
+        (shows ∙ (λ i. words_at day (sym come.code i) (sym here i))) (λ k lt differ. ap (words_at day (get_or (locates_of_day day) k 0)) (others k lt differ));
+  }
 
 -- ---- before the first turn
 
@@ -247,3 +172,31 @@ module _ (turns : TurnsState) (parts : DayParts) (stocks : List StockMachine) (c
       let listed : place < length (locates_of_day turns.day) = omega (arith, lt, ap length are.parts_are.locates_are) in
       at ∙ ap (λ (ms : List StockMachine). get_or ms place m) are.stocks_are ∙ get_or-map (λ l. machine_of turns.day l (progress_in turns l)) (locates_of_day turns.day) place 0 m listed
       ∙ ap (λ (l : ℕ). machine_of turns.day l (progress_in turns l)) (ap (λ (ls : List ℕ). get_or ls place 0) (sym are.parts_are.locates_are) ∙ code)
+
+-- ---- what a look shows of a stock
+
+pub shows_progress : (day : List (List ℕ)) (workers locate done : ℕ) → Shows day locate (progress day workers locate done) (shown day workers locate done)
+shows_progress day workers locate done = (progress_within day workers locate done, refl)
+
+-- a stock of no message has come nowhere
+progress_absent : (day : List (List ℕ)) (workers locate done : ℕ) → locate < 0x1_0000 → ¬ Contains (locates_of_day day) locate → progress day workers locate done ≡ 0
+progress_absent day workers locate zero fits absent = progress_first day workers locate
+progress_absent day workers locate (suc done) fits absent = subst (λ (k : ℕ). progress day workers locate k ≡ 0) (omega arith) (more (progress_absent day workers locate done fits absent))
+  where
+    more : progress day workers locate done ≡ 0 → progress day workers locate (done + 1) ≡ 0
+    more before =
+        let own = own_of workers (owner workers locate) day in
+        elim (cases_lt done (length own)) [
+          | inl lt ↦
+              let within = own_within workers (owner workers locate) day done 0 lt in
+              progress_next day workers locate done 0 lt ∙ elim (cases_Bool (is_locate locate (part_at day (get_or own done 0)))) [
+                | inl on ↦ absurd (absent (code_there day (get_or own done 0) locate within.0 within.1 fits (own_part locate _ on)))
+                | inr off ↦ rw off before
+              ]
+          | inr past ↦ past_end day workers locate done past ∙ before
+        ]
+
+pub shows_absent : (day : List (List ℕ)) (workers locate done : ℕ) → locate < 0x1_0000 → ¬ Contains (locates_of_day day) locate → Shows day locate (progress day workers locate done) (0 ∷ 0 ∷ 0 ∷ 0 ∷ [])
+shows_absent day workers locate done fits absent =
+    let none = progress_absent day workers locate done fits absent in
+    rw (none, top_after-none day locate) (omega arith, refl)

@@ -1,16 +1,20 @@
 -- Which worker each message of a day belongs to, and how far a stock is once its worker has done some of its
 -- messages. All is of this project.
-use Rattle.std.specs.Prelude.{◌==◌, ◌%◌, ℕ, Bool, true, false, List, [], ◌∷◌, length, map, filter, take}
+use Rattle.std.specs.Prelude.{◌≡◌, ◌==◌, ◌%◌, ◌-◌, ◌<◌, ◌≤◌, ℕ, Bool, true, false, IsTrue, List, [], ◌∷◌, Some, length, map, filter, slice_index, take}
 use Rattle.std.specs.List.{range_with_len}
+use Rattle.itch_layouts.specs.Shapes.{shape_of}
+use Rattle.itch_table.specs.declared.outcome.Outcome.TheVariants.{Applied}
 use Rattle.itch_table.specs.declared.outcome.Part.{Part}
 use Rattle.itch_table.specs.declared.outcome.Part.TheVariants.{Locate, Nowhere}
 use Rattle.itch_table.specs.After.{after, outcome}
+use Rattle.itch_table.specs.Machine.{shape_adds_row}
 use Rattle.itch_table.specs.Parts.{part}
 use Rattle.itch_table.specs.Projection.{is_locate, only, payload_at, steps_of}
 use Rattle.itch_table.specs.Shows.{locates_of_day}
 use Rattle.itch_table.specs.World.{empty_world}
 use Rattle.stock_machine.specs.StockRows.{StockMachine}
 use Rattle.day_core.specs.declared.merging.Piece.{Piece}
+use Rattle.day_core.specs.declared.parts.Next.{Next}
 
 -- the part of message n of a day, for n from 1
 abbrev pub part_at : List (List ℕ) → ℕ → Part
@@ -59,6 +63,13 @@ fixed_until day count = map (piece_of day) (filter (λ n. is_nowhere (part_at da
 unfoldable pub fixed_pieces : List (List ℕ) → List Piece
 fixed_pieces day = fixed_until day (length day)
 
+-- the message that a worker does after this many of its own, and the message's stock
+pub record IsNext (day : List (List ℕ)) (workers worker done : ℕ) (next : Next) : Type 0 where
+  pub more : done < length (own_of workers worker day)
+  pub message_is : next.message ≡ slice_index (own_of workers worker day) done
+  pub stock_is : part_at day next.message ≡ Locate next.locate
+  pub fits : next.locate < 0x1_0000
+
 -- ---- how far a stock is
 
 -- the last of some numbers, or this one where there are none
@@ -94,3 +105,16 @@ machine_of day locate n = record {
 -- a stock's machine before the first message
 abbrev pub new_machine : ℕ → StockMachine
 new_machine locate = record { locate = locate; world = empty_world; steps = 0 }
+
+-- message n of a day is of this machine's stock, and the machine has done those of its messages that come before
+pub record IsDue (day : List (List ℕ)) (n : ℕ) (m : StockMachine) : Type 0 where
+  pub some : 1 ≤ n
+  pub within : n ≤ length day
+  pub own : part_at day n ≡ Locate m.locate
+  pub before : m ≡ machine_of day m.locate (n - 1)
+
+-- a message of a day may need memory: it would be applied, and its kind may need a new row
+pub record MayAddRow (day : List (List ℕ)) (n : ℕ) : Type 0 where
+  pub applied : outcome day n ≡ Applied
+  pub adds : (locate : ℕ) → part_at day n ≡ Locate locate
+      → IsTrue (shape_adds_row (Some locate) (shape_of (payload_at day n)))

@@ -1,6 +1,6 @@
 -- What the workers of a day make of all of it. Of this project.
-use Rattle.std.specs.Prelude.{◌≡◌, ◌≤◌, ℕ, Bool, true, false, List, Option, length, map, filter}
-use Rattle.std.specs.List.{Contains, range_with_len}
+use Rattle.std.specs.Prelude.{◌≡◌, ◌==◌, ◌≤◌, ℕ, Bool, true, false, List, Option, length, map, filter}
+use Rattle.std.specs.List.{Contains, range_with_len, zip}
 use Rattle.itch_table.specs.declared.outcome.Outcome.{Outcome}
 use Rattle.itch_table.specs.declared.outcome.Outcome.TheVariants.{Applied, Passed, Refused}
 use Rattle.itch_table.specs.declared.outcome.Part.TheVariants.{Locate}
@@ -8,7 +8,7 @@ use Rattle.itch_table.specs.After.{after, outcome, outcomes}
 use Rattle.itch_table.specs.Shows.{locates_of_day}
 use Rattle.stock_machine.specs.StockRows.{StockMachine}
 use Rattle.day_core.specs.declared.merging.Piece.{Piece}
-use Rattle.day_core.specs.Owners.{locates_by, machine_of, own_of, part_at, piece_of}
+use Rattle.day_core.specs.Owners.{machine_of, own_of, owner, part_at, piece_of}
 use Rattle.day_core.specs.Splitting.{DayParts}
 
 -- a stock's machine after the whole day
@@ -77,10 +77,19 @@ pub record IsSummary (day : List (List ℕ)) (refused : List Piece) (stocks : Li
   pub stocks_are : stocks ≡ map (last_machine day) (locates_of_day day)
   pub event_is : event ≡ (after day (length day)).event
 
--- a value for each of a worker's stocks, by rising locate code
-abbrev pub for_own_stocks : {T : Type 0} → (ℕ → T) → DayParts → ℕ → List T
-for_own_stocks f parts worker = map f (locates_by parts.workers worker parts.locates)
+-- of values that stand beside locate codes, those of a worker's stocks
+abbrev pub values_by : {T : Type 0} → ℕ → List (T × ℕ) → ℕ → List T
+values_by workers values worker = map (λ v. v.0) (filter (λ v. owner workers v.1 == worker) values)
+
+-- of a value for each stock of the parts, by rising locate code, those of a worker's stocks
+abbrev pub own_values : {T : Type 0} → DayParts → List T → ℕ → List T
+own_values parts values worker = values_by parts.workers (zip values parts.locates) worker
 
 -- a value for each worker, by its number
 abbrev pub each_worker : {T : Type 0} → (ℕ → T) → ℕ → List T
 each_worker f workers = map f (range_with_len 0 workers)
+
+-- the values of all stocks of the parts, for each worker those of its stocks
+abbrev pub AreByWorker : {T : Type 0} → DayParts → List T → List (List T) → Type 0
+AreByWorker parts values lists =
+    (length values ≡ length parts.locates) × (lists ≡ each_worker (own_values parts values) parts.workers)

@@ -50,8 +50,6 @@ pub record AreSeen (day : List (List ℕ)) (count : ℕ) (seen : List Bool) : Ty
 pub record AreDealt (day : List (List ℕ)) (workers count : ℕ) (seen : List Bool) (own : List (List ℕ))
     (fixed : List Piece) (event : Option ℕ) : Type 0 where
   pub seen_are : AreSeen day count seen
-  pub own_long : length own ≡ workers
-  pub own_are : (worker : ℕ) → worker < workers
-      → slice_index_or own worker [] ≡ own_until workers worker day count
+  pub own_are : own ≡ map (λ worker. own_until workers worker day count) (range_with_len 0 workers)
   pub fixed_are : fixed ≡ fixed_until day count
   pub event_is : event ≡ (after day count).event

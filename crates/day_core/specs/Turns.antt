@@ -1,16 +1,9 @@
 -- All workers of a day, and how far each has come. Of this project.
-use Rattle.std.specs.Prelude.{◌≡◌, ◌+◌, ◌<◌, ◌≤◌, ℕ, IsTrue, List, Option, Some, None, length, map, slice_index, slice_set}
-use Rattle.itch_layouts.specs.Shapes.{shape_of}
-use Rattle.itch_table.specs.declared.outcome.Outcome.TheVariants.{Applied}
-use Rattle.itch_table.specs.declared.outcome.Part.TheVariants.{Locate}
-use Rattle.itch_table.specs.After.{outcome}
-use Rattle.itch_table.specs.Machine.{shape_adds_row}
-use Rattle.itch_table.specs.Projection.{payload_at}
+use Rattle.std.specs.Prelude.{◌≡◌, ◌+◌, ◌<◌, ◌≤◌, ℕ, List, Option, Some, None, length, map, slice_index, slice_set}
 use Rattle.itch_table.specs.Shows.{locates_of_day, top_after, words_of}
 use Rattle.stock_machine.specs.StockRows.{StockMachine}
 use Rattle.day_core.specs.declared.merging.Piece.{Piece}
-use Rattle.day_core.specs.declared.turns.Next.{Next}
-use Rattle.day_core.specs.Owners.{machine_of, own_of, owner, part_at, piece_of, progress}
+use Rattle.day_core.specs.Owners.{MayAddRow, machine_of, own_of, owner, piece_of, progress}
 use Rattle.day_core.specs.Splitting.{ArePartsOf, DayParts}
 
 -- a day, and how many of its own messages each of its workers has done
@@ -62,21 +55,6 @@ pub record AreTurns (turns : TurnsState) (parts : DayParts) (stocks : List Stock
 abbrev pub HasNone : TurnsState → ℕ → Type 0
 HasNone turns worker =
     worker < workers_of turns → slice_index turns.done worker ≡ length (messages_of turns worker)
-
--- a worker's next message, and where its stock stands among those of the day
-pub record IsNext (turns : TurnsState) (worker : ℕ) (next : Next) : Type 0 where
-  pub one : worker < workers_of turns
-  pub more : slice_index turns.done worker < length (messages_of turns worker)
-  pub message_is : next.message ≡ next_of turns worker
-  pub listed : next.place < length (locates_of_day turns.day)
-  pub stock_is : part_at turns.day (next_of turns worker)
-      ≡ Locate (slice_index (locates_of_day turns.day) next.place)
-
--- a message of a day may need memory: it would be applied, and its kind may need a new row
-pub record MayAddRow (day : List (List ℕ)) (n : ℕ) : Type 0 where
-  pub applied : outcome day n ≡ Applied
-  pub adds : (locate : ℕ) → part_at day n ≡ Locate locate
-      → IsTrue (shape_adds_row (Some locate) (shape_of (payload_at day n)))
 
 -- a turn may need memory: this worker has a message left that may
 pub record MayGrowAt (turns : TurnsState) (worker : ℕ) : Type 0 where

@@ -19,7 +19,7 @@ pub fn days_come_to_their_end()
 
 /// What a look shows of a stock is the stock's best bid and ask after some message of the day, or before the first:
 /// after the last of the stock's messages that its worker has done.
-#[tactic(auto, using(crate::proofs::Looks::shows_progress))]
+#[tactic(auto, using(crate::proofs::Turning::shows_progress))]
 pub fn looks_show_their_stock()
     ensures { (day : List (List ℕ)) (workers locate done : ℕ) →
         Shows day locate (progress day workers locate done) (shown day workers locate done) }
@@ -28,7 +28,7 @@ pub fn looks_show_their_stock()
 /// Looks at a stock never go back: after more events a look shows the stock as it was shown before, or after a later
 /// message (`progress`). So of two looks at one stock that a schedule lists, the later one never shows an earlier
 /// message (`seen`).
-#[tactic(auto, using(crate::proofs::NeverBack::never_back))]
+#[tactic(auto, using(crate::proofs::Scheduled::never_back))]
 pub fn looks_never_go_back()
     ensures progress { (day : List (List ℕ)) (workers locate : ℕ) (before more : List Event) →
         progress day workers locate (done_after day workers before (owner workers locate))

@@ -11,9 +11,9 @@
 //! }
 //! ```
 //!
-//! [`merge`] puts outcomes together that come in any order. [`new_stocks`], [`by_worker`] and [`in_order`] make machines,
-//! deal what there is for each stock to the workers, and put it together again. [`event_after`] is the last event code after one more payload, and
-//! [`locates`] has the stocks of a day.
+//! [`merge`] puts outcomes together that come in any order. [`new_stocks`] makes machines, and [`do_message`] does a
+//! message on one. [`by_worker`] and [`in_order`] deal what there is for each stock to the workers, and put it together
+//! again. [`event_after`] is the last event code after one more payload, and [`locates`] has the stocks of a day.
 //!
 //! The effects of messages are those of Nasdaq TotalView-ITCH 5.0; the rest is of this project. An `AllocError` says
 //! that memory was refused.
@@ -35,10 +35,10 @@ pub use dealing::event_after;
 pub use laws::{
     days_come_to_their_end, looks_never_go_back, looks_show_their_stock, others_are_applied,
 };
-pub use machines::new_stocks;
+pub use machines::{do_message, new_stocks};
 pub use merging::{MergeFault, Piece, merge};
 pub use ordering::{by_worker, in_order};
-pub use parts::Parts;
+pub use parts::{Next, Parts};
 pub use playing::{Event, Seen, play};
 pub use seeing::locates;
 pub use splitting::{SplitFault, split};

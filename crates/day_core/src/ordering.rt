@@ -1,6 +1,6 @@
 //! Values of a day's stocks, in one list by rising locate code, or by their workers.
-ghost use Rattle.std.specs.Prelude.{◌≡◌, ◌++◌, ◌∷◌, ◌<◌, ℕ, [], IfOk, OnOk, length, map, replicate, slice_index_or, slice_set};
-ghost use Rattle.day_core.specs.Replaying.{each_worker, for_own_stocks};
+ghost use Rattle.std.specs.Prelude.{◌≡◌, ◌++◌, ◌∷◌, ◌<◌, List, [], IfOk, OnOk, length, map, replicate, slice_index_or, slice_set};
+ghost use Rattle.day_core.specs.Replaying.{AreByWorker, each_worker, own_values};
 
 use crate::parts::Parts;
 use std::alloc::{AllocError, Allocator};
@@ -45,16 +45,14 @@ pub fn by_worker<T: Drop, A: Allocator + Copy>(
     parts: &Parts<A>,
     values: Vec<T, A>,
 ) -> Result<Vec<Vec<T, A>, A>, AllocError>
-    requires { length values.items ≡ length parts.now.locates }
-    ensures long { IfOk result (λ lists. length lists.items ≡ parts.now.workers) }
-    ensures order { IfOk result (λ lists. (f : ℕ → T) → values.items ≡ map f parts.now.locates
-        → map (λ own. own.items) lists.items ≡ each_worker (for_own_stocks f parts.now) parts.now.workers) }
+    ensures { IfOk result (λ lists. map (λ list. list.items) lists.items
+        ≡ each_worker (own_values parts.now values.items) parts.now.workers) }
 {
     let workers = parts.workers();
-    let locates = parts.locates();
+    let locates = Vec::from_slice(alloc, parts.locates())?;
     let mut lists = empty_lists(alloc, workers)?;
-    for (index, value) in values.into_iter().enumerate() {
-        give(&mut lists, u32::from(locates[index]) % workers, value)?;
+    for (value, locate) in values.into_iter().zip(locates) {
+        give(&mut lists, u32::from(locate) % workers, value)?;
     }
     Ok(lists)
 }
@@ -83,11 +81,9 @@ pub fn in_order<T: Drop, A: Allocator + Copy>(
     parts: &Parts<A>,
     by_worker: Vec<Vec<T, A>, A>,
 ) -> Result<Vec<T, A>, AllocError>
-    requires { (f : ℕ → T) × (map (λ own. own.items) by_worker.items
-        ≡ each_worker (for_own_stocks f parts.now) parts.now.workers) }
-    ensures { IfOk result (λ all. (f : ℕ → T)
-        → map (λ own. own.items) by_worker.items ≡ each_worker (for_own_stocks f parts.now) parts.now.workers
-        → all.items ≡ map f parts.now.locates) }
+    requires { (values : List T) × AreByWorker parts.now values (map (λ own. own.items) by_worker.items) }
+    ensures { IfOk result (λ all. (values : List T)
+        → AreByWorker parts.now values (map (λ own. own.items) by_worker.items) → all.items ≡ values) }
 {
     let workers = parts.workers();
     let locates = parts.locates();

@@ -2,9 +2,13 @@
 ghost use Rattle.std.specs.Prelude.{◌≡◌, ◌<◌, ◌≤◌, [], MatchOption, length, slice_index, slice_index_or};
 ghost use Rattle.std.specs.List.{Contains};
 ghost use Rattle.std.specs.List.Sorted.{IsStrictlyIncreasing};
+ghost use Rattle.day_core.specs.Owners.{IsNext, own_of};
+ghost use Rattle.day_core.specs.Splitting.{ArePartsOf};
 
 use crate::merging::Piece;
 use crate::worker_count::WorkerCount;
+use binaryfile::Day;
+use itch_table::locate_in;
 use std::alloc::Allocator;
 use std::marker::Model;
 
@@ -39,6 +43,15 @@ impl<A: Allocator> Model for Parts<A> {
     ghost invariant = { λ p. IsStrictlyIncreasing p.locates.items };
 }
 
+/// A message that a worker comes to.
+#[derive(Debug, Clone, Copy, PartialEq, Eq)]
+pub struct Next {
+    /// The message's number in the day, counted from 1.
+    pub message: u32,
+    /// The locate code of its stock.
+    pub locate: u16,
+}
+
 impl<A: Allocator> Parts<A> {
     /// For how many workers the day was split, from 1 to 64.
     pub fn workers(&self) -> u32
@@ -65,6 +78,22 @@ impl<A: Allocator> Parts<A> {
             Some(own) => own,
             None => &[],
         }
+    }
+
+    /// The message that a worker does after this many of its own; none where these are all, and for a number that is no
+    /// worker's. The caller passes the day that was split.
+    pub fn next(&self, day: &Day<A>, worker: u32, done: usize) -> Option<Next>
+        requires { ArePartsOf day.now.payloads self.now }
+        ensures { MatchOption result (length (own_of self.now.workers worker day.now.payloads) ≤ done)
+            (IsNext day.now.payloads self.now.workers worker done) }
+    {
+        let own = self.own(worker);
+        if done >= own.len() {
+            return None;
+        }
+        let message = own[done];
+        let locate = locate_in(day.payload(message));
+        Some(Next { message, locate })
     }
 
     /// The messages of no stock, with their outcomes, by rising number.

@@ -3,14 +3,13 @@ ghost use Rattle.std.specs.Prelude.{◌≡◌, ◌<◌, ◌⊎◌, ◌↔◌, If
 ghost use Rattle.std.specs.List.{Contains};
 ghost use Rattle.itch_table.specs.Shows.{Shows, locates_of_day};
 ghost use Rattle.day_core.specs.Owners.{machine_of};
-ghost use Rattle.day_core.specs.Turns.{HasNone, IsNext, MayGrowAt, TurnsWorker, progress_in};
+ghost use Rattle.day_core.specs.Turns.{MayGrowAt, TurnsWorker, progress_in};
 
-use crate::machines::new_stocks;
+use crate::machines::{do_message, new_stocks};
 use crate::merging::Piece;
 use crate::parts::Parts;
 use crate::splitting::{SplitFault, split};
 use binaryfile::Day;
-use itch_table::locate_in;
 use std::alloc::{AllocError, Allocator};
 use std::marker::Model;
 use std::thread::Threads;
@@ -39,13 +38,6 @@ impl<'d, A: Allocator> Model for Turns<'d, A> {
 
     ghost invariant = { λ t.
         AreTurns (state_of t.day.now.payloads t.done.items) t.parts t.stocks.items t.cells.items };
-}
-
-// A message that a worker comes to, and where its stock stands among those of the day.
-#[derive(Debug, Clone, Copy)]
-struct Next {
-    message: u32,
-    place: usize,
 }
 
 impl<'d, A: Allocator + Copy> Turns<'d, A> {
@@ -86,36 +78,19 @@ impl<'d, A: Allocator + Copy> Turns<'d, A> {
         ensures err { OnErr result (self.new ≡ self.old) }
         ensures grows { OnErr result (MayGrowAt self.old worker) }
     {
-        let Some(next) = self.next(worker) else {
-            return Ok(None);
-        };
-        let stock = &mut self.stocks[next.place];
-        let outcome = stock.step(self.day.payload(next.message))?;
-        self.cells[next.place] = stock.top().to_words(next.message);
-        self.done[worker as usize] += 1;
-        Ok(Some(Piece {
-            message: next.message,
-            outcome,
-        }))
-    }
-
-    // A worker's next message; none where it has done all of them or isn't one.
-    fn next(&self, worker: u32) -> Option<Next>
-        ensures { MatchOption result (HasNone self.now worker) (IsNext self.now worker) }
-    {
         let index = worker as usize;
         if index >= self.done.len() {
-            return None;
+            return Ok(None);
         }
-        let done = self.done[index];
-        let own = self.parts.own(worker);
-        if done >= own.len() {
-            return None;
-        }
-        let message = own[done];
-        let locate = locate_in(self.day.payload(message));
-        let place = self.parts.index_of(locate).unwrap();
-        Some(Next { message, place })
+        let Some(next) = self.parts.next(self.day, worker, self.done[index]) else {
+            return Ok(None);
+        };
+        let place = self.parts.index_of(next.locate).unwrap();
+        let stock = &mut self.stocks[place];
+        let piece = do_message(self.day, stock, next.message)?;
+        self.cells[place] = stock.top().to_words(next.message);
+        self.done[index] += 1;
+        Ok(Some(piece))
     }
 
     /// The four words that a screen reads of a stock: those of the last of its messages that its worker has done; four

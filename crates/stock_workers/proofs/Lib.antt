@@ -1,4 +1,3 @@
-mod Dealing
 mod Finishing
 mod Joined
 pub mod Standing

@@ -3,8 +3,8 @@ use Rattle.std.specs.Prelude.{◌≡◌, ◌<◌, ℕ, List, All, IfOk, Result, 
 use Rattle.std.specs.declared.alloc.AllocError.{AllocError}
 use Rattle.stock_machine.specs.StockRows.{StockMachine}
 use Rattle.day_core.specs.declared.merging.Piece.{Piece}
-use Rattle.day_core.specs.Owners.{last_message, own_locates}
-use Rattle.day_core.specs.Replaying.{each_worker, for_own_stocks, last_machine, pieces_by}
+use Rattle.day_core.specs.Owners.{last_message, locates_by, own_locates}
+use Rattle.day_core.specs.Replaying.{each_worker, last_machine, own_values, pieces_by}
 use Rattle.day_core.specs.Splitting.{DayParts}
 use Rattle.top_cell.specs.Boards.{CellId, IsOn, WriterAt}
 use Rattle.stock_workers.specs.Working.{WritersAt}
@@ -17,11 +17,12 @@ pub record IsWaiting (day : List (List ℕ)) (workers : ℕ) (board : List CellI
   pub none_done : WritersAt day (λ _. 0) (own_locates workers worker day) writers
   pub on_board : All (λ w. IsOn board w.place) writers
 
--- all workers of a day before they start, in the order of their numbers, each with the writers of its stocks
-pub record AreWaiting {A : Type 0} (parts : DayParts) (writer : ℕ → WriterAt) (all : List (Waiting A))
+-- all workers of a day before they start, in the order of their numbers, each with those of the writers that are its
+-- stocks'
+pub record AreWaiting {A : Type 0} (parts : DayParts) (writers : List WriterAt) (all : List (Waiting A))
     : Type 0 where
   pub numbers_are : map (λ w. w.worker) all ≡ each_worker (λ worker. worker) parts.workers
-  pub writers_are : map (λ w. w.writers.items) all ≡ each_worker (for_own_stocks writer parts) parts.workers
+  pub writers_are : map (λ w. w.writers.items) all ≡ each_worker (own_values parts writers) parts.workers
 
 -- a writer at the last message of its stock
 abbrev pub at_last : List (List ℕ) → WriterAt → WriterAt
@@ -32,22 +33,23 @@ at_last day w = record w { message = last_message day w.place.locate }
 pub record IsFinished (day : List (List ℕ)) (parts : DayParts) (worker : ℕ) (writers : List WriterAt)
     (pieces : List Piece) (stocks : List StockMachine) (after : List WriterAt) : Type 0 where
   pub pieces_are : pieces ≡ pieces_by day parts.workers worker
-  pub stocks_are : stocks ≡ for_own_stocks (last_machine day) parts worker
+  pub stocks_are : stocks ≡ map (last_machine day) (locates_by parts.workers worker parts.locates)
   pub writers_are : after ≡ map (at_last day) writers
 
--- what all workers make, in the order of their numbers, where none was refused memory: the writers of their stocks were
--- these, by locate code
-pub record AreFinished {A : Type 0} (day : List (List ℕ)) (parts : DayParts) (writer : ℕ → WriterAt)
+-- what all workers make, in the order of their numbers, where none was refused memory: these were the writers of the
+-- day's stocks
+pub record AreFinished {A : Type 0} (day : List (List ℕ)) (parts : DayParts) (writers : List WriterAt)
     (made : List (Result (Finished A) AllocError)) : Type 0 where
   pub long : length made ≡ parts.workers
   pub each : (worker : ℕ) (d : Result (Finished A) AllocError) → worker < parts.workers
       → IfOk (slice_index_or made worker d)
-      (λ m. IsFinished day parts worker (for_own_stocks writer parts worker) m.pieces.items m.stocks.items
+      (λ m. IsFinished day parts worker (own_values parts writers worker) m.pieces.items m.stocks.items
       m.writers.items)
 
 -- what all workers made, put together by worker
-pub record AreGathered (day : List (List ℕ)) (parts : DayParts) (writer : ℕ → WriterAt) (pieces : List (List Piece))
-    (stocks : List (List StockMachine)) (writers : List (List WriterAt)) : Type 0 where
+pub record AreGathered (day : List (List ℕ)) (parts : DayParts) (writers : List WriterAt)
+    (pieces : List (List Piece)) (stocks : List (List StockMachine)) (after : List (List WriterAt)) : Type 0 where
   pub pieces_are : pieces ≡ each_worker (pieces_by day parts.workers) parts.workers
-  pub stocks_are : stocks ≡ each_worker (for_own_stocks (last_machine day) parts) parts.workers
-  pub writers_are : writers ≡ each_worker (for_own_stocks (λ locate. at_last day (writer locate)) parts) parts.workers
+  pub stocks_are : stocks
+      ≡ each_worker (λ w. map (last_machine day) (locates_by parts.workers w parts.locates)) parts.workers
+  pub writers_are : after ≡ each_worker (λ w. map (at_last day) (own_values parts writers w)) parts.workers

@@ -1,13 +1,10 @@
 -- A worker with the writers of its stocks' cells. All is of this project.
 use Rattle.std.specs.Prelude.{◌≡◌, ◌+◌, ◌<◌, ◌≤◌, ℕ, List, Option, Some, None, length, map, slice_index}
-use Rattle.itch_table.specs.declared.outcome.Part.TheVariants.{Locate}
 use Rattle.stock_machine.specs.StockRows.{StockMachine}
 use Rattle.day_core.specs.declared.merging.Piece.{Piece}
-use Rattle.day_core.specs.Owners.{locates_by, machine_of, new_machine, own_locates, own_of, part_at, piece_of, progress}
+use Rattle.day_core.specs.Owners.{MayAddRow, locates_by, machine_of, new_machine, own_locates, own_of, piece_of, progress}
 use Rattle.day_core.specs.Splitting.{ArePartsOf, DayParts}
-use Rattle.day_core.specs.Turns.{MayAddRow}
 use Rattle.top_cell.specs.Boards.{Place, WriterAt}
-use Rattle.stock_workers.specs.declared.worker.Next.{Next}
 
 -- a worker: the parts of the day that it shares, its number, how many of its own messages it has done, and the machines
 -- and the writers of its stocks, by rising locate code
@@ -78,13 +75,6 @@ pub record IsWorkerOf (day : List (List ℕ)) (w : Working) : Type 0 where
   pub within : w.done ≤ length (messages_of day w)
   pub stocks_are : w.stocks ≡ map (λ locate. machine_of day locate (progress_in day w locate)) (locates_in day w)
   pub writers_are : WritersAt day (progress_in day w) (locates_in day w) w.writers
-
--- its next message, and where the message's stock stands among its own
-pub record IsNext (day : List (List ℕ)) (w : Working) (next : Next) : Type 0 where
-  pub more : w.done < length (messages_of day w)
-  pub message_is : next.message ≡ next_of day w
-  pub listed : next.place < length (codes_of w)
-  pub stock_is : part_at day (next_of day w) ≡ Locate (slice_index (codes_of w) next.place)
 
 -- a turn may need memory: a message is left that may
 pub record MayGrowNext (day : List (List ℕ)) (w : Working) : Type 0 where

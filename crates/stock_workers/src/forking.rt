@@ -1,5 +1,5 @@
 //! All turns of all workers of a day, by threads.
-ghost use Rattle.std.specs.Prelude.{ℕ, All, IfOk};
+ghost use Rattle.std.specs.Prelude.{All, IfOk, List};
 ghost use Rattle.std.specs.Thread.{IsSend, IsSync};
 ghost use denote.Param.Send.{Frees};
 ghost use Rattle.day_core.specs.Splitting.{ArePartsOf};
@@ -43,7 +43,8 @@ fn finish<R: Threads + Wait + Sync, A: Allocator + Copy, G: Gate>(
     gate: &G,
 ) -> Result<Finished<A>, AllocError>
     requires parts { ArePartsOf day.now.payloads parts.now }
-    requires waits { IsWaiting day.now.payloads parts.now.workers board.now waiting.worker waiting.writers.items }
+    requires waits { IsWaiting day.now.payloads parts.now.workers board.now waiting.worker
+        waiting.writers.items }
     ensures { IfOk result (λ made. IsFinished day.now.payloads parts.now waiting.worker waiting.writers.items
         made.pieces.items made.stocks.items made.writers.items) }
 {
@@ -74,9 +75,8 @@ pub(crate) fn finish_all<R: Threads + Wait + Sync, A: Allocator + Copy + Send + 
     requires parts { ArePartsOf day.now.payloads parts.now }
     requires wait { All (λ w. IsWaiting day.now.payloads parts.now.workers board.now w.worker w.writers.items)
         all.items }
-    ensures { IfOk result (λ made. (writer : ℕ → WriterAt)
-        → AreWaiting parts.now writer all.items
-        → AreFinished day.now.payloads parts.now writer made.items) }
+    ensures { IfOk result (λ made. (writers : List WriterAt) → AreWaiting parts.now writers all.items
+        → AreFinished day.now.payloads parts.now writers made.items) }
 {
     map_vec(
         rt,

@@ -1,5 +1,5 @@
 //! A day, replayed by all of its workers beside each other.
-ghost use Rattle.std.specs.Prelude.{◌≡◌, ◌<◌, ◌⊎◌, ◌↔◌, ℕ, IfOk, IsErrOf, List, length, map};
+ghost use Rattle.std.specs.Prelude.{◌≡◌, ◌<◌, ◌⊎◌, ◌↔◌, ℕ, IfOk, IsErrOf, List, map};
 ghost use Rattle.itch_table.specs.After.{outcomes};
 ghost use Rattle.itch_table.specs.Shows.{locates_of_day};
 ghost use Rattle.day_core.specs.Replaying.{IsReplayed, each_worker, pieces_by};
@@ -87,9 +87,7 @@ fn waiting_workers<A: Allocator + Copy>(
     parts: &Parts<A>,
     writers: Vec<TopWriter, A>,
 ) -> Result<Vec<Waiting<A>, A>, AllocError>
-    requires { length writers.items ≡ length parts.now.locates }
-    ensures { IfOk result (λ all. (writer : ℕ → WriterAt) → writers.items ≡ map writer parts.now.locates
-        → AreWaiting parts.now writer all.items) }
+    ensures { IfOk result (λ all. AreWaiting parts.now writers.items all.items) }
 {
     let count = parts.workers();
     let lists = by_worker(alloc, parts, writers)?;
@@ -105,8 +103,8 @@ fn gather<A: Allocator + Copy>(
     alloc: A,
     made: Vec<Result<Finished<A>, AllocError>, A>,
 ) -> Result<Gathered<A>, AllocError>
-    ensures { IfOk result (λ all. (day : List (List ℕ)) (parts : DayParts) (writer : ℕ → WriterAt)
-        → AreFinished day parts writer made.items → AreGathered day parts writer
+    ensures { IfOk result (λ all. (day : List (List ℕ)) (parts : DayParts) (writers : List WriterAt)
+        → AreFinished day parts writers made.items → AreGathered day parts writers
         (map (λ own. own.items) all.pieces.items) (map (λ own. own.items) all.stocks.items)
         (map (λ own. own.items) all.writers.items)) }
 {

@@ -4,12 +4,11 @@ ghost use Rattle.std.specs.List.{Contains};
 ghost use Rattle.day_core.specs.Owners.{locates_by, machine_of, own_locates};
 ghost use Rattle.day_core.specs.Splitting.{ArePartsOf};
 ghost use Rattle.top_cell.specs.Boards.{IsOn};
-ghost use Rattle.stock_workers.specs.Working.{IsNext, IsWorkerOf, MayGrowNext, TakesTurn, WritersAt, codes_of, first_working, locates_in, messages_of, places_of, progress_in, stands, writer_state};
+ghost use Rattle.stock_workers.specs.Working.{IsWorkerOf, MayGrowNext, TakesTurn, WritersAt, codes_of, first_working, locates_in, places_of, progress_in, stands, writer_state};
 
 use crate::gate::Gate;
 use binaryfile::Day;
-use day_core::{Parts, Piece, new_stocks};
-use itch_table::locate_in;
+use day_core::{Parts, Piece, do_message, new_stocks};
 use std::alloc::{AllocError, Allocator};
 use std::marker::Model;
 use std::sync::Wait;
@@ -54,13 +53,6 @@ impl<'p, A: Allocator> Model for Worker<'p, A> {
 
     ghost invariant = { λ w. IsStrictlyIncreasing w.locates.items
         × (w.locates.items ≡ locates_by w.parts.now.workers w.worker w.parts.now.locates) };
-}
-
-// A message that a worker comes to, and where its stock stands among the worker's own.
-#[derive(Debug, Clone, Copy)]
-struct Next {
-    message: u32,
-    place: usize,
 }
 
 // Those of some locate codes whose stocks belong to a worker.
@@ -132,38 +124,20 @@ impl<'p, A: Allocator + Copy> Worker<'p, A> {
         ensures err { OnErr result (self.new ≡ self.old) }
         ensures grows { OnErr result (MayGrowNext day.now.payloads self.old) }
     {
-        let Some(next) = self.next(day) else {
+        let Some(next) = self.parts.next(day, self.worker, self.done) else {
             return Ok(None);
         };
+        let place = self.index_of(next.locate).unwrap();
         gate.at(rt, self.worker, next.message);
-        let stock = &mut self.stocks[next.place];
-        let outcome = stock.step(day.payload(next.message))?;
-        self.writers[next.place].publish(board, next.message, stock.top());
+        let stock = &mut self.stocks[place];
+        let piece = do_message(day, stock, next.message)?;
+        self.writers[place].publish(board, next.message, stock.top());
         self.done += 1;
-        Ok(Some(Piece {
-            message: next.message,
-            outcome,
-        }))
+        Ok(Some(piece))
     }
 }
 
 impl<'p, A: Allocator> Worker<'p, A> {
-    // Its next message; none where it has done all of them.
-    fn next(&self, day: &Day<A>) -> Option<Next>
-        requires { IsWorkerOf day.now.payloads self.now }
-        ensures { MatchOption result (self.now.done ≡ length (messages_of day.now.payloads self.now))
-            (IsNext day.now.payloads self.now) }
-    {
-        let own = self.parts.own(self.worker);
-        if self.done >= own.len() {
-            return None;
-        }
-        let message = own[self.done];
-        let locate = locate_in(day.payload(message));
-        let place = self.index_of(locate).unwrap();
-        Some(Next { message, place })
-    }
-
     // Where a stock stands among its own; none where it isn't one of them.
     fn index_of(&self, locate: u16) -> Option<usize>
         ensures { MatchOption result (¬ Contains (codes_of self.now) locate) (λ index.

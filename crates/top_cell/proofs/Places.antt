@@ -1,12 +1,12 @@
 -- The cells of a board, and their writers.
-use Rattle.std.proofs.Common.{◌≡◌, ◌⊎◌, ℕ, zero, suc, ◌<◌, List, [], ◌∷◌, ◌++◌, length, map, get_or, Some, inl, inr, refl, sym, ap, ◌∙◌, subst, ⊎_elim, arith, length-append}
+use Rattle.std.proofs.Common.{◌≡◌, ◌⊎◌, ℕ, zero, suc, ◌<◌, List, [], ◌∷◌, ◌++◌, length, get_or, Some, inl, inr, refl, sym, ap, ◌∙◌, subst, ⊎_elim, arith, length-append}
 use Rattle.std.specs.Prelude.{slice_get}
-use Rattle.std.proofs.lemmas.List.{length-map, map-append}
-use Rattle.std.specs.List.{AllPairs}
+use Rattle.std.proofs.lemmas.List.{get_or-map, length-map, map-append}
+use Rattle.std.proofs.lemmas.Option.{get_or_from_slice_get, slice_get_within}
 use Rattle.atomic_table.specs.Seated.{TableId}
 use Rattle.itch_table.specs.Shows.{locates_of_day}
 use Rattle.itch_table.proofs.DayLocates.{rising}
-use Rattle.std.proofs.lemmas.List.Kept.{AllPairs-from_increasing}
+use Rattle.day_core.proofs.Codes.{code_once}
 use Rattle.top_cell.specs.Boards.{CellId, WriterAt, AreApart, AreNew, IsOn, new_writer, place}
 use Rattle.top_cell.specs.Seats.{CellSeat, IsSeatOf}
 
@@ -29,12 +29,6 @@ at_push [] x y (suc k) e = let none : slice_get [] k ≡ Some y = e in absurd (c
 at_push (z ∷ zs) x y zero e = inl e
 at_push (z ∷ zs) x y (suc k) e = ⊎_elim inl (λ t. inr (ap suc t.0, t.1)) (at_push zs x y k e)
 
--- an index at which something stands
-pub within : {A : Type 0} (xs : List A) (k : ℕ) (x : A) → slice_get xs k ≡ Some x → k < length xs
-within [] k x e = absurd (cc)
-within (z ∷ zs) zero x e = omega arith
-within (z ∷ zs) (suc k) x e = omega (arith, within zs k x e)
-
 -- ---- cells of a board
 
 -- the cell of a seat, by what a board says of the cell at an index
@@ -42,29 +36,17 @@ pub seat_on : (board : List CellId) (table : TableId) (seat : CellSeat) (index :
     → ((cell : CellId) → slice_get board index ≡ Some cell → table ≡ cell.table) → table.words ≡ 5 → IsSeatOf table seat
 seat_on board table seat index on is five = (sym (is _ on), five)
 
--- ---- cells that are apart
-
-locate_at : (board : List CellId) (i : ℕ) (c : CellId) → slice_get board i ≡ Some c → get_or (map (λ c. c.locate) board) i 0 ≡ c.locate
-locate_at [] i c e = absurd (cc)
-locate_at (x ∷ xs) zero c e = let same : Some x ≡ Some c = e in let is : x ≡ c = cc in ap (λ (d : CellId). d.locate) is
-locate_at (x ∷ xs) (suc i) c e = locate_at xs i c e
-
--- the first cell has the lowest locate code
-first_lowest : (x : CellId) (xs : List CellId) (j : ℕ) (d : CellId) → AllPairs (λ a b. a < b) (map (λ c. c.locate) (x ∷ xs)) → slice_get xs j ≡ Some d → x.locate < d.locate
-first_lowest x xs j d rises there =
-    let inside : j < length (map (λ (c : CellId). c.locate) xs) = omega (arith, within xs j d there, length-map xs (λ (c : CellId). c.locate)) in
-    subst (λ n. x.locate < n) (locate_at xs j d there) (rises 0 (suc j) 0 (omega arith) (omega (arith, inside)))
-
-apart : (board : List CellId) → AllPairs (λ a b. a < b) (map (λ c. c.locate) board) → AreApart board
-apart [] rises i j c d e f same = absurd (cc)
-apart (x ∷ xs) rises zero zero c d e f same = refl
-apart (x ∷ xs) rises zero (suc j) c d e f same = let one : Some x ≡ Some c = e in let is : x ≡ c = cc in absurd (omega (arith, first_lowest x xs j d rises f, ap (λ (o : CellId). o.locate) is, same))
-apart (x ∷ xs) rises (suc i) zero c d e f same = let one : Some x ≡ Some d = f in let is : x ≡ d = cc in absurd (omega (arith, first_lowest x xs i c rises e, ap (λ (o : CellId). o.locate) is, same))
-apart (x ∷ xs) rises (suc i) (suc j) c d e f same = ap suc (apart xs (λ a b k below inside. rises (suc a) (suc b) k (omega arith) (omega arith)) i j c d e f same)
-
--- the cells of a day's stocks
+-- the cells of a day's stocks are apart
 pub day_apart : (day : List (List ℕ)) (board : List CellId) (writers : List WriterAt) → AreNew day (locates_of_day day) board writers → AreApart board
-day_apart day board writers new = apart board (subst (AllPairs (λ a b. a < b)) (sym new.cells) (AllPairs-from_increasing (locates_of_day day) (rising day)))
+day_apart day board writers new i j c d e f same =
+    let there : (k : ℕ) (x : CellId) → slice_get board k ≡ Some x → (k < length (locates_of_day day)) × (get_or (locates_of_day day) k 0 ≡ x.locate) =
+    λ k x is.
+    let lt = slice_get_within board k x is in (
+      omega (arith, lt, length-map board (λ (c : CellId). c.locate), ap length new.cells),
+      ap (λ (ls : List ℕ). get_or ls k 0) (sym new.cells) ∙ get_or-map (λ (c : CellId). c.locate) board k x 0 lt ∙ ap (λ (c : CellId). c.locate) (get_or_from_slice_get board k x x is),
+    )
+    in
+    code_once (locates_of_day day) i j (rising day) (there i c e).0 (there j d f).0 ((there i c e).1 ∙ same ∙ sym (there j d f).1)
 
 -- ---- new boards
 

@@ -6,9 +6,7 @@ use mathlib.Core.Logic.{dite}
 use native.Mathlib.Decide.{ℕ_discrete}
 use Rattle.atomic_table.specs.Table.{Me, keeps, Allows}
 use Rattle.top_cell.specs.Rule.{IsAboveNoteOrNow, IsNotedOrNow, ShowsOf, Sees, CellRule, Turns, note_of, number_in, sight}
-use Rattle.top_cell.specs.ReaderBegins.{ReaderBegun}
-use Rattle.top_cell.specs.ReaderTakes.{ReaderTook}
-use Rattle.top_cell.specs.ReaderEnds.{ReaderEnded}
+use Rattle.top_cell.specs.Kinds.{ReaderBegun, ReaderEnded, ReaderTook}
 use Rattle.top_cell.proofs.Views.{open_at, unmoved, screen_turns}
 use Rattle.top_cell.proofs.Shown.{count_is, word_is, first_shown}
 use Rattle.top_cell.specs.declared.rule.DayStock.{DayStock}

@@ -1,10 +1,7 @@
 -- What the loads of a try show together, and the steps of a change.
 use Rattle.std.proofs.Common.{◌≡◌, ◌≢◌, ℕ, ◌+◌, ◌%◌, ◌<◌, ◌≤◌, List, [], Some, None, inl, inr, refl, sym, ap, ◌∙◌, subst, arith}
 use Rattle.top_cell.specs.Rule.{ShowsOf, IsIdle, IsScreen, stock_of, number_in, number_of, change_of, sight_of, sight}
-use Rattle.top_cell.specs.WriterBegins.{WriterBegun}
-use Rattle.top_cell.specs.WriterPuts.{WriterHasPut}
-use Rattle.top_cell.specs.ReaderBegins.{ReaderBegun}
-use Rattle.top_cell.specs.ReaderEnds.{ReaderEnded}
+use Rattle.top_cell.specs.Kinds.{ReaderBegun, ReaderEnded, WriterBegun, WriterHasPut}
 use Rattle.top_cell.specs.Tries.{CountsRise, Got, Lost}
 use Rattle.top_cell.specs.declared.rule.DayStock.{DayStock}
 use Rattle.top_cell.specs.declared.rule.Sight.{Sight}

@@ -1,13 +1,5 @@
 pub mod Rule
-pub mod Opens
-pub mod WriterBegins
-pub mod WriterPuts
-pub mod WriterEnds
-pub mod ReaderBegins
-pub mod ReaderTakes
-pub mod ReaderEnds
-pub mod Splits
-pub mod Joins
+pub mod Kinds
 pub mod Seats
 pub mod Boards
 pub mod Tries

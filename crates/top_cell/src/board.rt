@@ -4,7 +4,7 @@ ghost use Rattle.itch_table.specs.Shows.{locates_of_day};
 ghost use Rattle.top_cell.specs.Boards.{AreApart, AreNew, CellId, new_writer};
 ghost use Rattle.top_cell.specs.Rule.{day_stock};
 
-use crate::kinds::opens::{Naming, Opens};
+use crate::kinds::{Naming, Opens};
 use crate::rule::{CellTable, SharedCell};
 use crate::writer::TopWriter;
 use binaryfile::Day;

@@ -5,8 +5,7 @@ ghost use Rattle.top_cell.specs.Boards.{IsOn, new_screen};
 ghost use Rattle.top_cell.specs.Readings.{words_read};
 
 use crate::board::Board;
-use crate::kinds::joins::Joins;
-use crate::kinds::splits::Splits;
+use crate::kinds::{Joins, Splits};
 use crate::reading::Reading;
 use crate::rule::Seat;
 use crate::trying::try_times;

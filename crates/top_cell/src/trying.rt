@@ -5,9 +5,7 @@ ghost use Rattle.top_cell.specs.Seats.{IsSameSeat, IsSeatOf};
 ghost use Rattle.top_cell.specs.Tries.{AreLost, Busied, CountsRise, Got, Lost, Won};
 ghost use Rattle.top_cell.specs.declared.rule.View.TheVariants.{ScreenOf};
 
-use crate::kinds::reader_begins::ReaderBegins;
-use crate::kinds::reader_ends::ReaderEnds;
-use crate::kinds::reader_takes::ReaderTakes;
+use crate::kinds::{ReaderBegins, ReaderEnds, ReaderTakes};
 use crate::rule::{Seat, SharedCell};
 
 // Takes the four words in an open try that has none.

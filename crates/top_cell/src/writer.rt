@@ -4,7 +4,7 @@ ghost use Rattle.itch_table.specs.Shows.{top_after};
 ghost use Rattle.top_cell.specs.Boards.{IsOn, new_screen};
 
 use crate::board::Board;
-use crate::kinds::splits::Splits;
+use crate::kinds::Splits;
 use crate::rule::Seat;
 use crate::screen::Screen;
 use crate::writing::write;

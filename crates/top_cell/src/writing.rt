@@ -2,13 +2,9 @@
 ghost use Rattle.std.specs.Prelude.{◌≡◌, ◌+◌, ◌<◌, slice_index};
 ghost use Rattle.top_cell.specs.Rule.{IsIdle, IsWriting, ShowsOf, Turns, change_of, number_in, number_of, stock_of};
 ghost use Rattle.top_cell.specs.Seats.{HasFewMessages, IsSameSeat, IsSeatOf};
-ghost use Rattle.top_cell.specs.WriterBegins.{WriterBegun};
-ghost use Rattle.top_cell.specs.WriterEnds.{WriterEnded};
-ghost use Rattle.top_cell.specs.WriterPuts.{WriterHasPut};
+ghost use Rattle.top_cell.specs.Kinds.{WriterBegun, WriterEnded, WriterHasPut};
 
-use crate::kinds::writer_begins::{Coming, WriterBegins};
-use crate::kinds::writer_ends::WriterEnds;
-use crate::kinds::writer_puts::WriterPuts;
+use crate::kinds::{Coming, WriterBegins, WriterEnds, WriterPuts};
 use crate::rule::{Seat, SharedCell};
 use std::marker::Brand;
 

@@ -1,15 +1,16 @@
-use Rattle.std.proofs.Common.{◌≡◌, ◌+◌, ◌-◌, ◌<◌, ◌^◌, ℕ, Bool, false, List, [], length, get_or, filter, map, refl, ap, sym, subst, ◌∙◌, arith}
+use Rattle.std.proofs.Common.{◌≡◌, ◌+◌, ◌-◌, ◌<◌, ◌^◌, ℕ, Bool, false, List, length, get_or, filter, map, refl, ap, sym, subst, ◌∙◌, arith}
 use Rattle.std.specs.List.{range_with_len}
 use Rattle.std.specs.List.Sorted.{IsStrictlyIncreasing}
+use Rattle.std.proofs.lemmas.List.{length-map}
+use Rattle.std.proofs.lemmas.List.FromFn.{length-map-range_with_len}
 use Rattle.std.proofs.lemmas.List.Kept.{IsStrictlyIncreasing-filter}
-use Rattle.itch_table.specs.declared.outcome.Part.{Part}
-use Rattle.itch_table.specs.Parts.{part}
+use Rattle.std.proofs.lemmas.Nat.{mod_below}
 use Rattle.itch_table.proofs.DayLocates.{range_rises}
+use Rattle.day_core.specs.Owners.{own_until}
 use Rattle.day_core.specs.Splitting.{AreDealt}
-use Rattle.day_core.proofs.Dealt.{all_dealt, dealt_fixed, dealt_none, dealt_own}
-use Rattle.day_core.proofs.StocksSeen.{seen_none}
-use Rattle.day_core.proofs.dealing.deal.Goals as goal
+use Rattle.day_core.proofs.Dealt.{all_dealt, dealt_fixed, dealt_none, dealt_own, seen_none}
 use Rattle.day_core.proofs.dealing.deal.Goals.{in-Locate+in_ok-give-in-Locate, in-Nowhere+in_ok-push-in-Nowhere}
+use Rattle.day_core.proofs.dealing.deal.Goals as goal
 
 pub loop-before-init : goal.loop-before-init
 loop-before-init g c =
@@ -30,6 +31,17 @@ loop-before-preserved g c =
           rw (w.seen-is, w.own-is, w.fixed-is, w.event-is, w.in_ok-push-in-Nowhere.ensures.items, w.event_after-event.ensures)
           (dealt_fixed _ _ _ _ _ _ _ before more w.in-Nowhere.outcome (sym w.in-Nowhere.is ∙ c.requires.each n _ more) w.payload.result.now read)
     ]
+
+pub give-requires : goal.give-requires
+give-requires g c =
+    let count = c.get-count.result in
+    let own = λ (worker : ℕ). own_until count worker c.args.day.now.payloads c.loop-before.before in
+    omega (
+      arith,
+      mod_below c.from-in-Locate.result count (omega (arith, c.get-count.ensures)),
+      ap length c.loop-before.invariant.own_are ∙ length-map-range_with_len own 0 count,
+      length-map c.loop-before.own.items (λ own. own.items),
+    )
 
 pub invariant_of-result : goal.invariant_of-result
 invariant_of-result g c =

@@ -1,7 +1,7 @@
 use Rattle.std.proofs.Common.{arith, refl, None, ◌∙◌}
 use Rattle.std.proofs.lemmas.List.{get_or_default}
 use Rattle.itch_table.specs.declared.outcome.Outcome.TheVariants.{Passed}
-use Rattle.day_core.proofs.Merged.{is_some-some}
+use Rattle.day_core.proofs.MergedDay.{is_some-some}
 use Rattle.day_core.proofs.merging.gathered.Goals as goal
 
 pub returns-in_default-clause-missing : goal.returns-in_default-clause-missing

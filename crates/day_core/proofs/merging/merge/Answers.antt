@@ -2,7 +2,7 @@ use Rattle.std.proofs.Common.{◌≡◌, ap, ◌∙◌, length, map, arith, rule
 use Rattle.std.proofs.lemmas.List.{take_all}
 use Rattle.std.proofs.lemmas.Result.{err_from_is_err_and, IfErr-weaker, IfOk-weaker}
 use Rattle.day_core.specs.Merging.{AreFilled, Holds, joined}
-use Rattle.day_core.proofs.Merged.{first_fault, joined_more, merged_all, least_missing}
+use Rattle.day_core.proofs.MergedDay.{first_fault, joined_more, merged_all, least_missing}
 use Rattle.day_core.proofs.merging.merge.Given as given
 use Rattle.day_core.proofs.merging.merge.Goals as goal
 

@@ -1,6 +1,6 @@
 use Rattle.std.proofs.Common.{arith, ap, ◌∙◌}
 use Rattle.std.specs.Prelude.{is_some}
-use Rattle.day_core.proofs.Merged.{placed, empty_from}
+use Rattle.day_core.proofs.MergedDay.{placed, empty_from}
 use Rattle.day_core.proofs.merging.place.Goals as goal
 
 pub returns-clause-placed : goal.returns-clause-placed

@@ -1,6 +1,6 @@
 use Rattle.std.proofs.Common.{◌≡◌, ◌++◌, take, arith, rules}
 use Rattle.std.proofs.lemmas.Result.{err_from_is_err_and}
-use Rattle.day_core.proofs.Merged.{found_at, holds_more, holds_all}
+use Rattle.day_core.proofs.MergedDay.{found_at, holds_more, holds_all}
 use Rattle.day_core.proofs.merging.place_all.Goals as goal
 
 pub returns-in_err-place-clause-placed : goal.returns-in_err-place-clause-placed

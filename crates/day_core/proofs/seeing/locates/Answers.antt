@@ -1,8 +1,8 @@
-use Rattle.std.proofs.Common.{◌≡◌, ℕ, Bool, false, List, length, get_or, filter, ap, sym, subst, ◌∙◌, arith}
+use Rattle.std.proofs.Common.{◌≡◌, ℕ, Bool, false, List, length, get_or, filter, ap, subst, ◌∙◌, arith}
 use Rattle.std.specs.List.{range_with_len}
 use Rattle.std.proofs.lemmas.Result.{IfOk-weaker}
 use Rattle.day_core.specs.Splitting.{AreSeen}
-use Rattle.day_core.proofs.StocksSeen.{locates_are}
+use Rattle.day_core.proofs.Dealt.{locates_are}
 use Rattle.day_core.proofs.seeing.locates.Goals as goal
 
 pub returns : goal.returns

@@ -5,10 +5,11 @@ use Rattle.std.specs.Vec.Iter.{into_iter_items, into_iter_len}
 use Rattle.std.proofs.lemmas.Iterator.{YieldsList-from_range, YieldsList-from_zip}
 use Rattle.std.proofs.lemmas.Iterator.Adapters.{YieldsList-from_vec}
 use Rattle.std.proofs.lemmas.Iterator.Consumers.{YieldsList-end}
-use Rattle.std.proofs.lemmas.List.{map-append, map-id}
-use Rattle.std.proofs.lemmas.List.FromFn.{length-range_with_len}
+use Rattle.std.proofs.lemmas.List.{length-map, map-append, map-id}
+use Rattle.std.proofs.lemmas.List.FromFn.{length-map-range_with_len, length-range_with_len}
 use Rattle.std.proofs.lemmas.Slice.Zip.{firsts-zip, seconds-zip}
-use Rattle.stock_workers.proofs.Dealing.{map_twice}
+use Rattle.day_core.specs.Replaying.{own_values}
+use Rattle.stock_workers.proofs.Joined.{map_twice}
 use Rattle.stock_workers.proofs.running.waiting_workers.Goals as goal
 
 pub loop-worker-init : goal.loop-worker-init
@@ -26,8 +27,7 @@ loop-worker-preserved g c =
     }
 
 pub returns : goal.returns
-returns g c = λ writer are.
-    let split = c.args.parts.now in
+returns g c =
     let lists = c.in_ok-lists.lists.items in
     let count = c.workers-count.result in
     let done = c.loop-worker in
@@ -39,12 +39,12 @@ returns g c = λ writer are.
     let road = YieldsList-from_zip {s = s} (YieldsList-from_range {s = zip_first s} 0 count count numbers (omega arith)) (YieldsList-from_vec {s = zip_second s} lists items long) in
     let ends = YieldsList-end road done.yielded done.worker-iterator done.yielded_by c.next.result c.next.new.self c.in-None.is c.next.ensures.steps in
     let all : done.yielded ≡ zip (range_with_len 0 count) lists = sym (map-id done.yielded) ∙ ends.0 in
-    let same : length lists ≡ length (range_with_len 0 count) = omega (arith, c.in_ok-lists.ensures.long, c.workers-count.ensures.workers, length-range_with_len 0 count) in
+    let same : length lists ≡ length (range_with_len 0 count) = omega (arith, sym (length-map lists (λ own. own.items)), ap length c.in_ok-lists.ensures, length-map-range_with_len (own_values c.args.parts.now c.args.writers.items) 0 c.args.parts.now.workers, c.workers-count.ensures.workers, length-range_with_len 0 count) in
     let counted = ap (map (λ p. p.0)) all ∙ firsts-zip (range_with_len 0 count) lists same in
     let workers = c.workers-count.ensures.workers in
     record {
       numbers_are = done.invariant.numbers ∙ counted ∙ sym (map-id (range_with_len 0 count)) ∙ ap (λ (n : ℕ). map (λ (k : ℕ). k) (range_with_len 0 n)) workers;
       writers_are =
           sym (map_twice (λ v. v.items) (λ w. w.writers) done.all.items) ∙ ap (map (λ v. v.items)) (done.invariant.writers ∙ ap (map (λ p. p.1)) all ∙ seconds-zip (range_with_len 0 count) lists same)
-          ∙ c.in_ok-lists.ensures.order writer are;
+          ∙ c.in_ok-lists.ensures;
     }

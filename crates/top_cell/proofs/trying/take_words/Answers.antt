@@ -1,6 +1,6 @@
 use Rattle.std.proofs.Common.{arith, ◌+◌, ◌++◌, [], ◌∷◌, ℕ, List, take, Some, refl, sym, ap, ◌∙◌, subst, length-set, length-take-le, add_assoc}
 use Rattle.std.proofs.lemmas.List.{take_more_set}
-use Rattle.top_cell.specs.ReaderTakes.{ReaderTook}
+use Rattle.top_cell.specs.Kinds.{ReaderTook}
 use Rattle.top_cell.specs.Rule.{stock_of, sight_of, sight}
 use Rattle.top_cell.proofs.ReaderSteps.{reader_takes_as, same_words}
 use Rattle.top_cell.specs.declared.rule.View.{View}

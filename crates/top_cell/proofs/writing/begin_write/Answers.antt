@@ -1,6 +1,6 @@
 use Rattle.std.proofs.Common.{◌<◌, arith, ap, subst, List, ℕ}
 use Rattle.top_cell.specs.Rule.{Turns, number_in, number_of}
-use Rattle.top_cell.specs.WriterBegins.{WriterBegun}
+use Rattle.top_cell.specs.Kinds.{WriterBegun}
 use Rattle.top_cell.proofs.WriterSteps.{writer_begins_as}
 use Rattle.top_cell.proofs.writing.begin_write.Goals as goal
 

@@ -1,11 +1,10 @@
-use Rattle.std.proofs.Common.{◌≡◌, ℕ, List, [], ◌∷◌, get_or, sym, subst}
+use Rattle.std.proofs.Common.{ℕ, List, [], ◌∷◌, get_or, subst}
 use Rattle.std.specs.List.{Contains}
 use Rattle.itch_table.specs.Shows.{Shows}
 use Rattle.day_core.specs.Owners.{owner}
 use Rattle.day_core.specs.Turns.{TurnsState, progress_in, state_of, workers_of}
-use Rattle.day_core.proofs.Looks.{shows_absent}
+use Rattle.day_core.proofs.Turning.{shows_absent, look_there}
 use Rattle.day_core.proofs.Progress.{progress_within}
-use Rattle.day_core.proofs.Turning.{look_there}
 use Rattle.day_core.proofs.turns.Turns.look.Goals as goal
 
 pub returns-in-Some : goal.returns-in-Some

@@ -1,5 +1,4 @@
-use Rattle.std.proofs.Common.{◌≡◌, ◌<◌, ◌⊎◌, ℕ, List, [], ◌∷◌, length, map, replicate, Result, Ok, Err, sym, ap, ap₂, subst, ◌∙◌, arith, rules}
-use Rattle.std.specs.Prelude.{IsErrOf}
+use Rattle.std.proofs.Common.{◌≡◌, ℕ, List, [], ◌∷◌, length, map, replicate, Err, sym, ap, subst, ◌∙◌, arith, rules}
 use Rattle.std.proofs.lemmas.Result.{err_from_is_err_and}
 use Rattle.day_core.specs.declared.splitting.SplitFault.TheVariants.{Memory, Workers}
 use Rattle.day_core.specs.Owners.{new_machine}

@@ -1,10 +1,11 @@
 use Rattle.std.proofs.Common.{sym, subst}
 use Rattle.top_cell.specs.Boards.{ScreenAt, IsOn}
-use Rattle.top_cell.proofs.Places.{seat_on, within}
+use Rattle.std.proofs.lemmas.Option.{slice_get_within}
+use Rattle.top_cell.proofs.Places.{seat_on}
 use Rattle.top_cell.proofs.screen.Screen.glance.Goals as goal
 
 pub cell-requires : goal.cell-requires
-cell-requires g c = within c.args.board.now _ _ (subst (λ (w : ScreenAt). IsOn c.args.board.now w.place) (sym c.self.view_is) c.requires.own)
+cell-requires g c = slice_get_within c.args.board.now _ _ (subst (λ (w : ScreenAt). IsOn c.args.board.now w.place) (sym c.self.view_is) c.requires.own)
 
 pub try_times-requires : goal.try_times-requires
 try_times-requires g c =

@@ -1,12 +1,13 @@
 use Rattle.std.proofs.Common.{◌≡◌, ◌∙◌, ℕ, List, Some, ap, arith, sym, subst}
 use Rattle.std.specs.Prelude.{slice_get}
 use Rattle.top_cell.specs.Boards.{AreApart, CellId, ScreenAt, IsOn}
-use Rattle.top_cell.proofs.Places.{seat_on, within}
+use Rattle.std.proofs.lemmas.Option.{slice_get_within}
+use Rattle.top_cell.proofs.Places.{seat_on}
 use Rattle.top_cell.proofs.BaseMoves.{screens_join_as}
 use Rattle.top_cell.proofs.screen.Screen.join.Goals as goal
 
 pub cell-cell-requires : goal.cell-cell-requires
-cell-cell-requires g c = within c.args.board.now _ _ (subst (λ (w : ScreenAt). IsOn c.args.board.now w.place) (sym c.self.view_is) c.requires.own)
+cell-cell-requires g c = slice_get_within c.args.board.now _ _ (subst (λ (w : ScreenAt). IsOn c.args.board.now w.place) (sym c.self.view_is) c.requires.own)
 
 -- the cells of one stock are one
 one_cell : (board : List CellId) (i j : ℕ) (c d : CellId) → AreApart board → slice_get board i ≡ Some c → slice_get board j ≡ Some d → c.locate ≡ d.locate → c ≡ d

@@ -1,12 +1,13 @@
 use Rattle.std.proofs.Common.{◌≡◌, ◌≤◌, length, sym, subst, arith}
 use Rattle.itch_table.specs.Shows.{top_after}
 use Rattle.top_cell.specs.Boards.{WriterAt, IsOn}
-use Rattle.top_cell.proofs.Places.{seat_on, within}
+use Rattle.std.proofs.lemmas.Option.{slice_get_within}
+use Rattle.top_cell.proofs.Places.{seat_on}
 use Rattle.top_cell.proofs.Shown.{shows_words}
 use Rattle.top_cell.proofs.writer.TopWriter.publish.Goals as goal
 
 pub cell-requires : goal.cell-requires
-cell-requires g c = within c.args.board.now _ _ (subst (λ (w : WriterAt). IsOn c.args.board.now w.place) (sym c.self.view_is) c.requires.own)
+cell-requires g c = slice_get_within c.args.board.now _ _ (subst (λ (w : WriterAt). IsOn c.args.board.now w.place) (sym c.self.view_is) c.requires.own)
 
 pub write-requires : goal.write-requires
 write-requires g c =

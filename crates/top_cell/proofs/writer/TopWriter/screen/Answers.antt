@@ -1,11 +1,12 @@
 use Rattle.std.proofs.Common.{arith, sym, subst}
 use Rattle.top_cell.specs.Boards.{WriterAt, IsOn}
-use Rattle.top_cell.proofs.Places.{seat_on, within}
+use Rattle.std.proofs.lemmas.Option.{slice_get_within}
+use Rattle.top_cell.proofs.Places.{seat_on}
 use Rattle.top_cell.proofs.BaseMoves.{writer_splits_as}
 use Rattle.top_cell.proofs.writer.TopWriter.screen.Goals as goal
 
 pub cell-cell-requires : goal.cell-cell-requires
-cell-cell-requires g c = within c.args.board.now _ _ (subst (λ (w : WriterAt). IsOn c.args.board.now w.place) (sym c.self.view_is) c.requires)
+cell-cell-requires g c = slice_get_within c.args.board.now _ _ (subst (λ (w : WriterAt). IsOn c.args.board.now w.place) (sym c.self.view_is) c.requires)
 
 pub split_seat-requires : goal.split_seat-requires
 split_seat-requires g c =
