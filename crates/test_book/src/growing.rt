@@ -107,27 +107,33 @@ fn shows_bids<A: Allocator + Copy>(
     )
 }
 
-// Replaces order 2 under a refusal. Where that is refused, the order and the levels stay, and it is replaced with
+const REPLACEMENT: Call = Call::Replace(2, 5, 50, 11);
+
+// Replaces order 2 of a new book under a refusal. Where that is refused, the order and the levels stay, and it is replaced with
 // memory.
-fn replace_under(heap: &Refusing<Global>, refusal: Refusal) -> Result<Tried, Fail> {
-    let replacement = Call::Replace(2, 5, 50, 11);
-    let mut book = Book::new(heap);
-    make_all(&mut book, &without_room())?;
+fn replace_under<'h>(
+    heap: &'h Refusing<Global>,
+    book: &mut Book<&'h Refusing<Global>>,
+    refusal: Refusal,
+) -> Result<Tried, Fail> {
+    make_all(book, &without_room())?;
     heap.restart(refusal);
-    let returned = make(&mut book, replacement)?;
+    let returned = make(book, REPLACEMENT)?;
     let tried = heap.tried(returned.is_err());
     if tried.refused {
-        shows_bids(heap, &book, &[level(10, 110)], (true, false))?;
-        make_all(&mut book, &[replacement])?;
+        shows_bids(heap, book, &[level(10, 110)], (true, false))?;
+        make_all(book, &[REPLACEMENT])?;
     }
-    shows_bids(heap, &book, &[level(11, 50), level(10, 60)], (false, true))?;
+    shows_bids(heap, book, &[level(11, 50), level(10, 60)], (false, true))?;
     Ok(tried)
 }
 
 #[test]
 fn a_refused_replacement_leaves_order_and_levels(rt: HostRuntime) -> Result<(), Fail> {
     let heap = Refusing::new(rt.alloc(), Refusal::Never);
-    refuse_each(|refusal: Refusal| -> Result<Tried, Fail> { replace_under(&heap, refusal) })?;
+    refuse_each(|refusal: Refusal| -> Result<Tried, Fail> {
+        replace_under(&heap, &mut Book::new(&heap), refusal)
+    })?;
     Ok(())
 }
 
@@ -241,6 +247,23 @@ fn same_copy<A: Allocator + Copy>(alloc: A, copy: &Book<A>, book: &Book<A>) -> R
     same_books(alloc, copy, book)
 }
 
+// The same of a new copy.
+fn same_new_copy<A: Allocator + Copy>(alloc: A, book: &Book<A>) -> Result<(), Fail> {
+    same_copy(alloc, &book.copy(alloc)?, book)
+}
+
+// The same of a copy, or of a new one where it was refused.
+fn same_copy_or_next<A: Allocator + Copy>(
+    alloc: A,
+    copy: Result<Book<A>, AllocError>,
+    book: &Book<A>,
+) -> Result<(), Fail> {
+    match copy {
+        Ok(copy) => same_copy(alloc, &copy, book),
+        Err(AllocError) => same_new_copy(alloc, book),
+    }
+}
+
 // Makes a copy of a book of both sides under a refusal, and with memory where it is refused. It leaves the book as it
 // is.
 fn copy_under<'h>(
@@ -251,10 +274,7 @@ fn copy_under<'h>(
     heap.restart(refusal);
     let copy = book.copy(heap);
     let tried = heap.tried(copy.is_err());
-    match copy {
-        Ok(copy) => same_copy(heap, &copy, book)?,
-        Err(AllocError) => same_copy(heap, &book.copy(heap)?, book)?,
-    }
+    same_copy_or_next(heap, copy, book)?;
     Ok(tried)
 }
 
@@ -272,14 +292,17 @@ fn a_list_or_a_copy_without_memory_is_none(rt: HostRuntime) -> Result<(), Fail> 
     Ok(())
 }
 
+// A book without orders gets those of both sides.
+fn grow<A: Allocator + Copy>(alloc: A, grown: &mut Book<A>, book: &Book<A>) -> Result<(), Fail> {
+    make_all(grown, &both_sides())?;
+    same_copy(alloc, grown, book)
+}
+
 // Copies a book without orders and one of both sides into memory of this allocator. The first gets the orders of the
 // other then.
 fn copies_in<A: Allocator + Copy>(alloc: A, empty: &Book<A>, book: &Book<A>) -> Result<(), Fail> {
-    let mut grown = empty.copy(alloc)?;
-    make_all(&mut grown, &both_sides())?;
-    same_copy(alloc, &grown, book)?;
-    let copy = book.copy(alloc)?;
-    same_copy(alloc, &copy, book)
+    grow(alloc, &mut empty.copy(alloc)?, book)?;
+    same_new_copy(alloc, book)
 }
 
 #[test]
@@ -290,6 +313,20 @@ fn lists_and_a_copy_take_memory_of_their_allocator(rt: HostRuntime) -> Result<()
     let book = both_sided(&heap)?;
     heap.restart(Refusal::From(1));
     copies_in(&other, &empty, &book)
+}
+
+// What a book of both sides shows then.
+fn shows_fewer<A: Allocator + Copy>(book: &Book<A>) -> Result<(), Fail> {
+    same(
+        "the best bid, the asks, an order that is gone, and the count",
+        &(
+            book.top().bid_shares,
+            book.level(Side::Sell, 110),
+            book.order(4),
+            book.count(),
+        ),
+        &(6, 5, None, 2),
+    )
 }
 
 #[test]
@@ -306,18 +343,8 @@ fn shares_and_orders_go_without_memory(rt: HostRuntime) -> Result<(), Fail> {
             Call::Remove(2),
         ],
     )?;
-    let top = book.top();
-    same(
-        "the best bid, the asks, an order that is gone, and the growths",
-        &(
-            top.bid_shares,
-            book.level(Side::Sell, 110),
-            book.order(4),
-            book.count(),
-            heap.asked(),
-        ),
-        &(6, 5, None, 2, 0),
-    )
+    shows_fewer(&book)?;
+    same("the growths", &heap.asked(), &0)
 }
 
 // A list that kept all of the orders that have gone would grow from a few rows to 10,000, and to do so by doubling

@@ -136,6 +136,13 @@ fn a_schedule_has_1_to_64_workers(rt: HostRuntime) -> Result<(), Fail> {
     Ok(())
 }
 
+// What the looks of the schedule see.
+fn shows_words(list: &[Seen]) -> Result<(), Fail> {
+    let [one, two, three] = WORDS;
+    let wanted = [seen(0, 1, one), seen(0, 1, two), seen(0, 1, three)];
+    same_list("what is seen", list, &wanted)
+}
+
 // Runs the schedule of worker 1, whose messages they all are, under a refusal, which leaves the day as it is, and with
 // memory where it is refused.
 fn try_play<R: Threads + Sync>(
@@ -148,20 +155,11 @@ fn try_play<R: Threads + Sync>(
     let played = play(rt, heap, &day, 2, &schedule(1));
     let tried = heap.tried(played.is_err());
     same_bytes("the day", day.bytes(), crossed_book(heap)?.bytes())?;
-    let list = match played {
-        Ok(list) => list,
-        Err(fault) => {
-            same(
-                "a refused growth",
-                &(refusal, fault),
-                &(refusal, SplitFault::Memory),
-            )?;
-            play(rt, heap, &day, 2, &schedule(1))?
-        }
-    };
-    let [one, two, three] = WORDS;
-    let wanted = [seen(0, 1, one), seen(0, 1, two), seen(0, 1, three)];
-    same_list("what is seen", &list, &wanted)?;
+    match played {
+        Ok(list) => shows_words(&list),
+        Err(SplitFault::Memory) => shows_words(&play(rt, heap, &day, 2, &schedule(1))?),
+        Err(SplitFault::Workers) => Err(Fail::new("a bad number of workers")),
+    }?;
     Ok(tried)
 }
 
@@ -185,6 +183,16 @@ fn looked_at<'d, A: Allocator + Copy>(
     }
 }
 
+// What they say before the first turn.
+fn not_begun<A: Allocator + Copy>(alloc: A, turns: &Turns<'_, A>) -> Result<(), Fail> {
+    let stock = stock_with(1, 0, None, None, None);
+    same(
+        "before the first turn",
+        &looked_at(alloc, turns)?,
+        &([0; 4], Some(stock)),
+    )
+}
+
 // Makes the workers of the crossed book under a refusal, and with memory where it is refused.
 fn try_new<R: Threads + Sync>(
     rt: &R,
@@ -195,15 +203,11 @@ fn try_new<R: Threads + Sync>(
     heap.restart(refusal);
     let made = Turns::new(rt, heap, &day, 2);
     let tried = heap.tried(made.is_err());
-    let before = match made {
-        Ok(turns) => looked_at(heap, &turns)?,
-        Err(fault) => {
-            same("a refused growth", &fault, &SplitFault::Memory)?;
-            looked_at(heap, &Turns::new(rt, heap, &day, 2)?)?
-        }
-    };
-    let stock = stock_with(1, 0, None, None, None);
-    same("before the first turn", &before, &([0; 4], Some(stock)))?;
+    match made {
+        Ok(turns) => not_begun(heap, &turns),
+        Err(SplitFault::Memory) => not_begun(heap, &Turns::new(rt, heap, &day, 2)?),
+        Err(SplitFault::Workers) => Err(Fail::new("a bad number of workers")),
+    }?;
     Ok(tried)
 }
 
@@ -228,11 +232,38 @@ fn turns_of_crossed_book() -> [([u64; 4], Shown); 3] {
 
 // Takes the turn after this many others under a refusal. Where it is refused, all is as it was, and it is taken with
 // memory.
+fn turn_under<'h>(
+    heap: &'h Refusing<Global>,
+    turns: &mut Turns<'_, &'h Refusing<Global>>,
+    earlier: u32,
+    wanted: &([u64; 4], Shown),
+    refusal: Refusal,
+) -> Result<Tried, Fail> {
+    let before = looked_at(heap, turns)?;
+    heap.restart(refusal);
+    let mut returned = turns.turn(0);
+    let tried = heap.tried(returned.is_err());
+    if tried.refused {
+        same("after a refused turn", &looked_at(heap, turns)?, &before)?;
+        returned = turns.turn(0);
+    }
+    let message = earlier.saturating_add(1);
+    let outcome = Outcome::Applied;
+    same("a turn", &returned, &Ok(Some(Piece { message, outcome })))?;
+    let (words, stock) = *wanted;
+    same(
+        "after the turn",
+        &looked_at(heap, turns)?,
+        &(words, Some(stock)),
+    )?;
+    Ok(tried)
+}
+
 fn try_turn<R: Threads + Sync>(
     rt: &R,
     heap: &Refusing<Global>,
     earlier: u32,
-    wanted: ([u64; 4], Shown),
+    wanted: &([u64; 4], Shown),
     refusal: Refusal,
 ) -> Result<Tried, Fail> {
     let day = crossed_book(heap)?;
@@ -240,24 +271,7 @@ fn try_turn<R: Threads + Sync>(
     for _ in 0..earlier {
         turns.turn(0)?;
     }
-    let before = looked_at(heap, &turns)?;
-    heap.restart(refusal);
-    let mut returned = turns.turn(0);
-    let tried = heap.tried(returned.is_err());
-    if tried.refused {
-        same("after a refused turn", &looked_at(heap, &turns)?, &before)?;
-        returned = turns.turn(0);
-    }
-    let message = earlier.saturating_add(1);
-    let outcome = Outcome::Applied;
-    same("a turn", &returned, &Ok(Some(Piece { message, outcome })))?;
-    let (words, stock) = wanted;
-    same(
-        "after the turn",
-        &looked_at(heap, &turns)?,
-        &(words, Some(stock)),
-    )?;
-    Ok(tried)
+    turn_under(heap, &mut turns, earlier, wanted, refusal)
 }
 
 // The directory message needs no memory, and the orders do.
@@ -268,7 +282,7 @@ fn a_refused_turn_leaves_what_looks_show(rt: HostRuntime) -> Result<(), Fail> {
     let [one, two, three] = turns_of_crossed_book();
     for (earlier, wanted, needs) in [(0, one, false), (1, two, true), (2, three, true)] {
         let growths = refuse_any(|refusal: Refusal| -> Result<Tried, Fail> {
-            try_turn(&rt, &heap, earlier, wanted, refusal)
+            try_turn(&rt, &heap, earlier, &wanted, refusal)
         })?;
         same("growths", &(earlier, growths > 0), &(earlier, needs))?;
     }

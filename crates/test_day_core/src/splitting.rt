@@ -39,21 +39,29 @@ fn each_stock_has_its_worker(rt: HostRuntime) -> Result<(), Fail> {
     same("the event", &parts.event(), &None)
 }
 
+// A day of one system event, which begins it.
+fn one_event<A: Allocator + Copy>(alloc: A) -> Result<Day<A>, Fail> {
+    let mut file = Vec::new(alloc);
+    add_entry(alloc, &mut file, &system(0, b'O'))?;
+    day_of(alloc, file)
+}
+
 #[test]
 fn a_system_event_is_of_no_stock(rt: HostRuntime) -> Result<(), Fail> {
-    let mut file = Vec::new(rt.alloc());
-    add_entry(rt.alloc(), &mut file, &system(0, b'O'))?;
-    let day = day_of(rt.alloc(), file)?;
+    let day = one_event(rt.alloc())?;
     let parts = parts_of(&rt, rt.alloc(), &day, 2)?;
     same("the stocks", &parts.locates().len(), &0)?;
-    let wanted = Piece {
-        message: 1,
-        outcome: Outcome::Applied,
-    };
+    let (message, outcome) = (1, Outcome::Applied);
+    let wanted = Piece { message, outcome };
     same_list("the messages of no stock", parts.fixed(), &[wanted])?;
-    same("the event", &parts.event(), &Some(b'O'))?;
-    let mut turns = Turns::new(&rt, rt.alloc(), &day, 2)?;
-    same("a turn", &turns.turn(0)?, &None)?;
+    same("the event", &parts.event(), &Some(b'O'))
+}
+
+#[test]
+fn a_system_event_is_no_turn(rt: HostRuntime) -> Result<(), Fail> {
+    let day = one_event(rt.alloc())?;
+    let turn = Turns::new(&rt, rt.alloc(), &day, 2)?.turn(0)?;
+    same("a turn", &turn, &None)?;
     let (screen, locate, words) = (7, 1, [0; 4]);
     let events = [Event::Turn(1), Event::Look { screen, locate }];
     let seen = play(&rt, rt.alloc(), &day, 2, &events)?;
@@ -133,6 +141,17 @@ fn compare<R: Threads + Sync, A: Allocator + Copy + Send + Sync>(
     same("the event", &parts.event(), &whole.event())
 }
 
+// The same of the parts for this many workers.
+fn compare_next<R: Threads + Sync, A: Allocator + Copy + Send + Sync>(
+    rt: &R,
+    alloc: A,
+    day: &Day<A>,
+    workers: u32,
+    locates: &[u16],
+) -> Result<(), Fail> {
+    compare(rt, alloc, day, &parts_of(rt, alloc, day, workers)?, locates)
+}
+
 // Splits a day under a refusal, which leaves the day as it is. Where it is refused, it is split with memory. It has
 // these stocks.
 fn try_split<R: Threads + Sync>(
@@ -149,14 +168,10 @@ fn try_split<R: Threads + Sync>(
     let tried = heap.tried(made.is_err());
     same_bytes("the day", day.bytes(), file)?;
     match made {
-        Ok(parts) => compare(rt, heap, &day, &parts, locates)?,
-        Err(fault) => {
-            let found = (refusal, fault);
-            same("a refused growth", &found, &(refusal, SplitFault::Memory))?;
-            let parts = parts_of(rt, heap, &day, workers)?;
-            compare(rt, heap, &day, &parts, locates)?;
-        }
-    }
+        Ok(parts) => compare(rt, heap, &day, &parts, locates),
+        Err(SplitFault::Memory) => compare_next(rt, heap, &day, workers, locates),
+        Err(SplitFault::Workers) => Err(Fail::new("a bad number of workers")),
+    }?;
     Ok(tried)
 }
 

@@ -27,21 +27,44 @@ fn pieces_of<A: Allocator + Copy>(
     Ok(pieces)
 }
 
+// The same of each of this many workers, the last one first.
+fn pieces_of_all<A: Allocator + Copy>(
+    alloc: A,
+    day: &Day<A>,
+    turns: &mut Turns<'_, A>,
+    workers: u32,
+) -> Result<Vec<Vec<Piece, A>, A>, Fail> {
+    let mut lists = Vec::new(alloc);
+    for worker in (0..workers).rev() {
+        lists.push(pieces_of(alloc, day, turns, worker)?)?;
+    }
+    Ok(lists)
+}
+
+// This many workers make the outcomes and the last words of the two stocks.
+fn make_day<R: Threads + Sync, A: Allocator + Copy + Send + Sync>(
+    rt: &R,
+    alloc: A,
+    day: &Day<A>,
+    workers: u32,
+) -> Result<(), Fail> {
+    let mut turns = Turns::new(rt, alloc, day, workers)?;
+    let lists = pieces_of_all(alloc, day, &mut turns, workers)?;
+    let last = [turns.look(1), turns.look(2), turns.look(3)];
+    let wanted = [[7, 0, 0, 0], [4, 200 << 32, 20, 0], [6, 0, 0, 0]];
+    same("the words", &(workers, last), &(workers, wanted))?;
+    same_list(
+        "the outcomes",
+        &merge(alloc, day.len(), lists)?,
+        &OF_TWO_STOCKS,
+    )
+}
+
 #[test]
 fn any_number_of_workers_makes_the_same_day(rt: HostRuntime) -> Result<(), Fail> {
-    let alloc = rt.alloc();
-    let day = two_stocks(alloc)?;
+    let day = two_stocks(rt.alloc())?;
     for workers in [1, 2, 3, 64] {
-        let mut turns = Turns::new(&rt, alloc, &day, workers)?;
-        let mut lists = Vec::new(alloc);
-        for worker in (0..workers).rev() {
-            lists.push(pieces_of(alloc, &day, &mut turns, worker)?)?;
-        }
-        let outcomes = merge(alloc, day.len(), lists)?;
-        same_list("the outcomes", &outcomes, &OF_TWO_STOCKS)?;
-        let last = [turns.look(1), turns.look(2), turns.look(3)];
-        let wanted = [[7, 0, 0, 0], [4, 200 << 32, 20, 0], [6, 0, 0, 0]];
-        same("the words", &(workers, last), &(workers, wanted))?;
+        make_day(&rt, rt.alloc(), &day, workers)?;
     }
     Ok(())
 }
@@ -111,6 +134,37 @@ fn turns_of_two_stocks() -> [After; 8] {
 
 // Takes the last of these turns of the only worker of the two stocks under a refusal. Where it is refused, the stocks say
 // what they said before, and it is taken with memory.
+fn turn_under<'h>(
+    heap: &'h Refusing<Global>,
+    turns: &mut Turns<'_, &'h Refusing<Global>>,
+    last: &After,
+    refusal: Refusal,
+) -> Result<Tried, Fail> {
+    let (piece, stocks) = last;
+    let before = stocks_of(heap, turns)?;
+    heap.restart(refusal);
+    let mut returned = turns.turn(0);
+    let tried = heap.tried(returned.is_err());
+    if tried.refused {
+        same("a refused turn", &stocks_of(heap, turns)?, &before)?;
+        returned = turns.turn(0);
+    }
+    same("a turn", &returned, &Ok(*piece))?;
+    same("after a turn", &stocks_of(heap, turns)?, stocks)?;
+    Ok(tried)
+}
+
+// The turns before it.
+fn take_earlier<A: Allocator + Copy>(
+    turns: &mut Turns<'_, A>,
+    earlier: &[After],
+) -> Result<(), Fail> {
+    for (wanted, _) in earlier {
+        same("an earlier turn", &turns.turn(0)?, wanted)?;
+    }
+    Ok(())
+}
+
 fn try_turn<R: Threads + Sync>(
     rt: &R,
     heap: &Refusing<Global>,
@@ -120,23 +174,10 @@ fn try_turn<R: Threads + Sync>(
     let Some((last, earlier)) = all.split_last() else {
         return Err(Fail::new("no turn"));
     };
-    let (piece, stocks) = *last;
     let day = two_stocks(heap)?;
     let mut turns = Turns::new(rt, heap, &day, 1)?;
-    for (wanted, _) in earlier {
-        same("an earlier turn", &turns.turn(0)?, wanted)?;
-    }
-    let before = stocks_of(heap, &turns)?;
-    heap.restart(refusal);
-    let mut returned = turns.turn(0);
-    let tried = heap.tried(returned.is_err());
-    if tried.refused {
-        same("a refused turn", &stocks_of(heap, &turns)?, &before)?;
-        returned = turns.turn(0);
-    }
-    same("a turn", &returned, &Ok(piece))?;
-    same("after a turn", &stocks_of(heap, &turns)?, &stocks)?;
-    Ok(tried)
+    take_earlier(&mut turns, earlier)?;
+    turn_under(heap, &mut turns, last, refusal)
 }
 
 // Only the two orders need memory.
@@ -163,25 +204,35 @@ fn a_turn_without_memory_is_tried_again(rt: HostRuntime) -> Result<(), Fail> {
     Ok(())
 }
 
-// Takes a turn of one of the day's workers, which does this message.
-fn take_of_day<'d, A: Allocator + Copy>(
-    turns: &mut Turns<'d, A>,
-    worker: u32,
-    message: u32,
-    outcome: Outcome,
-) -> Result<(), Fail> {
-    let returned = turns.turn(worker)?;
-    same("a turn", &returned, &Some(Piece { message, outcome }))
+// A turn of one of two workers: what it does, and the words of stocks 1 and 2 then.
+type Step = (u32, Option<Piece>, [u64; 4], [u64; 4]);
+
+// Turns of both workers in an order of their own. There is no worker 2, and worker 0 has two messages.
+fn steps_in_any_order() -> [Step; 9] {
+    let (applied, none) = (Outcome::Applied, [0; 4]);
+    let (bought, also) = ([3, 100 << 32, 10, 0], [4, 200 << 32, 20, 0]);
+    let unlisted = Outcome::Refused(Fault::NoDirectory);
+    let unknown = Outcome::Refused(Fault::ReferenceUnknown);
+    [
+        (2, None, none, none),
+        (1, done(1, applied), [1, 0, 0, 0], none),
+        (1, done(3, applied), bought, none),
+        (0, done(2, applied), bought, [2, 0, 0, 0]),
+        (0, done(4, applied), bought, also),
+        (0, None, bought, also),
+        (1, done(5, applied), [5, 0, 0, 0], also),
+        (1, done(6, unlisted), [5, 0, 0, 0], also),
+        (1, done(7, unknown), [7, 0, 0, 0], also),
+    ]
 }
 
-// Looks at stocks 1 and 2, which show these words.
-fn look_at_both<'d, A: Allocator + Copy>(
-    case: &str,
-    turns: &Turns<'d, A>,
-    one: [u64; 4],
-    two: [u64; 4],
-) -> Result<(), Fail> {
-    same(case, &(turns.look(1), turns.look(2)), &(one, two))
+// Takes these turns, and looks at both stocks after each.
+fn follow<A: Allocator + Copy>(turns: &mut Turns<'_, A>, steps: &[Step]) -> Result<(), Fail> {
+    for (worker, piece, one, two) in steps {
+        same("a turn", &turns.turn(*worker)?, piece)?;
+        same("the words", &(turns.look(1), turns.look(2)), &(*one, *two))?;
+    }
+    Ok(())
 }
 
 // Looks at stocks after the last turn, which takes no memory.
@@ -207,26 +258,6 @@ fn turns_of_a_day_come_in_any_order(rt: HostRuntime) -> Result<(), Fail> {
     let heap = Refusing::new(rt.alloc(), Refusal::Never);
     let day = two_stocks(&heap)?;
     let mut turns = Turns::new(&rt, &heap, &day, 2)?;
-    same("a turn of no worker", &turns.turn(2)?, &None)?;
-    look_at_both("before the first turn", &turns, [0; 4], [0; 4])?;
-    take_of_day(&mut turns, 1, 1, Outcome::Applied)?;
-    take_of_day(&mut turns, 1, 3, Outcome::Applied)?;
-    let one = [3, 100 << 32, 10, 0];
-    look_at_both("one worker ahead", &turns, one, [0; 4])?;
-    take_of_day(&mut turns, 0, 2, Outcome::Applied)?;
-    look_at_both("a stock without orders", &turns, one, [2, 0, 0, 0])?;
-    take_of_day(&mut turns, 0, 4, Outcome::Applied)?;
-    let two = [4, 200 << 32, 20, 0];
-    look_at_both("a bid each", &turns, one, two)?;
-    same(
-        "a turn of a worker that has done all of its messages",
-        &turns.turn(0)?,
-        &None,
-    )?;
-    take_of_day(&mut turns, 1, 5, Outcome::Applied)?;
-    look_at_both("the first bid deleted", &turns, [5, 0, 0, 0], two)?;
-    take_of_day(&mut turns, 1, 6, Outcome::Refused(Fault::NoDirectory))?;
-    take_of_day(&mut turns, 1, 7, Outcome::Refused(Fault::ReferenceUnknown))?;
-    look_at_both("a refused delete", &turns, [7, 0, 0, 0], two)?;
+    follow(&mut turns, &steps_in_any_order())?;
     look_without_memory(&heap, &turns)
 }

@@ -21,16 +21,26 @@ fn machine_before<A: Allocator + Copy>(
     number: u8,
 ) -> Result<Stock<A>, Fail> {
     let mut stock = after(alloc, &one_bid())?;
+    take_earlier(alloc, &mut stock, kind, number)?;
+    Ok(stock)
+}
+
+fn take_earlier<A: Allocator + Copy>(
+    alloc: A,
+    stock: &mut Stock<A>,
+    kind: Growing,
+    number: u8,
+) -> Result<(), Fail> {
     for earlier in 2..=number {
         if kind == Growing::Replace {
             let original = AAPL.add(u64::from(earlier), b'B', 10, 100);
-            take_message(alloc, &mut stock, &original, Outcome::Applied)?;
+            take_message(alloc, stock, &original, Outcome::Applied)?;
         }
         if earlier < number {
-            take_message(alloc, &mut stock, &kind.message(earlier), Outcome::Applied)?;
+            take_message(alloc, stock, &kind.message(earlier), Outcome::Applied)?;
         }
     }
-    Ok(stock)
+    Ok(())
 }
 
 // Steps a machine under a refusal through a payload that is applied with memory.
@@ -72,6 +82,17 @@ fn take_under<'h>(
     Ok(tried)
 }
 
+fn twins_before<A: Allocator + Copy>(
+    alloc: A,
+    kind: Growing,
+    number: u8,
+) -> Result<(Stock<A>, Stock<A>), Fail> {
+    Ok((
+        machine_before(alloc, kind, number)?,
+        machine_before(alloc, kind, number)?,
+    ))
+}
+
 // Passes message `number` of a kind to a machine under a refusal.
 fn try_step(
     heap: &Refusing<Global>,
@@ -79,9 +100,8 @@ fn try_step(
     number: u8,
     refusal: Refusal,
 ) -> Result<Tried, Fail> {
+    let (mut stock, mut twin) = twins_before(heap, kind, number)?;
     let payload = payload_of(heap, &kind.message(number))?;
-    let mut stock = machine_before(heap, kind, number)?;
-    let mut twin = machine_before(heap, kind, number)?;
     take_under(heap, &mut stock, &mut twin, &payload, refusal)
 }
 
@@ -121,13 +141,27 @@ fn fallen_to<A: Allocator + Copy>(
     reference: u64,
 ) -> Result<Stock<A>, Fail> {
     let mut stock = after(alloc, &[AAPL.directory(), AAPL.add(1_000, b'B', 10, 100)])?;
+    fall_to(alloc, &mut stock, kind, reference)?;
+    Ok(stock)
+}
+
+fn fall_to<A: Allocator + Copy>(
+    alloc: A,
+    stock: &mut Stock<A>,
+    kind: Growing,
+    reference: u64,
+) -> Result<(), Fail> {
     for earlier in (reference..1_000).rev() {
         if earlier > reference {
-            let msg = falling_message(kind, earlier);
-            take_message(alloc, &mut stock, &msg, Outcome::Applied)?;
+            take_message(
+                alloc,
+                stock,
+                &falling_message(kind, earlier),
+                Outcome::Applied,
+            )?;
         }
     }
-    Ok(stock)
+    Ok(())
 }
 
 // Passes a message with a falling reference to a machine under a refusal.
@@ -137,9 +171,11 @@ fn try_falling(
     reference: u64,
     refusal: Refusal,
 ) -> Result<Tried, Fail> {
+    let (mut stock, mut twin) = (
+        fallen_to(heap, kind, reference)?,
+        fallen_to(heap, kind, reference)?,
+    );
     let payload = payload_of(heap, &falling_message(kind, reference))?;
-    let mut stock = fallen_to(heap, kind, reference)?;
-    let mut twin = fallen_to(heap, kind, reference)?;
     take_under(heap, &mut stock, &mut twin, &payload, refusal)
 }
 
@@ -306,6 +342,23 @@ fn same_copy<A: Allocator + Copy>(alloc: A, copy: &Stock<A>, stock: &Stock<A>) -
     same_machines(alloc, copy, stock)
 }
 
+// The same of a new copy.
+fn same_new_copy<A: Allocator + Copy>(alloc: A, stock: &Stock<A>) -> Result<(), Fail> {
+    same_copy(alloc, &stock.copy(alloc)?, stock)
+}
+
+// The same of a copy, or of a new one where it was refused.
+fn same_copy_or_next<A: Allocator + Copy>(
+    alloc: A,
+    copy: Result<Stock<A>, AllocError>,
+    stock: &Stock<A>,
+) -> Result<(), Fail> {
+    match copy {
+        Ok(copy) => same_copy(alloc, &copy, stock),
+        Err(AllocError) => same_new_copy(alloc, stock),
+    }
+}
+
 // Makes a copy of a machine with orders of both sides under a refusal, and with memory where it is refused. It leaves
 // the machine as it is.
 fn copy_under<'h>(
@@ -316,10 +369,7 @@ fn copy_under<'h>(
     heap.restart(refusal);
     let copy = stock.copy(heap);
     let tried = heap.tried(copy.is_err());
-    match copy {
-        Ok(copy) => same_copy(heap, &copy, stock)?,
-        Err(AllocError) => same_copy(heap, &stock.copy(heap)?, stock)?,
-    }
+    same_copy_or_next(heap, copy, stock)?;
     Ok(tried)
 }
 
@@ -337,6 +387,14 @@ fn a_list_or_a_copy_without_memory_is_none(rt: HostRuntime) -> Result<(), Fail> 
     Ok(())
 }
 
+// A machine without messages takes those of both sides.
+fn grow<A: Allocator + Copy>(alloc: A, grown: &mut Stock<A>, stock: &Stock<A>) -> Result<(), Fail> {
+    for msg in &both_sides() {
+        take_message(alloc, grown, msg, Outcome::Applied)?;
+    }
+    same_copy(alloc, grown, stock)
+}
+
 // Copies a machine without messages and one of both sides into memory of this allocator. The first takes the messages
 // of the other then.
 fn copies_in<A: Allocator + Copy>(
@@ -344,13 +402,8 @@ fn copies_in<A: Allocator + Copy>(
     empty: &Stock<A>,
     stock: &Stock<A>,
 ) -> Result<(), Fail> {
-    let mut grown = empty.copy(alloc)?;
-    for msg in both_sides() {
-        take_message(alloc, &mut grown, &msg, Outcome::Applied)?;
-    }
-    same_copy(alloc, &grown, stock)?;
-    let copy = stock.copy(alloc)?;
-    same_copy(alloc, &copy, stock)
+    grow(alloc, &mut empty.copy(alloc)?, stock)?;
+    same_new_copy(alloc, stock)
 }
 
 #[test]
@@ -402,30 +455,49 @@ fn without_a_new_row() -> [(Msg, Outcome); 23] {
     ]
 }
 
+// Passes messages to a machine, and compares their outcomes.
+fn take_each<A: Allocator + Copy, B: Allocator + Copy>(
+    alloc: A,
+    stock: &mut Stock<B>,
+    all: &[(Msg, Outcome)],
+) -> Result<(), Fail> {
+    for (msg, outcome) in all {
+        take_message(alloc, stock, msg, *outcome)?;
+    }
+    Ok(())
+}
+
+// What a machine says after them.
+fn shows_state<A: Allocator + Copy>(stock: &Stock<A>) -> Result<(), Fail> {
+    same(
+        "the trades, the state and the steps",
+        &(stock.totals().trades, stock.status().regsho, stock.steps()),
+        &(0, Some(b'1'), 29),
+    )
+}
+
+// And of its orders.
+fn shows_rows<A: Allocator + Copy>(stock: &Stock<A>) -> Result<(), Fail> {
+    let spent = (stock.spent(2), stock.spent(3), stock.spent(4));
+    same(
+        "the orders and the spent references",
+        &(
+            stock.top().bid_shares,
+            stock.level(Side::Buy, 200),
+            stock.order(2),
+            spent,
+        ),
+        &(0, 0, None, (true, false, true)),
+    )
+}
+
 #[test]
 fn steps_without_a_new_row_take_no_memory(rt: HostRuntime) -> Result<(), Fail> {
     let heap = Refusing::new(rt.alloc(), Refusal::Never);
     let mut stock = after(&heap, &two_bids())?;
     heap.restart(Refusal::From(1));
-    for (msg, outcome) in &without_a_new_row() {
-        take_message(rt.alloc(), &mut stock, msg, *outcome)?;
-    }
-    same(
-        "the trades, the state and the steps",
-        &(stock.totals().trades, stock.status().regsho, stock.steps()),
-        &(0, Some(b'1'), 29),
-    )?;
-    let level = stock.level(Side::Buy, 200);
-    let spent = (stock.spent(2), stock.spent(3), stock.spent(4));
-    same(
-        "the orders, the spent references, and the growths",
-        &(
-            stock.top().bid_shares,
-            level,
-            stock.order(2),
-            spent,
-            heap.asked(),
-        ),
-        &(0, 0, None, (true, false, true), 0),
-    )
+    take_each(rt.alloc(), &mut stock, &without_a_new_row())?;
+    shows_state(&stock)?;
+    shows_rows(&stock)?;
+    same("the growths", &heap.asked(), &0)
 }

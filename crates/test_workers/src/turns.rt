@@ -358,8 +358,42 @@ fn lead<R: Threads + Wait + Sync, A: Allocator + Copy>(
     Ok(())
 }
 
-// Takes the last of these turns under a refusal, after the earlier ones. Where it is refused, all is as it was, and it
-// is taken with memory.
+// Takes a turn under a refusal. Where it is refused, all is as it was, and it is taken with memory.
+fn turn_under<'h, R: Threads + Wait + Sync>(
+    rt: &R,
+    heap: &'h Refusing<Global>,
+    day: &Day<&'h Refusing<Global>>,
+    board: &Board<&'h Refusing<Global>>,
+    worker: &mut Worker<'_, &'h Refusing<Global>>,
+    screen: &mut Screen,
+    wanted: &After,
+    refusal: Refusal,
+) -> Result<Tried, Fail>
+    requires worker { IsWorkerOf day.now.payloads worker.old }
+    requires board { All (IsOn board.now) (places_of worker.old) }
+    requires screen { IsOn board.now screen.old.place }
+{
+    let before = see(rt, heap, board, worker, screen);
+    heap.restart(refusal);
+    let mut returned = worker.turn(rt, day, board, &FreeGate);
+    let tried = heap.tried(returned.is_err());
+    if tried.refused {
+        let after = see(rt, heap, board, worker, screen);
+        same("a refused turn", &after, &before)?;
+        returned = worker.turn(rt, day, board, &FreeGate);
+    }
+    let (first, second, reading) = see(rt, heap, board, worker, screen);
+    let (piece, one, two) = *wanted;
+    same("a turn", &returned, &Ok(piece))?;
+    same(
+        "the stocks and the screen",
+        &(first, second, words_of(reading)),
+        &(Some(one), Some(two), one.stock.top.to_words(one.message)),
+    )?;
+    Ok(tried)
+}
+
+// Takes the last of these turns under a refusal, after the earlier ones.
 fn try_turn<R: Threads + Wait + Sync>(
     rt: &R,
     heap: &Refusing<Global>,
@@ -374,24 +408,16 @@ fn try_turn<R: Threads + Wait + Sync>(
     let (mut worker, board, mut screen) = only_worker(heap, &day, &parts, waiting)?;
     lead(rt, &day, &board, &mut worker, earlier)?;
     find_without_memory(heap, &worker)?;
-    let before = see(rt, heap, &board, &worker, &mut screen);
-    heap.restart(refusal);
-    let mut returned = worker.turn(rt, &day, &board, &FreeGate);
-    let tried = heap.tried(returned.is_err());
-    if tried.refused {
-        let after = see(rt, heap, &board, &worker, &mut screen);
-        same("a refused turn", &after, &before)?;
-        returned = worker.turn(rt, &day, &board, &FreeGate);
-    }
-    let (first, second, reading) = see(rt, heap, &board, &worker, &mut screen);
-    let (piece, one, two) = *wanted;
-    same("a turn", &returned, &Ok(piece))?;
-    same(
-        "the stocks and the screen",
-        &(first, second, words_of(reading)),
-        &(Some(one), Some(two), one.stock.top.to_words(one.message)),
-    )?;
-    Ok(tried)
+    turn_under(
+        rt,
+        heap,
+        &day,
+        &board,
+        &mut worker,
+        &mut screen,
+        wanted,
+        refusal,
+    )
 }
 
 #[test]
