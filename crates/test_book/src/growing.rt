@@ -33,10 +33,11 @@ fn book_before<A: Allocator + Copy>(alloc: A, number: u32) -> Result<Book<A>, Fa
 
 // Makes a call of a book under a refusal. Where it is refused, the book is as its twin is, and the call is made with
 // memory. In the end the book shows what the twin shows, whose call was never refused.
-fn call_under<'h>(
-    heap: &'h Refusing<Global>,
-    book: &mut Book<&'h Refusing<Global>>,
-    twin: &mut Book<&'h Refusing<Global>>,
+fn call_under<A: Allocator + Copy>(
+    heap: &Refusing<Global>,
+    alloc: A,
+    book: &mut Book<A>,
+    twin: &mut Book<A>,
     call: Call,
     refusal: Refusal,
 ) -> Result<Tried, Fail> {
@@ -44,20 +45,25 @@ fn call_under<'h>(
     let returned = make(book, call)?;
     let tried = heap.tried(returned.is_err());
     if tried.refused {
-        same_books(heap, book, twin)?;
+        same_books(alloc, book, twin)?;
         same_results(book, twin)?;
         make_all(book, &[call])?;
     }
     make_all(twin, &[call])?;
-    same_books(heap, book, twin)?;
+    same_books(alloc, book, twin)?;
     Ok(tried)
 }
 
 // Makes the call of this number under a refusal.
-fn try_call(heap: &Refusing<Global>, number: u32, refusal: Refusal) -> Result<Tried, Fail> {
-    let mut book = book_before(heap, number)?;
-    let mut twin = book_before(heap, number)?;
-    call_under(heap, &mut book, &mut twin, numbered(number), refusal)
+fn try_call<A: Allocator + Copy>(
+    heap: &Refusing<Global>,
+    alloc: A,
+    number: u32,
+    refusal: Refusal,
+) -> Result<Tried, Fail> {
+    let mut book = book_before(alloc, number)?;
+    let mut twin = book_before(alloc, number)?;
+    call_under(heap, alloc, &mut book, &mut twin, numbered(number), refusal)
 }
 
 // Of the rows of 99 orders some need memory, and some find room.
@@ -68,7 +74,7 @@ fn a_call_without_memory_changes_nothing(rt: HostRuntime) -> Result<(), Fail> {
         let mut growths = 0u64;
         for number in kind {
             let more = refuse_any(|refusal: Refusal| -> Result<Tried, Fail> {
-                try_call(&heap, number, refusal)
+                try_call(&heap, &heap, number, refusal)
             })?;
             growths = growths.saturating_add(more);
         }
@@ -111,9 +117,10 @@ const REPLACEMENT: Call = Call::Replace(2, 5, 50, 11);
 
 // Replaces order 2 of a new book under a refusal. Where that is refused, the order and the levels stay, and it is replaced with
 // memory.
-fn replace_under<'h>(
-    heap: &'h Refusing<Global>,
-    book: &mut Book<&'h Refusing<Global>>,
+fn replace_under<A: Allocator + Copy>(
+    heap: &Refusing<Global>,
+    alloc: A,
+    book: &mut Book<A>,
     refusal: Refusal,
 ) -> Result<Tried, Fail> {
     make_all(book, &without_room())?;
@@ -121,10 +128,10 @@ fn replace_under<'h>(
     let returned = make(book, REPLACEMENT)?;
     let tried = heap.tried(returned.is_err());
     if tried.refused {
-        shows_bids(heap, book, &[level(10, 110)], (true, false))?;
+        shows_bids(alloc, book, &[level(10, 110)], (true, false))?;
         make_all(book, &[REPLACEMENT])?;
     }
-    shows_bids(heap, book, &[level(11, 50), level(10, 60)], (false, true))?;
+    shows_bids(alloc, book, &[level(11, 50), level(10, 60)], (false, true))?;
     Ok(tried)
 }
 
@@ -132,7 +139,7 @@ fn replace_under<'h>(
 fn a_refused_replacement_leaves_order_and_levels(rt: HostRuntime) -> Result<(), Fail> {
     let heap = Refusing::new(rt.alloc(), Refusal::Never);
     refuse_each(|refusal: Refusal| -> Result<Tried, Fail> {
-        replace_under(&heap, &mut Book::new(&heap), refusal)
+        replace_under(&heap, &heap, &mut Book::new(&heap), refusal)
     })?;
     Ok(())
 }
@@ -225,19 +232,20 @@ fn shows_both_sides<A: Allocator + Copy>(alloc: A, book: &Book<A>) -> Result<(),
 
 // Makes a list of a book of both sides under a refusal. The book stays as it is, and its lists are made again with
 // memory.
-fn list_under<'h>(
-    heap: &'h Refusing<Global>,
-    book: &Book<&'h Refusing<Global>>,
+fn list_under<A: Allocator + Copy>(
+    heap: &Refusing<Global>,
+    alloc: A,
+    book: &Book<A>,
     listing: Listing,
     refusal: Refusal,
 ) -> Result<Tried, Fail> {
     heap.restart(refusal);
-    let listed = list(heap, book, listing);
+    let listed = list(alloc, book, listing);
     let tried = heap.tried(listed.is_err());
     if let Ok(compared) = listed {
         compared?;
     }
-    shows_both_sides(heap, book)?;
+    shows_both_sides(alloc, book)?;
     Ok(tried)
 }
 
@@ -266,15 +274,16 @@ fn same_copy_or_next<A: Allocator + Copy>(
 
 // Makes a copy of a book of both sides under a refusal, and with memory where it is refused. It leaves the book as it
 // is.
-fn copy_under<'h>(
-    heap: &'h Refusing<Global>,
-    book: &Book<&'h Refusing<Global>>,
+fn copy_under<A: Allocator + Copy>(
+    heap: &Refusing<Global>,
+    alloc: A,
+    book: &Book<A>,
     refusal: Refusal,
 ) -> Result<Tried, Fail> {
     heap.restart(refusal);
-    let copy = book.copy(heap);
+    let copy = book.copy(alloc);
     let tried = heap.tried(copy.is_err());
-    same_copy_or_next(heap, copy, book)?;
+    same_copy_or_next(alloc, copy, book)?;
     Ok(tried)
 }
 
@@ -283,11 +292,11 @@ fn a_list_or_a_copy_without_memory_is_none(rt: HostRuntime) -> Result<(), Fail> 
     let heap = Refusing::new(rt.alloc(), Refusal::Never);
     for listing in LISTINGS {
         refuse_each(|refusal: Refusal| -> Result<Tried, Fail> {
-            list_under(&heap, &both_sided(&heap)?, listing, refusal)
+            list_under(&heap, &heap, &both_sided(&heap)?, listing, refusal)
         })?;
     }
     refuse_each(|refusal: Refusal| -> Result<Tried, Fail> {
-        copy_under(&heap, &both_sided(&heap)?, refusal)
+        copy_under(&heap, &heap, &both_sided(&heap)?, refusal)
     })?;
     Ok(())
 }

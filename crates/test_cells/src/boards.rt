@@ -143,14 +143,18 @@ fn count_writers<A: Allocator + Copy>(alloc: A, day: &Day<A>) -> Result<usize, A
 
 // Makes the board of the two stocks under a refusal. Where it is refused, the day is as it was, and the board is made
 // with memory.
-fn try_board(heap: &Refusing<Global>, refusal: Refusal) -> Result<Tried, Fail> {
-    let day = two_stocks(heap)?;
+fn try_board<A: Allocator + Copy>(
+    heap: &Refusing<Global>,
+    alloc: A,
+    refusal: Refusal,
+) -> Result<Tried, Fail> {
+    let day = two_stocks(alloc)?;
     heap.restart(refusal);
-    let mut count = count_writers(heap, &day);
+    let mut count = count_writers(alloc, &day);
     let tried = heap.tried(count.is_err());
     if tried.refused {
-        same_bytes("the day", day.bytes(), two_stocks(heap)?.bytes())?;
-        count = count_writers(heap, &day);
+        same_bytes("the day", day.bytes(), two_stocks(alloc)?.bytes())?;
+        count = count_writers(alloc, &day);
     }
     same("how many writers", &count, &Ok(3))?;
     Ok(tried)
@@ -160,19 +164,19 @@ fn try_board(heap: &Refusing<Global>, refusal: Refusal) -> Result<Tried, Fail> {
 fn a_board_without_memory_is_none(rt: HostRuntime) -> Result<(), Fail> {
     let heap = Refusing::new(rt.alloc(), Refusal::Never);
     let growths = refuse_each(|refusal: Refusal| -> Result<Tried, Fail> {
-        try_board(&heap, refusal)
+        try_board(&heap, &heap, refusal)
     })?;
     same("some growths", &(growths > 6 && growths <= 40), &true)
 }
 
 // Publishes the third message of a bid that is deleted, shows the fourth by single steps, neither of which takes
 // memory, and lets screens be made, read, glanced at and joined, all without memory.
-fn show_without_memory<'h, R: Wait>(
+fn show_without_memory<R: Wait, A: Allocator + Copy>(
     rt: &R,
-    heap: &'h Refusing<Global>,
-    day: &Day<&'h Refusing<Global>>,
-    machine: &mut Plain<&'h Refusing<Global>>,
-    board: &Board<&'h Refusing<Global>>,
+    heap: &Refusing<Global>,
+    day: &Day<A>,
+    machine: &mut Plain<A>,
+    board: &Board<A>,
     mut writer: TopWriter,
 ) -> Result<(), Fail>
     requires { AreInStep day.now.payloads board.now machine.old writer }

@@ -155,6 +155,24 @@ fn watch_both<R: Threads + Wait + Sync>(
     )
 }
 
+// Compares where a writer and two screens have come, and what a third one reads, with the last message of a day.
+fn same_ends(
+    shown: Result<u32, AllocError>,
+    first: Result<u32, Reading>,
+    second: Result<u32, Reading>,
+    last: Reading,
+    readings: &[Reading],
+    messages: u32,
+) -> Result<(), Fail> {
+    same("the writer", &shown, &Ok(messages))?;
+    same(
+        "both screens",
+        &(first, second),
+        &(Ok(messages), Ok(messages)),
+    )?;
+    same("the last reading", &readings.last(), &Some(&last))
+}
+
 // A writer and two screens of the only stock of a day, each in a thread of its own.
 fn show_and_watch<R: Threads + Wait + Sync>(
     rt: &R,
@@ -177,14 +195,9 @@ fn show_and_watch<R: Threads + Wait + Sync>(
             requires { IsOn board.now first.place × IsOn board.now second.place }
         { watch_both(rt, board, first, second, looking, readings) },
     );
-    same("the writer", &shown?.message(), &day.len())?;
-    same("the first screen", &one, &Ok(day.len()))?;
-    same("the second screen", &other, &Ok(day.len()))?;
-    same(
-        "the last reading",
-        &readings.last(),
-        &Some(&last.read(rt, board)),
-    )
+    let shown = shown.map(|writer: TopWriter| -> u32 { writer.message() });
+    let last = last.read(rt, board);
+    same_ends(shown, one, other, last, readings, day.len())
 }
 
 #[test]

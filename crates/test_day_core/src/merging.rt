@@ -103,10 +103,14 @@ fn the_first_faulty_piece_is_the_fault(rt: HostRuntime) -> Result<(), Fail> {
 }
 
 // Merges two lists under a refusal. Where a growth is refused, the merge is, and one with memory makes the day.
-fn try_merge(heap: &Refusing<Global>, refusal: Refusal) -> Result<Tried, Fail> {
-    let lists = lists_of(heap, &[applied(1)], &[applied(2)])?;
+fn try_merge<A: Allocator + Copy + Send + Sync>(
+    heap: &Refusing<Global>,
+    alloc: A,
+    refusal: Refusal,
+) -> Result<Tried, Fail> {
+    let lists = lists_of(alloc, &[applied(1)], &[applied(2)])?;
     heap.restart(refusal);
-    let returned = merge(heap, 2, lists).map(|outcomes| outcomes.len());
+    let returned = merge(alloc, 2, lists).map(|outcomes| outcomes.len());
     let tried = heap.tried(returned.is_err());
     let wanted = match refusal {
         Refusal::Never => Ok(2),
@@ -114,16 +118,20 @@ fn try_merge(heap: &Refusing<Global>, refusal: Refusal) -> Result<Tried, Fail> {
     };
     same("a merge", &(refusal, returned), &(refusal, wanted))?;
     let outcome = Some(Outcome::Applied);
-    let again = merged(heap, 2, &[applied(1)], &[applied(2)])?;
+    let again = merged(alloc, 2, &[applied(1)], &[applied(2)])?;
     same("with memory", &again, &Ok((2, outcome, outcome)))?;
     Ok(tried)
 }
 
 // Merges two pieces for one message under a refusal: memory is refused before the second piece is found to be faulty.
-fn try_faulty_merge(heap: &Refusing<Global>, refusal: Refusal) -> Result<(), Fail> {
-    let lists = lists_of(heap, &[applied(1)], &[applied(1)])?;
+fn try_faulty_merge<A: Allocator + Copy + Send + Sync>(
+    heap: &Refusing<Global>,
+    alloc: A,
+    refusal: Refusal,
+) -> Result<(), Fail> {
+    let lists = lists_of(alloc, &[applied(1)], &[applied(1)])?;
     heap.restart(refusal);
-    let returned = merge(heap, 2, lists).map(|outcomes| outcomes.len());
+    let returned = merge(alloc, 2, lists).map(|outcomes| outcomes.len());
     heap.restart(Refusal::Never);
     let wanted = match refusal {
         Refusal::Never => MergeFault::Double(1),
@@ -140,8 +148,8 @@ fn try_faulty_merge(heap: &Refusing<Global>, refusal: Refusal) -> Result<(), Fai
 fn pieces_without_memory_make_no_day(rt: HostRuntime) -> Result<(), Fail> {
     let heap = Refusing::new(rt.alloc(), Refusal::Never);
     let growths = refuse_each(|refusal: Refusal| -> Result<Tried, Fail> {
-        try_faulty_merge(&heap, refusal)?;
-        try_merge(&heap, refusal)
+        try_faulty_merge(&heap, &heap, refusal)?;
+        try_merge(&heap, &heap, refusal)
     })?;
     same("all growths", &growths, &2)
 }

@@ -145,19 +145,20 @@ fn shows_words(list: &[Seen]) -> Result<(), Fail> {
 
 // Runs the schedule of worker 1, whose messages they all are, under a refusal, which leaves the day as it is, and with
 // memory where it is refused.
-fn try_play<R: Threads + Sync>(
+fn try_play<R: Threads + Sync, A: Allocator + Copy + Send + Sync>(
     rt: &R,
     heap: &Refusing<Global>,
+    alloc: A,
     refusal: Refusal,
 ) -> Result<Tried, Fail> {
-    let day = crossed_book(heap)?;
+    let day = crossed_book(alloc)?;
     heap.restart(refusal);
-    let played = play(rt, heap, &day, 2, &schedule(1));
+    let played = play(rt, alloc, &day, 2, &schedule(1));
     let tried = heap.tried(played.is_err());
-    same_bytes("the day", day.bytes(), crossed_book(heap)?.bytes())?;
+    same_bytes("the day", day.bytes(), crossed_book(alloc)?.bytes())?;
     match played {
         Ok(list) => shows_words(&list),
-        Err(SplitFault::Memory) => shows_words(&play(rt, heap, &day, 2, &schedule(1))?),
+        Err(SplitFault::Memory) => shows_words(&play(rt, alloc, &day, 2, &schedule(1))?),
         Err(SplitFault::Workers) => Err(Fail::new("a bad number of workers")),
     }?;
     Ok(tried)
@@ -167,7 +168,7 @@ fn try_play<R: Threads + Sync>(
 fn a_schedule_without_memory_shows_nothing(rt: HostRuntime) -> Result<(), Fail> {
     let heap = Refusing::new(rt.alloc(), Refusal::Never);
     let growths = refuse_each(|refusal: Refusal| -> Result<Tried, Fail> {
-        try_play(&rt, &heap, refusal)
+        try_play(&rt, &heap, &heap, refusal)
     })?;
     same("some growths", &(growths > 10 && growths <= 100), &true)
 }
@@ -194,18 +195,19 @@ fn not_begun<A: Allocator + Copy>(alloc: A, turns: &Turns<'_, A>) -> Result<(), 
 }
 
 // Makes the workers of the crossed book under a refusal, and with memory where it is refused.
-fn try_new<R: Threads + Sync>(
+fn try_new<R: Threads + Sync, A: Allocator + Copy + Send + Sync>(
     rt: &R,
     heap: &Refusing<Global>,
+    alloc: A,
     refusal: Refusal,
 ) -> Result<Tried, Fail> {
-    let day = crossed_book(heap)?;
+    let day = crossed_book(alloc)?;
     heap.restart(refusal);
-    let made = Turns::new(rt, heap, &day, 2);
+    let made = Turns::new(rt, alloc, &day, 2);
     let tried = heap.tried(made.is_err());
     match made {
-        Ok(turns) => not_begun(heap, &turns),
-        Err(SplitFault::Memory) => not_begun(heap, &Turns::new(rt, heap, &day, 2)?),
+        Ok(turns) => not_begun(alloc, &turns),
+        Err(SplitFault::Memory) => not_begun(alloc, &Turns::new(rt, alloc, &day, 2)?),
         Err(SplitFault::Workers) => Err(Fail::new("a bad number of workers")),
     }?;
     Ok(tried)
@@ -232,19 +234,20 @@ fn turns_of_crossed_book() -> [([u64; 4], Shown); 3] {
 
 // Takes the turn after this many others under a refusal. Where it is refused, all is as it was, and it is taken with
 // memory.
-fn turn_under<'h>(
-    heap: &'h Refusing<Global>,
-    turns: &mut Turns<'_, &'h Refusing<Global>>,
+fn turn_under<A: Allocator + Copy + Send + Sync>(
+    heap: &Refusing<Global>,
+    alloc: A,
+    turns: &mut Turns<'_, A>,
     earlier: u32,
     wanted: &([u64; 4], Shown),
     refusal: Refusal,
 ) -> Result<Tried, Fail> {
-    let before = looked_at(heap, turns)?;
+    let before = looked_at(alloc, turns)?;
     heap.restart(refusal);
     let mut returned = turns.turn(0);
     let tried = heap.tried(returned.is_err());
     if tried.refused {
-        same("after a refused turn", &looked_at(heap, turns)?, &before)?;
+        same("after a refused turn", &looked_at(alloc, turns)?, &before)?;
         returned = turns.turn(0);
     }
     let message = earlier.saturating_add(1);
@@ -253,36 +256,37 @@ fn turn_under<'h>(
     let (words, stock) = *wanted;
     same(
         "after the turn",
-        &looked_at(heap, turns)?,
+        &looked_at(alloc, turns)?,
         &(words, Some(stock)),
     )?;
     Ok(tried)
 }
 
-fn try_turn<R: Threads + Sync>(
+fn try_turn<R: Threads + Sync, A: Allocator + Copy + Send + Sync>(
     rt: &R,
     heap: &Refusing<Global>,
+    alloc: A,
     earlier: u32,
     wanted: &([u64; 4], Shown),
     refusal: Refusal,
 ) -> Result<Tried, Fail> {
-    let day = crossed_book(heap)?;
-    let mut turns = Turns::new(rt, heap, &day, 1)?;
+    let day = crossed_book(alloc)?;
+    let mut turns = Turns::new(rt, alloc, &day, 1)?;
     for _ in 0..earlier {
         turns.turn(0)?;
     }
-    turn_under(heap, &mut turns, earlier, wanted, refusal)
+    turn_under(heap, alloc, &mut turns, earlier, wanted, refusal)
 }
 
 // The directory message needs no memory, and the orders do.
 #[test]
 fn a_refused_turn_leaves_what_looks_show(rt: HostRuntime) -> Result<(), Fail> {
     let heap = Refusing::new(rt.alloc(), Refusal::Never);
-    refuse_each(|refusal: Refusal| -> Result<Tried, Fail> { try_new(&rt, &heap, refusal) })?;
+    refuse_each(|refusal: Refusal| -> Result<Tried, Fail> { try_new(&rt, &heap, &heap, refusal) })?;
     let [one, two, three] = turns_of_crossed_book();
     for (earlier, wanted, needs) in [(0, one, false), (1, two, true), (2, three, true)] {
         let growths = refuse_any(|refusal: Refusal| -> Result<Tried, Fail> {
-            try_turn(&rt, &heap, earlier, &wanted, refusal)
+            try_turn(&rt, &heap, &heap, earlier, &wanted, refusal)
         })?;
         same("growths", &(earlier, growths > 0), &(earlier, needs))?;
     }

@@ -154,22 +154,23 @@ fn compare_next<R: Threads + Sync, A: Allocator + Copy + Send + Sync>(
 
 // Splits a day under a refusal, which leaves the day as it is. Where it is refused, it is split with memory. It has
 // these stocks.
-fn try_split<R: Threads + Sync>(
+fn try_split<R: Threads + Sync, A: Allocator + Copy + Send + Sync>(
     rt: &R,
     heap: &Refusing<Global>,
+    alloc: A,
     file: &[u8],
     workers: u32,
     locates: &[u16],
     refusal: Refusal,
 ) -> Result<Tried, Fail> {
-    let day = day_of(heap, file.to_vec(heap)?)?;
+    let day = day_of(alloc, file.to_vec(alloc)?)?;
     heap.restart(refusal);
-    let made = split(rt, heap, &day, workers);
+    let made = split(rt, alloc, &day, workers);
     let tried = heap.tried(made.is_err());
     same_bytes("the day", day.bytes(), file)?;
     match made {
-        Ok(parts) => compare(rt, heap, &day, &parts, locates),
-        Err(SplitFault::Memory) => compare_next(rt, heap, &day, workers, locates),
+        Ok(parts) => compare(rt, alloc, &day, &parts, locates),
+        Err(SplitFault::Memory) => compare_next(rt, alloc, &day, workers, locates),
         Err(SplitFault::Workers) => Err(Fail::new("a bad number of workers")),
     }?;
     Ok(tried)
@@ -182,7 +183,7 @@ fn a_day_without_memory_stays_whole(rt: HostRuntime) -> Result<(), Fail> {
     let heap = Refusing::new(rt.alloc(), Refusal::Never);
     let day = two_stocks(rt.alloc())?;
     let growths = refuse_each(|refusal: Refusal| -> Result<Tried, Fail> {
-        try_split(&rt, &heap, day.bytes(), 7, &[1, 2, 3], refusal)
+        try_split(&rt, &heap, &heap, day.bytes(), 7, &[1, 2, 3], refusal)
     })?;
     same("some growths", &(growths > 5 && growths <= 20), &true)
 }
@@ -192,7 +193,7 @@ fn a_day_without_memory_stays_whole(rt: HostRuntime) -> Result<(), Fail> {
 fn a_long_day_without_memory_has_no_parts(rt: HostRuntime) -> Result<(), Fail> {
     let heap = Refusing::new(rt.alloc(), Refusal::Never);
     let day = long_day(rt.alloc())?;
-    let whole = try_split(&rt, &heap, day.bytes(), 64, &[1, 2], Refusal::Never)?;
+    let whole = try_split(&rt, &heap, &heap, day.bytes(), 64, &[1, 2], Refusal::Never)?;
     same(
         "growths",
         &(whole.growths > 20, whole.refused),
@@ -200,7 +201,7 @@ fn a_long_day_without_memory_has_no_parts(rt: HostRuntime) -> Result<(), Fail> {
     )?;
     for growth in [1, 2, 20, whole.growths / 2] {
         for refusal in [Refusal::Only(growth), Refusal::From(growth)] {
-            let tried = try_split(&rt, &heap, day.bytes(), 64, &[1, 2], refusal)?;
+            let tried = try_split(&rt, &heap, &heap, day.bytes(), 64, &[1, 2], refusal)?;
             same(
                 "a refused growth",
                 &(refusal, tried.refused),

@@ -41,15 +41,14 @@ fn pieces_of_all<A: Allocator + Copy>(
     Ok(lists)
 }
 
-// This many workers make the outcomes and the last words of the two stocks.
-fn make_day<R: Threads + Sync, A: Allocator + Copy + Send + Sync>(
-    rt: &R,
+// The turns of this many workers make the outcomes and the last words of the two stocks.
+fn make_by<A: Allocator + Copy>(
     alloc: A,
     day: &Day<A>,
+    turns: &mut Turns<'_, A>,
     workers: u32,
 ) -> Result<(), Fail> {
-    let mut turns = Turns::new(rt, alloc, day, workers)?;
-    let lists = pieces_of_all(alloc, day, &mut turns, workers)?;
+    let lists = pieces_of_all(alloc, day, turns, workers)?;
     let last = [turns.look(1), turns.look(2), turns.look(3)];
     let wanted = [[7, 0, 0, 0], [4, 200 << 32, 20, 0], [6, 0, 0, 0]];
     same("the words", &(workers, last), &(workers, wanted))?;
@@ -57,6 +56,21 @@ fn make_day<R: Threads + Sync, A: Allocator + Copy + Send + Sync>(
         "the outcomes",
         &merge(alloc, day.len(), lists)?,
         &OF_TWO_STOCKS,
+    )
+}
+
+// New workers, this many, make them.
+fn make_day<R: Threads + Sync, A: Allocator + Copy + Send + Sync>(
+    rt: &R,
+    alloc: A,
+    day: &Day<A>,
+    workers: u32,
+) -> Result<(), Fail> {
+    make_by(
+        alloc,
+        day,
+        &mut Turns::new(rt, alloc, day, workers)?,
+        workers,
     )
 }
 
@@ -134,23 +148,24 @@ fn turns_of_two_stocks() -> [After; 8] {
 
 // Takes the last of these turns of the only worker of the two stocks under a refusal. Where it is refused, the stocks say
 // what they said before, and it is taken with memory.
-fn turn_under<'h>(
-    heap: &'h Refusing<Global>,
-    turns: &mut Turns<'_, &'h Refusing<Global>>,
+fn turn_under<A: Allocator + Copy + Send + Sync>(
+    heap: &Refusing<Global>,
+    alloc: A,
+    turns: &mut Turns<'_, A>,
     last: &After,
     refusal: Refusal,
 ) -> Result<Tried, Fail> {
     let (piece, stocks) = last;
-    let before = stocks_of(heap, turns)?;
+    let before = stocks_of(alloc, turns)?;
     heap.restart(refusal);
     let mut returned = turns.turn(0);
     let tried = heap.tried(returned.is_err());
     if tried.refused {
-        same("a refused turn", &stocks_of(heap, turns)?, &before)?;
+        same("a refused turn", &stocks_of(alloc, turns)?, &before)?;
         returned = turns.turn(0);
     }
     same("a turn", &returned, &Ok(*piece))?;
-    same("after a turn", &stocks_of(heap, turns)?, stocks)?;
+    same("after a turn", &stocks_of(alloc, turns)?, stocks)?;
     Ok(tried)
 }
 
@@ -165,19 +180,20 @@ fn take_earlier<A: Allocator + Copy>(
     Ok(())
 }
 
-fn try_turn<R: Threads + Sync>(
+fn try_turn<R: Threads + Sync, A: Allocator + Copy + Send + Sync>(
     rt: &R,
     heap: &Refusing<Global>,
+    alloc: A,
     all: &[After],
     refusal: Refusal,
 ) -> Result<Tried, Fail> {
     let Some((last, earlier)) = all.split_last() else {
         return Err(Fail::new("no turn"));
     };
-    let day = two_stocks(heap)?;
-    let mut turns = Turns::new(rt, heap, &day, 1)?;
+    let day = two_stocks(alloc)?;
+    let mut turns = Turns::new(rt, alloc, &day, 1)?;
     take_earlier(&mut turns, earlier)?;
-    turn_under(heap, &mut turns, last, refusal)
+    turn_under(heap, alloc, &mut turns, last, refusal)
 }
 
 // Only the two orders need memory.
@@ -197,7 +213,7 @@ fn a_turn_without_memory_is_tried_again(rt: HostRuntime) -> Result<(), Fail> {
     ] {
         let some = turns.get(..last).unwrap_or(&[]);
         let growths = refuse_any(|refusal: Refusal| -> Result<Tried, Fail> {
-            try_turn(&rt, &heap, some, refusal)
+            try_turn(&rt, &heap, &heap, some, refusal)
         })?;
         same("growths", &(last, growths > 0), &(last, needs))?;
     }

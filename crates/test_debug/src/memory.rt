@@ -27,16 +27,17 @@ fn answer<A: Allocator + Copy>(
 
 // Passes a line to a session under a refusal, with a text that has something. The answer follows that, or nothing does
 // where memory was refused.
-fn answer_under<'h>(
-    heap: &'h Refusing<Global>,
-    debugger: &mut Debugger<'_, &'h Refusing<Global>>,
+fn answer_under<A: Allocator + Copy>(
+    heap: &Refusing<Global>,
+    alloc: A,
+    debugger: &mut Debugger<'_, A>,
     line: &str,
     wanted: &str,
     refusal: Refusal,
 ) -> Result<Tried, Fail> {
-    let mut text = Vec::from_slice(heap, BEFORE)?;
+    let mut text = Vec::from_slice(alloc, BEFORE)?;
     heap.restart(refusal);
-    let refused = answer_line(heap, &mut text, debugger, line.as_bytes()).is_err();
+    let refused = answer_line(alloc, &mut text, debugger, line.as_bytes()).is_err();
     let tried = heap.tried(refused);
     let Some(added) = text.strip_prefix(BEFORE) else {
         return Err(Fail::new("the text before an answer is gone"));
@@ -67,21 +68,35 @@ fn ask_breaks<A: Allocator + Copy>(
 
 // Passes a line under a refusal to a session at position 5, which has a breakpoint. Then the session goes on to list
 // its breakpoints, and to show the day.
-fn try_line(
+fn line_under<A: Allocator + Copy>(
     heap: &Refusing<Global>,
+    alloc: A,
+    debugger: &mut Debugger<'_, A>,
     line: &str,
     wanted: &str,
     after: &str,
     refusal: Refusal,
 ) -> Result<Tried, Fail> {
-    let day = day_in(heap, TRADED)?;
-    let mut debugger = Debugger::new(heap, &day, 1)?;
-    answer(heap, &mut debugger, "break time 3", "break 1\n")?;
-    answer(heap, &mut debugger, "goto 5", "at 5 applied\n")?;
-    let tried = answer_under(heap, &mut debugger, line, wanted, refusal)?;
-    ask_breaks(heap, &mut debugger, after, tried.refused)?;
-    answer(heap, &mut debugger, "goto 5", "at 5 applied\n")?;
+    answer(alloc, debugger, "break time 3", "break 1\n")?;
+    answer(alloc, debugger, "goto 5", "at 5 applied\n")?;
+    let tried = answer_under(heap, alloc, debugger, line, wanted, refusal)?;
+    ask_breaks(alloc, debugger, after, tried.refused)?;
+    answer(alloc, debugger, "goto 5", "at 5 applied\n")?;
     Ok(tried)
+}
+
+// Passes the line to a new session.
+fn try_line<A: Allocator + Copy>(
+    heap: &Refusing<Global>,
+    alloc: A,
+    line: &str,
+    wanted: &str,
+    after: &str,
+    refusal: Refusal,
+) -> Result<Tried, Fail> {
+    let day = day_in(alloc, TRADED)?;
+    let mut debugger = Debugger::new(alloc, &day, 1)?;
+    line_under(heap, alloc, &mut debugger, line, wanted, after, refusal)
 }
 
 #[test]
@@ -106,7 +121,7 @@ fn a_line_without_memory_is_an_error_and_the_next_one_is_answered(
         ("show 2", "no stock 2\n", BREAKS),
     ] {
         refuse_each(|refusal: Refusal| -> Result<Tried, Fail> {
-            try_line(&heap, line, wanted, after, refusal)
+            try_line(&heap, &heap, line, wanted, after, refusal)
         })?;
     }
     Ok(())

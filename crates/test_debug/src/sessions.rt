@@ -307,11 +307,11 @@ fn answer_long<A: Allocator + Copy>(
     same_bytes("the answer", &answer, wanted.1)
 }
 
-#[test]
-fn a_line_has_at_most_a_thousand_bytes(rt: HostRuntime) -> Result<(), Fail> {
-    let alloc = rt.alloc();
-    let day = day_in(alloc, TRADED)?;
-    let mut debugger = Debugger::new(alloc, &day, 1000)?;
+// Passes lines of about a thousand bytes to a session.
+fn answer_all_long<A: Allocator + Copy>(
+    alloc: A,
+    debugger: &mut Debugger<'_, A>,
+) -> Result<(), Fail> {
     let refused = (Next::Going, b"? command\n".as_slice());
     for (length, command, wanted) in [
         (1000, b"".as_slice(), (Next::Going, b"".as_slice())),
@@ -319,7 +319,14 @@ fn a_line_has_at_most_a_thousand_bytes(rt: HostRuntime) -> Result<(), Fail> {
         (1000, b"quit", (Next::Over, b"")),
         (1001, b"quit", refused),
     ] {
-        answer_long(alloc, &mut debugger, length, command, wanted)?;
+        answer_long(alloc, debugger, length, command, wanted)?;
     }
     Ok(())
+}
+
+#[test]
+fn a_line_has_at_most_a_thousand_bytes(rt: HostRuntime) -> Result<(), Fail> {
+    let alloc = rt.alloc();
+    let day = day_in(alloc, TRADED)?;
+    answer_all_long(alloc, &mut Debugger::new(alloc, &day, 1000)?)
 }

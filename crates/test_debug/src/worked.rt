@@ -58,6 +58,21 @@ pub fn day_in<A: Allocator + Copy>(alloc: A, text: &str) -> Result<Day<A>, Fail>
     }
 }
 
+// Passes these lines to a session, and compares all answers with these.
+fn answer_lines<A: Allocator + Copy>(
+    alloc: A,
+    debugger: &mut Debugger<'_, A>,
+    lines: &str,
+    wanted: &str,
+) -> Result<(), Fail> {
+    let mut answers = Vec::new(alloc);
+    for line in lines.as_bytes().split(|byte| *byte == b'\n') {
+        let next = answer_line(alloc, &mut answers, debugger, line)?;
+        same("a line that isn't `quit`", &next, &Next::Going)?;
+    }
+    same_bytes("the answers", &answers, wanted.as_bytes())
+}
+
 /// Passes these lines, each of which ends with a line feed, to a new session of a day, and compares all answers with
 /// these.
 pub fn follow<A: Allocator + Copy>(
@@ -70,13 +85,12 @@ pub fn follow<A: Allocator + Copy>(
     requires { 0 < every }
 {
     let day = day_in(alloc, text)?;
-    let mut debugger = Debugger::new(alloc, &day, every)?;
-    let mut answers = Vec::new(alloc);
-    for line in lines.as_bytes().split(|byte| *byte == b'\n') {
-        let next = answer_line(alloc, &mut answers, &mut debugger, line)?;
-        same("a line that isn't `quit`", &next, &Next::Going)?;
-    }
-    same_bytes("the answers", &answers, wanted.as_bytes())
+    answer_lines(
+        alloc,
+        &mut Debugger::new(alloc, &day, every)?,
+        lines,
+        wanted,
+    )
 }
 
 /// Adds spaces and a command, a line of this many bytes without the line feed that may end it.

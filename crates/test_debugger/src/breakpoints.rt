@@ -1,12 +1,12 @@
 //! Where breakpoints stop, both ways.
-use crate::calls::{Call, Line, Returned, follow, follow_new};
+use crate::calls::{Call, Line, Returned, follow_new};
 use crate::days::{BIDS, time_break, timed, tour};
 use binaryfile::Day;
-use debugger::{Break, DebugFault, Debugger, Stop};
+use debugger::{Break, DebugFault, Stop};
 use itch_table::{Fault, Outcome};
 use std::alloc::Allocator;
 use std::test::Fail;
-use test_support::{AAPL, same, system};
+use test_support::{AAPL, system};
 
 // A stop of the first breakpoint.
 const fn first(at: u32) -> Result<Returned, DebugFault> {
@@ -27,7 +27,7 @@ const fn none(at: u32) -> Result<Returned, DebugFault> {
 }
 
 // A breakpoint that is there already keeps its place, and those after one that is removed close up.
-const fn list_script(late: Break, again: Break) -> [Line; 14] {
+const fn list_script(late: Break, again: Break) -> [Line; 15] {
     [
         (Call::AddBreak(BIDS), Ok(Returned::Added(0))),
         (Call::AddBreak(late), Ok(Returned::Added(1))),
@@ -43,17 +43,14 @@ const fn list_script(late: Break, again: Break) -> [Line; 14] {
         (Call::Rearward, Err(DebugFault::BeforeStart)),
         (Call::Step, Ok(Returned::Moved(1, Some(Outcome::Applied)))),
         (Call::Back, Ok(Returned::Moved(0, None))),
+        (Call::Event, Ok(Returned::Event(None))),
     ]
 }
 
 #[test]
 fn breakpoints_are_a_list(rt: HostRuntime) -> Result<(), Fail> {
     let script = list_script(time_break(3)?, time_break(3)?);
-    let alloc = rt.alloc();
-    let day = tour(alloc)?;
-    let mut debugger = Debugger::new(alloc, &day, 1_000)?;
-    follow(alloc, &mut debugger, &script)?;
-    same("no event", &debugger.event(), &None)
+    follow_new(rt.alloc(), &tour(rt.alloc())?, 1_000, &script)
 }
 
 const fn level_script() -> [Line; 7] {
@@ -108,12 +105,13 @@ fn a_reference_stops_where_it_is_named(rt: HostRuntime) -> Result<(), Fail> {
     follow_new(alloc, &day, 1_000, &reference_script())
 }
 
-const fn time_script(time: Break) -> [Line; 4] {
+const fn time_script(time: Break) -> [Line; 5] {
     [
         (Call::AddBreak(time), Ok(Returned::Added(0))),
         (Call::Onward, first(2)),
         (Call::Onward, none(4)),
         (Call::Rearward, first(2)),
+        (Call::Event, Ok(Returned::Event(Some(b'O')))),
     ]
 }
 
@@ -123,9 +121,7 @@ fn a_time_stops_once(rt: HostRuntime) -> Result<(), Fail> {
     let alloc = rt.alloc();
     let event = system(0, b'O');
     let day = timed(alloc, &[(10, event), (30, event), (20, event), (40, event)])?;
-    let mut debugger = Debugger::new(alloc, &day, 1_000)?;
-    follow(alloc, &mut debugger, &script)?;
-    same("the event", &debugger.event(), &Some(b'O'))
+    follow_new(alloc, &day, 1_000, &script)
 }
 
 // Two bids at one price, of which the first is executed in part, a trading halt, a refused addition under the first

@@ -3,6 +3,7 @@ use binaryfile::Day;
 use debugger::{DebugFault, Debugger};
 use std::alloc::{Allocator, Global};
 use std::test::Fail;
+use stock_machine::Stock;
 use test_refusing::{Refusal, Refusing, Tried, refuse_each};
 use test_support::{AAPL, add_entry, day_of, same, same_list};
 
@@ -38,6 +39,17 @@ fn busy_file<A: Allocator + Copy>(alloc: A) -> Result<Vec<u8, A>, Fail> {
     Ok(file)
 }
 
+// What a machine of the stock says at a place.
+fn shown<A: Allocator + Copy>(place: u32, stock: &Stock<A>) -> Place {
+    (
+        place,
+        stock.steps(),
+        stock.top().bid_shares,
+        stock.spent(1),
+        stock.spent(ORDERS),
+    )
+}
+
 // What a debugger shows of the stock at a place.
 fn shown_at<A: Allocator + Copy>(
     alloc: A,
@@ -45,15 +57,7 @@ fn shown_at<A: Allocator + Copy>(
     place: u32,
 ) -> Result<Place, DebugFault> {
     debugger.goto(alloc, place)?;
-    let stock = debugger.stock(alloc, 1)?;
-    let spent = (stock.spent(1), stock.spent(ORDERS));
-    Ok((
-        place,
-        stock.steps(),
-        stock.top().bid_shares,
-        spent.0,
-        spent.1,
-    ))
+    Ok(shown(place, &debugger.stock(alloc, 1)?))
 }
 
 // What a debugger shows of the stock at each of the places.
@@ -72,32 +76,41 @@ fn shown_along<A: Allocator + Copy>(
     Ok(list)
 }
 
-// Compares what a new debugger shows at these places, one after another.
+// What a new debugger shows at these places, one after another.
+fn shown_anew<A: Allocator + Copy>(
+    alloc: A,
+    day: &Day<A>,
+    places: &[Place],
+) -> Result<Vec<Place, A>, DebugFault> {
+    shown_along(alloc, &mut Debugger::new(alloc, day, 30_000)?, places)
+}
+
+// Compares what a new debugger shows at these places.
 fn go_along<A: Allocator + Copy>(
     alloc: A,
     day: &Day<A>,
     places: &[Place],
 ) -> Result<Result<(), Fail>, DebugFault> {
-    let mut debugger = Debugger::new(alloc, day, 30_000)?;
-    let list = shown_along(alloc, &mut debugger, places)?;
+    let list = shown_anew(alloc, day, places)?;
     Ok(same_list("the stock along the day", &list, places))
 }
 
 // Goes to the first five places under a refusal, and with memory where it is refused.
-fn go_under<'h>(
-    heap: &'h Refusing<Global>,
-    day: &Day<&'h Refusing<Global>>,
+fn go_under<A: Allocator + Copy>(
+    heap: &Refusing<Global>,
+    alloc: A,
+    day: &Day<A>,
     refusal: Refusal,
 ) -> Result<Tried, Fail> {
     let places = &SHOWN[..5];
     heap.restart(refusal);
-    let along = go_along(heap, day, places);
+    let along = go_along(alloc, day, places);
     let tried = heap.tried(along.is_err());
     match along {
         Ok(compared) => compared?,
         Err(fault) => {
             same("a refused growth", &fault, &DebugFault::Memory)?;
-            go_along(heap, day, places)??;
+            go_along(alloc, day, places)??;
         }
     }
     Ok(tried)
@@ -114,7 +127,7 @@ fn a_busy_stock_is_shown_after_a_refused_growth(rt: HostRuntime) -> Result<(), F
     let file = busy_file(rt.alloc())?;
     let heap = Refusing::new(rt.alloc(), Refusal::Never);
     let growths = refuse_each(|refusal: Refusal| -> Result<Tried, Fail> {
-        go_under(&heap, &day_of(&heap, file.to_vec(&heap)?)?, refusal)
+        go_under(&heap, &heap, &day_of(&heap, file.to_vec(&heap)?)?, refusal)
     })?;
     same("some growths", &(growths > 20 && growths <= 200), &true)
 }

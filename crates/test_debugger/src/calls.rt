@@ -20,6 +20,7 @@ pub enum Call {
     AddBreak(Break),
     RemoveBreak(usize),
     Stock(u16),
+    Event,
 }
 
 /// What a call returns.
@@ -35,6 +36,8 @@ pub enum Returned {
     Removed(Option<Break>),
     /// A stock's best bid and ask, its totals, its trading state, and whether reference 1 is spent.
     Shown(Top, Totals, Option<u8>, bool),
+    /// The last event.
+    Event(Option<u8>),
 }
 
 // The result of a move by a number.
@@ -46,6 +49,15 @@ fn moved<A: Allocator>(debugger: &Debugger<'_, A>) -> Returned {
 fn shown<A: Allocator + Copy>(stock: &Stock<A>) -> Returned {
     let state = stock.status().trading.map(|trading| trading.state);
     Returned::Shown(stock.top(), stock.totals(), state, stock.spent(1))
+}
+
+// What is shown of a stock of this locate code.
+fn shown_of<A: Allocator + Copy>(
+    alloc: A,
+    debugger: &mut Debugger<'_, A>,
+    locate: u16,
+) -> Result<Returned, DebugFault> {
+    Ok(shown(&debugger.stock(alloc, locate)?))
 }
 
 impl Call {
@@ -63,7 +75,8 @@ impl Call {
             Call::Rearward => return Ok(Returned::Stopped(debugger.rearward(alloc)?)),
             Call::AddBreak(added) => return Ok(Returned::Added(debugger.add_break(alloc, added)?)),
             Call::RemoveBreak(index) => return Ok(Returned::Removed(debugger.remove_break(index))),
-            Call::Stock(locate) => return Ok(shown(&debugger.stock(alloc, locate)?)),
+            Call::Stock(locate) => return shown_of(alloc, debugger, locate),
+            Call::Event => return Ok(Returned::Event(debugger.event())),
         }
         Ok(moved(debugger))
     }

@@ -40,31 +40,72 @@ fn step_to<A: Allocator + Copy>(stock: &mut Stock<A>, day: &Day<A>, n: u32) -> R
     Ok(())
 }
 
-// Compares how many growths a track asks for at a place with those of a copy of the machine as it was at the last copy,
-// and of its steps from there.
-fn same_growths<'h>(
-    heap: &'h Refusing<Global>,
-    day: &Day<&'h Refusing<Global>>,
-    track: &Track<'_, &'h Refusing<Global>>,
-    last: &Stock<&'h Refusing<Global>>,
+// How many growths a copy of the machine at a place asks for, and its steps from there to another.
+fn copy_growths<A: Allocator + Copy>(
+    heap: &Refusing<Global>,
+    alloc: A,
+    day: &Day<A>,
+    stock: &mut Stock<A>,
+    place: u32,
     n: u32,
-) -> Result<(), Fail>
+) -> Result<u64, Fail> {
+    step_to(stock, day, place)?;
+    heap.restart(Refusal::Never);
+    step_to(&mut stock.copy(alloc)?, day, n)?;
+    Ok(heap.asked())
+}
+
+// How many growths a track asks for at a place, where the stock has taken all messages up to it.
+fn track_growths<A: Allocator + Copy>(
+    heap: &Refusing<Global>,
+    alloc: A,
+    day: &Day<A>,
+    track: &Track<'_, A>,
+    n: u32,
+) -> Result<u64, Fail>
     requires { track.now.day ≡ day.now.payloads }
 {
     if n > day.len() {
         return Err(Fail::new("no such place"));
     }
     heap.restart(Refusal::Never);
-    let found = track.at(heap, n)?;
-    let asked = heap.asked();
-    heap.restart(Refusal::Never);
-    let mut stock = last.copy(heap)?;
-    step_to(&mut stock, day, n)?;
-    same(
-        "a place, the stock's steps, and the growths",
-        &(n, found.steps(), asked),
-        &(n, n, heap.asked()),
-    )
+    let steps = track.at(alloc, n)?.steps();
+    same("the stock's steps", &steps, &n)?;
+    Ok(heap.asked())
+}
+
+// Compares how many growths a track asks for at each place with those of a copy of the machine at the last place of a copy,
+// and of its steps from there.
+fn same_growths<A: Allocator + Copy>(
+    heap: &Refusing<Global>,
+    alloc: A,
+    day: &Day<A>,
+    track: &Track<'_, A>,
+) -> Result<(), Fail>
+    requires { track.now.day ≡ day.now.payloads }
+{
+    for n in 0..=day.len() {
+        let found = track_growths(heap, alloc, day, track, n)?;
+        let wanted = copy_growths(
+            heap,
+            alloc,
+            day,
+            &mut Stock::new(alloc, 1),
+            n - n % EVERY,
+            n,
+        )?;
+        same("a place, and the growths", &(n, found), &(n, wanted))?;
+    }
+    Ok(())
+}
+
+// Compares the growths of a new track.
+fn same_growths_anew<A: Allocator + Copy>(
+    heap: &Refusing<Global>,
+    alloc: A,
+    day: &Day<A>,
+) -> Result<(), Fail> {
+    same_growths(heap, alloc, day, &Track::make(alloc, day, 1, EVERY)?)
 }
 
 // A copy has no room to spare, and each step adds a trade. So a track that began at an earlier copy than the last one
@@ -72,18 +113,7 @@ fn same_growths<'h>(
 #[test]
 fn a_track_steps_from_the_last_copy(rt: HostRuntime) -> Result<(), Fail> {
     let heap = Refusing::new(rt.alloc(), Refusal::Never);
-    let day = executed_day(&heap)?;
-    let track = Track::make(&heap, &day, 1, EVERY)?;
-    let mut stock = Stock::new(&heap, 1);
-    let mut last = stock.copy(&heap)?;
-    for n in 0..=day.len() {
-        if n % EVERY == 0 {
-            step_to(&mut stock, &day, n)?;
-            last = stock.copy(&heap)?;
-        }
-        same_growths(&heap, &day, &track, &last, n)?;
-    }
-    Ok(())
+    same_growths_anew(&heap, &heap, &executed_day(&heap)?)
 }
 
 // How many tracks are kept of the stocks that were asked for last.
@@ -101,29 +131,36 @@ fn wide_day<A: Allocator + Copy>(alloc: A) -> Result<Day<A>, Fail> {
     day_of(alloc, file)
 }
 
+// A stock's locate code, and how many messages it has taken.
+fn seen_of<A: Allocator + Copy>(stock: &Stock<A>) -> (u16, u32) {
+    (stock.locate(), stock.steps())
+}
+
 // How many growths a debugger asks for to show a stock.
-fn growths_of<'h>(
-    heap: &'h Refusing<Global>,
-    debugger: &mut Debugger<'_, &'h Refusing<Global>>,
+fn growths_of<A: Allocator + Copy>(
+    heap: &Refusing<Global>,
+    alloc: A,
+    debugger: &mut Debugger<'_, A>,
     locate: u16,
 ) -> Result<u64, Fail> {
     heap.restart(Refusal::Never);
-    let stock = debugger.stock(heap, locate)?;
-    same("a stock", &(stock.locate(), stock.steps()), &(locate, 2))?;
+    let found = seen_of(&debugger.stock(alloc, locate)?);
+    same("a stock", &found, &(locate, 2))?;
     Ok(heap.asked())
 }
 
 // Asks for stocks from one locate code to another, and compares of each whether its track was made anew: that asks for
 // more growths than by a track that was kept.
-fn ask_each<'h>(
-    heap: &'h Refusing<Global>,
-    debugger: &mut Debugger<'_, &'h Refusing<Global>>,
+fn ask_each<A: Allocator + Copy>(
+    heap: &Refusing<Global>,
+    alloc: A,
+    debugger: &mut Debugger<'_, A>,
     locates: (u16, u16),
     least: u64,
     made: bool,
 ) -> Result<(), Fail> {
     for locate in locates.0..=locates.1 {
-        let growths = growths_of(heap, debugger, locate)?;
+        let growths = growths_of(heap, alloc, debugger, locate)?;
         same(
             "whether a track is made",
             &(locate, growths > least),
@@ -135,14 +172,14 @@ fn ask_each<'h>(
 
 // Where a stock more is asked for than tracks are kept, the one that wasn't asked for the longest has none any more, and
 // all others have theirs.
-#[test]
-fn the_oldest_track_is_dropped(rt: HostRuntime) -> Result<(), Fail> {
-    let heap = Refusing::new(rt.alloc(), Refusal::Never);
-    let day = wide_day(&heap)?;
-    let mut debugger = Debugger::new(&heap, &day, 1_000)?;
-    debugger.goto(&heap, day.len())?;
-    let made = growths_of(&heap, &mut debugger, 1)?;
-    let least = growths_of(&heap, &mut debugger, 1)?;
+fn ask_all<A: Allocator + Copy>(
+    heap: &Refusing<Global>,
+    alloc: A,
+    debugger: &mut Debugger<'_, A>,
+) -> Result<(), Fail> {
+    debugger.goto(alloc, debugger.last())?;
+    let made = growths_of(heap, alloc, debugger, 1)?;
+    let least = growths_of(heap, alloc, debugger, 1)?;
     same("fewer growths by a kept track", &(least < made), &true)?;
     for (first, last, made) in [
         (2, KEPT, true),
@@ -152,7 +189,22 @@ fn the_oldest_track_is_dropped(rt: HostRuntime) -> Result<(), Fail> {
         (1, 1, false),
         (2, 2, true),
     ] {
-        ask_each(&heap, &mut debugger, (first, last), least, made)?;
+        ask_each(heap, alloc, debugger, (first, last), least, made)?;
     }
     Ok(())
+}
+
+// Asks a new debugger.
+fn ask_new<A: Allocator + Copy>(
+    heap: &Refusing<Global>,
+    alloc: A,
+    day: &Day<A>,
+) -> Result<(), Fail> {
+    ask_all(heap, alloc, &mut Debugger::new(alloc, day, 1_000)?)
+}
+
+#[test]
+fn the_oldest_track_is_dropped(rt: HostRuntime) -> Result<(), Fail> {
+    let heap = Refusing::new(rt.alloc(), Refusal::Never);
+    ask_new(&heap, &heap, &wide_day(&heap)?)
 }

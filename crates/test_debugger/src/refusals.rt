@@ -77,35 +77,65 @@ const AT_3: Returned = Returned::Shown(
 // Makes a call of a new debugger under a refusal. Where it is refused, it leaves the debugger as it was, its stock too,
 // and is made with memory: after the stock was asked for where all later growths were refused as well, and else at
 // once. In the end the result and the debugger are those of a twin whose call was never refused.
-fn call_under<'h>(
-    heap: &'h Refusing<Global>,
-    debugger: &mut Debugger<'_, &'h Refusing<Global>>,
-    twin: &mut Debugger<'_, &'h Refusing<Global>>,
+fn call_under<A: Allocator + Copy>(
+    heap: &Refusing<Global>,
+    alloc: A,
+    debugger: &mut Debugger<'_, A>,
+    twin: &mut Debugger<'_, A>,
     call: Call,
     refusal: Refusal,
 ) -> Result<Tried, Fail> {
-    set_at_3(heap, debugger)?;
-    set_at_3(heap, twin)?;
+    set_at_3(alloc, debugger)?;
+    set_at_3(alloc, twin)?;
     heap.restart(refusal);
-    let mut done = done_by(heap, debugger, &call);
+    let mut done = done_by(alloc, debugger, &call);
     let tried = heap.tried(done.result == Err(DebugFault::Memory));
     if tried.refused {
         same("after a refusal", &done.seen, &seen_of(twin))?;
         if let Refusal::From(_) = refusal {
-            follow(heap, debugger, &[(Call::Stock(1), Ok(AT_3))])?;
+            follow(alloc, debugger, &[(Call::Stock(1), Ok(AT_3))])?;
         }
-        done = done_by(heap, debugger, &call);
+        done = done_by(alloc, debugger, &call);
     }
-    same("a call", &done, &done_by(heap, twin, &call))?;
+    same("a call", &done, &done_by(alloc, twin, &call))?;
     Ok(tried)
 }
 
-// Makes a call of new debuggers of the tour under a refusal.
-fn try_call(heap: &Refusing<Global>, call: Call, refusal: Refusal) -> Result<Tried, Fail> {
-    let day = tour(heap)?;
-    let mut debugger = Debugger::new(heap, &day, 2)?;
-    let mut twin = Debugger::new(heap, &day, 2)?;
-    call_under(heap, &mut debugger, &mut twin, call, refusal)
+// Makes a call of a debugger under a refusal, beside a new twin.
+fn call_beside<A: Allocator + Copy>(
+    heap: &Refusing<Global>,
+    alloc: A,
+    day: &Day<A>,
+    debugger: &mut Debugger<'_, A>,
+    call: Call,
+    refusal: Refusal,
+) -> Result<Tried, Fail> {
+    call_under(
+        heap,
+        alloc,
+        debugger,
+        &mut Debugger::new(alloc, day, 2)?,
+        call,
+        refusal,
+    )
+}
+
+// Makes a call of a new debugger of a day under a refusal.
+fn call_anew<A: Allocator + Copy>(
+    heap: &Refusing<Global>,
+    alloc: A,
+    day: &Day<A>,
+    call: Call,
+    refusal: Refusal,
+) -> Result<Tried, Fail> {
+    call_beside(
+        heap,
+        alloc,
+        day,
+        &mut Debugger::new(alloc, day, 2)?,
+        call,
+        refusal,
+    )
 }
 
 #[test]
@@ -122,37 +152,51 @@ fn a_refused_call_leaves_the_debugger(rt: HostRuntime) -> Result<(), Fail> {
         Call::Stock(1),
     ] {
         let growths = refuse_each(|refusal: Refusal| -> Result<Tried, Fail> {
-            try_call(&heap, call, refusal)
+            call_anew(&heap, &heap, &tour(&heap)?, call, refusal)
         })?;
         same("some growths", &(call, growths <= 60), &(call, true))?;
     }
     Ok(())
 }
 
-// Makes a debugger of the tour under a refusal. One that is made stands at 0, and shows the stock after message 3.
-fn new_under<'h>(
-    heap: &'h Refusing<Global>,
-    day: &Day<&'h Refusing<Global>>,
-    refusal: Refusal,
+// A new debugger stands at 0, and shows the stock after message 3.
+fn stands_new<A: Allocator + Copy>(
+    heap: &Refusing<Global>,
+    alloc: A,
+    debugger: &mut Debugger<'_, A>,
 ) -> Result<Tried, Fail> {
-    heap.restart(refusal);
-    let Ok(mut debugger) = Debugger::new(heap, day, 2) else {
-        return Ok(heap.tried(true));
-    };
     let tried = heap.tried(false);
     same("the position", &debugger.position(), &0)?;
-    set_at_3(heap, &mut debugger)?;
-    follow(heap, &mut debugger, &[(Call::Stock(1), Ok(AT_3))])?;
+    set_at_3(alloc, debugger)?;
+    follow(alloc, debugger, &[(Call::Stock(1), Ok(AT_3))])?;
     Ok(tried)
 }
 
+// Makes a debugger of the tour under a refusal.
+fn new_under<A: Allocator + Copy>(
+    heap: &Refusing<Global>,
+    alloc: A,
+    day: &Day<A>,
+    refusal: Refusal,
+) -> Result<Tried, Fail> {
+    heap.restart(refusal);
+    match Debugger::new(alloc, day, 2) {
+        Ok(mut debugger) => stands_new(heap, alloc, &mut debugger),
+        Err(_) => Ok(heap.tried(true)),
+    }
+}
+
 // Makes a debugger of the tour under a refusal. Where it is refused, the day is as it was, and one is made with memory.
-fn try_new(heap: &Refusing<Global>, refusal: Refusal) -> Result<Tried, Fail> {
-    let day = tour(heap)?;
-    let tried = new_under(heap, &day, refusal)?;
+fn try_new<A: Allocator + Copy>(
+    heap: &Refusing<Global>,
+    alloc: A,
+    refusal: Refusal,
+) -> Result<Tried, Fail> {
+    let day = tour(alloc)?;
+    let tried = new_under(heap, alloc, &day, refusal)?;
     if tried.refused {
-        same_bytes("the day", day.bytes(), tour(heap)?.bytes())?;
-        let again = new_under(heap, &day, Refusal::Never)?;
+        same_bytes("the day", day.bytes(), tour(alloc)?.bytes())?;
+        let again = new_under(heap, alloc, &day, Refusal::Never)?;
         same("a debugger with memory", &again.refused, &false)?;
     }
     Ok(tried)
@@ -161,30 +205,45 @@ fn try_new(heap: &Refusing<Global>, refusal: Refusal) -> Result<Tried, Fail> {
 #[test]
 fn a_debugger_without_memory_is_none(rt: HostRuntime) -> Result<(), Fail> {
     let heap = Refusing::new(rt.alloc(), Refusal::Never);
-    refuse_each(|refusal: Refusal| -> Result<Tried, Fail> { try_new(&heap, refusal) })?;
+    refuse_each(|refusal: Refusal| -> Result<Tried, Fail> { try_new(&heap, &heap, refusal) })?;
     Ok(())
 }
 
 // A move past an end is refused before any growth, and breakpoints are looked at and removed without any.
-#[test]
-fn some_calls_take_no_memory(rt: HostRuntime) -> Result<(), Fail> {
-    let heap = Refusing::new(rt.alloc(), Refusal::Never);
-    let day = tour(&heap)?;
-    let mut debugger = Debugger::new(&heap, &day, 2)?;
-    set_at_3(&heap, &mut debugger)?;
-    let before = seen_of(&debugger);
+fn call_without_memory<A: Allocator + Copy>(
+    heap: &Refusing<Global>,
+    alloc: A,
+    debugger: &mut Debugger<'_, A>,
+) -> Result<(), Fail> {
+    set_at_3(alloc, debugger)?;
+    let before = seen_of(debugger);
     heap.restart(Refusal::From(1));
-    same("with no memory", &seen_of(&debugger), &before)?;
+    same("with no memory", &seen_of(debugger), &before)?;
     let script = [
         (Call::Goto(8), Err(DebugFault::PastEnd)),
         (Call::RemoveBreak(1), Ok(Returned::Removed(None))),
         (Call::RemoveBreak(0), Ok(Returned::Removed(Some(BIDS)))),
     ];
-    follow(&heap, &mut debugger, &script)?;
+    follow(alloc, debugger, &script)?;
     let after = (debugger.position(), debugger.break_len(), heap.asked());
     same(
         "the position, the breakpoints and the growths",
         &after,
         &(3, 0, 0),
     )
+}
+
+// Makes these calls of a new debugger.
+fn new_without_memory<A: Allocator + Copy>(
+    heap: &Refusing<Global>,
+    alloc: A,
+    day: &Day<A>,
+) -> Result<(), Fail> {
+    call_without_memory(heap, alloc, &mut Debugger::new(alloc, day, 2)?)
+}
+
+#[test]
+fn some_calls_take_no_memory(rt: HostRuntime) -> Result<(), Fail> {
+    let heap = Refusing::new(rt.alloc(), Refusal::Never);
+    new_without_memory(&heap, &heap, &tour(&heap)?)
 }

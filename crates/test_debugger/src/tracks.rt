@@ -82,49 +82,80 @@ fn same_places<A: Allocator + Copy>(
     same_list("the places of a track", &bids, &BIDS)
 }
 
+// A new track shows every place.
+fn same_anew<A: Allocator + Copy>(alloc: A, day: &Day<A>, way: Way, every: u32) -> Result<(), Fail>
+    requires { 0 < every }
+{
+    same_places(alloc, day, &track_by(alloc, day, way, every)?)
+}
+
 #[test]
 fn a_track_shows_every_place(rt: HostRuntime) -> Result<(), Fail> {
     let alloc = rt.alloc();
     let day = tour(alloc)?;
     for way in [Way::Day, Way::Index] {
-        for every in [1, 2, 1_000] {
-            let track = track_by(alloc, &day, way, every)?;
-            same_places(alloc, &day, &track)?;
-        }
+        same_anew(alloc, &day, way, 1)?;
+        same_anew(alloc, &day, way, 2)?;
+        same_anew(alloc, &day, way, 1_000)?;
     }
     Ok(())
 }
 
+// A track of the tour that is made shows every place.
+fn same_tried<A: Allocator + Copy>(
+    alloc: A,
+    day: &Day<A>,
+    track: &Track<'_, A>,
+    tried: Tried,
+) -> Result<Tried, Fail>
+    requires { track.now.day ≡ day.now.payloads }
+{
+    same_places(alloc, day, track)?;
+    Ok(tried)
+}
+
+// After a refusal a track of the tour is made with memory.
+fn tried_anew<A: Allocator + Copy>(
+    heap: &Refusing<Global>,
+    alloc: A,
+    day: &Day<A>,
+    way: Way,
+) -> Result<Tried, Fail> {
+    let tried = heap.tried(true);
+    same_tried(alloc, day, &track_by(alloc, day, way, 2)?, tried)
+}
+
 // Makes a track of the tour under a refusal, and with memory where it is refused.
-fn make_under<'h>(
-    heap: &'h Refusing<Global>,
-    day: &Day<&'h Refusing<Global>>,
+fn make_under<A: Allocator + Copy>(
+    heap: &Refusing<Global>,
+    alloc: A,
+    day: &Day<A>,
     way: Way,
     refusal: Refusal,
 ) -> Result<Tried, Fail> {
     heap.restart(refusal);
-    let made = track_by(heap, day, way, 2);
-    let tried = heap.tried(made.is_err());
-    match made {
-        Ok(track) => same_places(heap, day, &track)?,
-        Err(AllocError) => same_places(heap, day, &track_by(heap, day, way, 2)?)?,
+    match track_by(alloc, day, way, 2) {
+        Ok(track) => same_tried(alloc, day, &track, heap.tried(false)),
+        Err(AllocError) => tried_anew(heap, alloc, day, way),
     }
-    Ok(tried)
 }
 
 // Asks a track of the tour for a place under a refusal, which leaves the track as it is.
-fn go_under<'h>(
-    heap: &'h Refusing<Global>,
-    day: &Day<&'h Refusing<Global>>,
+fn place_under<A: Allocator + Copy>(
+    heap: &Refusing<Global>,
+    alloc: A,
+    day: &Day<A>,
+    track: &Track<'_, A>,
     n: u32,
     refusal: Refusal,
-) -> Result<Tried, Fail> {
-    let track = track_by(heap, day, Way::Day, 2)?;
+) -> Result<Tried, Fail>
+    requires { track.now.day ≡ day.now.payloads }
+{
     if n > day.len() {
         return Err(Fail::new("no such place"));
     }
     heap.restart(refusal);
-    let found = match track.at(heap, n) {
+    let found = match track.at(alloc, n) {
         Ok(stock) => Some(bid_of(&stock)),
         Err(AllocError) => None,
     };
@@ -133,8 +164,25 @@ fn go_under<'h>(
         let wanted = BIDS.get(n as usize).copied();
         same("a place", &(n, found), &(n, wanted))?;
     }
-    same_places(heap, day, &track)?;
-    Ok(tried)
+    same_tried(alloc, day, track, tried)
+}
+
+// Asks a new track of the tour for a place under a refusal.
+fn go_under<A: Allocator + Copy>(
+    heap: &Refusing<Global>,
+    alloc: A,
+    day: &Day<A>,
+    n: u32,
+    refusal: Refusal,
+) -> Result<Tried, Fail> {
+    place_under(
+        heap,
+        alloc,
+        day,
+        &track_by(alloc, day, Way::Day, 2)?,
+        n,
+        refusal,
+    )
 }
 
 #[test]
@@ -142,13 +190,13 @@ fn a_track_without_memory_is_none(rt: HostRuntime) -> Result<(), Fail> {
     let heap = Refusing::new(rt.alloc(), Refusal::Never);
     for way in [Way::Day, Way::Index] {
         refuse_each(|refusal: Refusal| -> Result<Tried, Fail> {
-            make_under(&heap, &tour(&heap)?, way, refusal)
+            make_under(&heap, &heap, &tour(&heap)?, way, refusal)
         })?;
     }
     let mut growths = 0u64;
     for n in 0..=7 {
         let more = refuse_any(|refusal: Refusal| -> Result<Tried, Fail> {
-            go_under(&heap, &tour(&heap)?, n, refusal)
+            go_under(&heap, &heap, &tour(&heap)?, n, refusal)
         })?;
         growths = growths.saturating_add(more);
     }

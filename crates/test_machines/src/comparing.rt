@@ -95,8 +95,8 @@ fn same_spent<A: Allocator + Copy>(
     )
 }
 
-/// Compares all that the machine of a stock says with what the plain machine says of that stock.
-pub fn same_stock<A: Allocator + Copy>(
+// Compares all that the machine of a stock says with what the plain machine says of that stock.
+fn same_stock<A: Allocator + Copy>(
     alloc: A,
     plain: &Plain<A>,
     stock: &Stock<A>,
@@ -108,19 +108,27 @@ pub fn same_stock<A: Allocator + Copy>(
     same_spent(alloc, plain, stock)
 }
 
+/// Compares the locate code and the steps of a stock with these, and all that its machine says with what the plain machine
+/// says.
+pub fn same_steps<A: Allocator + Copy>(
+    alloc: A,
+    plain: &Plain<A>,
+    stock: &Stock<A>,
+    wanted: (u16, u32),
+) -> Result<(), Fail> {
+    let found = (stock.locate(), stock.steps());
+    same("a stock and its steps", &found, &wanted)?;
+    same_stock(alloc, plain, stock)
+}
+
 // All that a copy of the machine of a stock says.
 fn same_copy<A: Allocator + Copy>(
     alloc: A,
     plain: &Plain<A>,
     stock: &Stock<A>,
 ) -> Result<(), Fail> {
-    let copy = stock.copy(alloc)?;
-    same(
-        "a copy",
-        &(copy.locate(), copy.steps()),
-        &(stock.locate(), stock.steps()),
-    )?;
-    same_stock(alloc, plain, &copy)
+    let wanted = (stock.locate(), stock.steps());
+    same_steps(alloc, plain, &stock.copy(alloc)?, wanted)
 }
 
 /// Compares all that the machines of the stocks and their copies say with what the plain machine says, and the sum of

@@ -69,24 +69,32 @@ fn same_named<A: Allocator + Copy>(
     Ok(())
 }
 
-/// Leads all machines through a day and compares them after each message of a day of at most 100, and after every
-/// hundredth of a longer one. Returns how many stocks have messages.
-pub fn compare<A: Allocator + Copy>(alloc: A, day: &Day<A>) -> Result<usize, Fail> {
+// Leads these machines through a day.
+fn compare_along<A: Allocator + Copy>(
+    alloc: A,
+    day: &Day<A>,
+    plain: &mut Plain<A>,
+    stocks: &mut Vec<Stock<A>, A>,
+) -> Result<usize, Fail> {
     let every = if day.len() <= 100 { 1 } else { 100 };
-    let mut plain = Plain::new(alloc);
-    let mut stocks = Vec::new(alloc);
     let mut messages = 0u64;
     for payload in day.payloads() {
-        let outcome = step(&mut plain, payload)?;
-        same("an outcome", &take(alloc, &mut stocks, payload)?, &outcome)?;
+        let outcome = step(plain, payload)?;
+        same("an outcome", &take(alloc, stocks, payload)?, &outcome)?;
         if let Part::Locate(_) = part(payload) {
             messages = messages.saturating_add(1);
         }
         if plain.steps() % every == 0 {
-            same_stocks(alloc, &plain, &stocks, messages)?;
+            same_stocks(alloc, plain, stocks, messages)?;
         }
     }
-    same_stocks(alloc, &plain, &stocks, messages)?;
-    same_named(day, &plain, &stocks)?;
+    same_stocks(alloc, plain, stocks, messages)?;
+    same_named(day, plain, stocks)?;
     Ok(stocks.len())
+}
+
+/// Leads all machines through a day and compares them after each message of a day of at most 100, and after every
+/// hundredth of a longer one. Returns how many stocks have messages.
+pub fn compare<A: Allocator + Copy>(alloc: A, day: &Day<A>) -> Result<usize, Fail> {
+    compare_along(alloc, day, &mut Plain::new(alloc), &mut Vec::new(alloc))
 }

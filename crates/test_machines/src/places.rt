@@ -1,5 +1,5 @@
 //! A day at any place that a debugger goes to, beside the plain machine.
-use crate::comparing::{same_stock, step};
+use crate::comparing::{same_steps, step};
 use binaryfile::Day;
 use day_core::locates;
 use debugger::Debugger;
@@ -11,6 +11,19 @@ use test_support::same;
 // How many of a stock's messages apart a debugger is asked to keep copies.
 const DISTANCES: [u32; 5] = [1, 2, 3, 7, 1_000];
 
+// Leads a plain machine through the first messages of a day, and returns the outcome of the last of them.
+fn step_to<A: Allocator + Copy>(
+    plain: &mut Plain<A>,
+    day: &Day<A>,
+    n: u32,
+) -> Result<Option<Outcome>, Fail> {
+    let mut outcome = None;
+    for payload in day.payloads().take(n as usize) {
+        outcome = Some(step(plain, payload)?);
+    }
+    Ok(outcome)
+}
+
 // The plain machine after the first messages of a day, and the outcome of the last of them.
 fn plain_at<A: Allocator + Copy>(
     alloc: A,
@@ -18,10 +31,7 @@ fn plain_at<A: Allocator + Copy>(
     n: u32,
 ) -> Result<(Plain<A>, Option<Outcome>), Fail> {
     let mut plain = Plain::new(alloc);
-    let mut outcome = None;
-    for payload in day.payloads().take(n as usize) {
-        outcome = Some(step(&mut plain, payload)?);
-    }
+    let outcome = step_to(&mut plain, day, n)?;
     Ok((plain, outcome))
 }
 
@@ -53,12 +63,29 @@ fn same_stocks_at<A: Allocator + Copy>(
     steps: &[u32],
 ) -> Result<(), Fail> {
     for (locate, steps) in locates.iter().zip(steps) {
-        let stock = debugger.stock(alloc, *locate)?;
-        let found = (stock.locate(), stock.steps());
-        same("a stock and its steps", &found, &(*locate, *steps))?;
-        same_stock(alloc, plain, &stock)?;
+        let wanted = (*locate, *steps);
+        same_steps(alloc, plain, &debugger.stock(alloc, *locate)?, wanted)?;
     }
     Ok(())
+}
+
+// Compares all that is at a debugger's place with a plain machine that stands there, and the outcome there.
+fn same_there<A: Allocator + Copy>(
+    alloc: A,
+    day: &Day<A>,
+    debugger: &mut Debugger<'_, A>,
+    plain: &Plain<A>,
+    outcome: Option<Outcome>,
+    locates: &[u16],
+) -> Result<(), Fail> {
+    let n = plain.steps();
+    same(
+        "a place",
+        &(debugger.position(), debugger.outcome(), debugger.event()),
+        &(n, outcome, plain.event()),
+    )?;
+    let steps = steps_at(alloc, day, n, locates)?;
+    same_stocks_at(alloc, plain, debugger, locates, &steps)
 }
 
 /// Compares the position of a debugger, and the outcome, the event and all stocks there, with those of the plain
@@ -71,13 +98,7 @@ pub fn same_place<A: Allocator + Copy>(
     locates: &[u16],
 ) -> Result<(), Fail> {
     let (plain, outcome) = plain_at(alloc, day, n)?;
-    same(
-        "a place",
-        &(debugger.position(), debugger.outcome(), debugger.event()),
-        &(n, outcome, plain.event()),
-    )?;
-    let steps = steps_at(alloc, day, n, locates)?;
-    same_stocks_at(alloc, &plain, debugger, locates, &steps)
+    same_there(alloc, day, debugger, &plain, outcome, locates)
 }
 
 // Goes to a place, and compares all that is there with the plain machine.
@@ -109,16 +130,30 @@ fn compare_all<A: Allocator + Copy>(
     Ok(())
 }
 
+// Compares a new debugger, which keeps copies this many of a stock's messages apart.
+fn compare_new<A: Allocator + Copy>(
+    alloc: A,
+    day: &Day<A>,
+    distance: u32,
+    locates: &[u16],
+) -> Result<(), Fail> {
+    if distance == 0 {
+        return Err(Fail::new("copies lie no message apart"));
+    }
+    compare_all(
+        alloc,
+        day,
+        &mut Debugger::new(alloc, day, distance)?,
+        locates,
+    )
+}
+
 /// Compares a debugger with the plain machine after each message of a day of at most 100, and after every hundredth of
 /// a longer one; each place is reached from an earlier one and from a later one.
 pub fn compare_places<A: Allocator + Copy>(alloc: A, day: &Day<A>) -> Result<(), Fail> {
     let locates = locates(alloc, day)?;
     for distance in DISTANCES {
-        if distance == 0 {
-            return Err(Fail::new("copies lie no message apart"));
-        }
-        let mut debugger = Debugger::new(alloc, day, distance)?;
-        compare_all(alloc, day, &mut debugger, &locates)?;
+        compare_new(alloc, day, distance, &locates)?;
     }
     Ok(())
 }
@@ -148,6 +183,5 @@ pub fn compare_walk<A: Allocator + Copy>(
     day: &Day<A>,
     locates: &[u16],
 ) -> Result<(), Fail> {
-    let mut debugger = Debugger::new(alloc, day, 7)?;
-    walk(alloc, day, &mut debugger, locates)
+    walk(alloc, day, &mut Debugger::new(alloc, day, 7)?, locates)
 }

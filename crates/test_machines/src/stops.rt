@@ -75,24 +75,43 @@ fn may_stop(payload: &[u8], breakpoint: &Break) -> bool {
         }
 }
 
-// The messages at which a breakpoint stops, by their numbers.
-fn stops_of<A: Allocator + Copy>(
+// Passes the next payload to the plain machine, and returns whether what the breakpoint looks at has changed.
+fn changes<A: Allocator + Copy>(
+    alloc: A,
+    plain: &mut Plain<A>,
+    payload: &[u8],
+    breakpoint: &Break,
+) -> Result<bool, Fail> {
+    let before = level_of(alloc, plain, breakpoint)?;
+    step(plain, payload)?;
+    Ok(level_of(alloc, plain, breakpoint)? != before)
+}
+
+// The messages at which a breakpoint stops, by their numbers, where the plain machine has taken none of them.
+fn stops_by<A: Allocator + Copy>(
     alloc: A,
     day: &Day<A>,
+    plain: &mut Plain<A>,
     breakpoint: &Break,
 ) -> Result<Vec<u32, A>, Fail> {
-    let mut plain = Plain::new(alloc);
     let mut stops = Vec::new(alloc);
     let once = matches!(breakpoint, Break::Time { .. });
     for payload in day.payloads() {
-        let before = level_of(alloc, &plain, breakpoint)?;
-        step(&mut plain, payload)?;
-        let changed = level_of(alloc, &plain, breakpoint)? != before;
+        let changed = changes(alloc, plain, payload, breakpoint)?;
         if changed || may_stop(payload, breakpoint) && !(once && !stops.is_empty()) {
             stops.push(plain.steps())?;
         }
     }
     Ok(stops)
+}
+
+// The messages at which a breakpoint stops, by a new plain machine.
+fn stops_of<A: Allocator + Copy>(
+    alloc: A,
+    day: &Day<A>,
+    breakpoint: &Break,
+) -> Result<Vec<u32, A>, Fail> {
+    stops_by(alloc, day, &mut Plain::new(alloc), breakpoint)
 }
 
 // Where a debugger with these breakpoints stops on its way to the end of a day: at each message at which one of them
@@ -185,6 +204,26 @@ fn compare_ways<A: Allocator + Copy>(
     compare_way(alloc, day, debugger, false, locates, &stops)
 }
 
+// Compares where a debugger stops by these breakpoints, and again each time that the first of them was removed.
+fn compare_each<A: Allocator + Copy>(
+    alloc: A,
+    day: &Day<A>,
+    debugger: &mut Debugger<'_, A>,
+    breaks: &[Break],
+    locates: &[u16],
+) -> Result<(), Fail> {
+    for breakpoint in breaks {
+        debugger.add_break(alloc, *breakpoint)?;
+    }
+    for removed in 0..=breaks.len() {
+        let left = breaks.get(removed..).unwrap_or(&[]);
+        compare_ways(alloc, day, debugger, left, locates)?;
+        let first = debugger.remove_break(0);
+        same("a breakpoint removed", &first, &left.first().copied())?;
+    }
+    Ok(())
+}
+
 /// Compares where a debugger with several breakpoints stops, and which of them it names there, on the way to the end of
 /// a day and on the way back, with what the bytes of the messages and the plain machine give, and what it shows there;
 /// and so again each time that its first breakpoint was removed, so that in the end each of them was the first.
@@ -194,15 +233,11 @@ pub fn compare_stops<A: Allocator + Copy>(
     breaks: &[Break],
     locates: &[u16],
 ) -> Result<(), Fail> {
-    let mut debugger = Debugger::new(alloc, day, 7)?;
-    for breakpoint in breaks {
-        debugger.add_break(alloc, *breakpoint)?;
-    }
-    for removed in 0..=breaks.len() {
-        let left = breaks.get(removed..).unwrap_or(&[]);
-        compare_ways(alloc, day, &mut debugger, left, locates)?;
-        let first = debugger.remove_break(0);
-        same("a breakpoint removed", &first, &left.first().copied())?;
-    }
-    Ok(())
+    compare_each(
+        alloc,
+        day,
+        &mut Debugger::new(alloc, day, 7)?,
+        breaks,
+        locates,
+    )
 }

@@ -1,14 +1,13 @@
 //! A day's stocks at each place by their tracks, beside the plain machine.
 ghost use Rattle.std.specs.Prelude.{◌≡◌, IfOk};
 
-use crate::comparing::{same_stock, step};
+use crate::comparing::{same_steps, step};
 use binaryfile::Day;
 use checkpoints::{StockIndex, Track};
 use day_core::locates;
 use itch_table::{Part, Plain, part};
 use std::alloc::{AllocError, Allocator};
 use std::test::Fail;
-use test_support::same;
 
 // How many of a stock's messages lie from one copy of its machine to the next.
 const EVERY: u32 = 3;
@@ -43,10 +42,8 @@ fn same_at<A: Allocator + Copy>(
     if n > day.len() {
         return Err(Fail::new("no such place"));
     }
-    let stock = track.at(alloc, n)?;
-    let found = (stock.locate(), stock.steps());
-    same("a track's stock", &found, &(track.locate(), steps))?;
-    same_stock(alloc, plain, &stock)
+    let wanted = (track.locate(), steps);
+    same_steps(alloc, plain, &track.at(alloc, n)?, wanted)
 }
 
 // Compares two tracks of a stock with the plain machine before the first message of a day and after each of at most 100
@@ -55,33 +52,46 @@ fn compare_along<A: Allocator + Copy>(
     alloc: A,
     day: &Day<A>,
     tracks: &(Track<'_, A>, Track<'_, A>),
+    plain: &mut Plain<A>,
 ) -> Result<(), Fail>
     requires by_day { tracks.now.0.day ≡ day.now.payloads }
     requires by_index { tracks.now.1.day ≡ day.now.payloads }
 {
     let every = if day.len() <= 100 { 1 } else { 100 };
-    let mut plain = Plain::new(alloc);
     let mut steps = 0u32;
-    same_at(alloc, day, &tracks.0, &plain, steps)?;
-    same_at(alloc, day, &tracks.1, &plain, steps)?;
+    same_at(alloc, day, &tracks.0, plain, steps)?;
+    same_at(alloc, day, &tracks.1, plain, steps)?;
     for payload in day.payloads() {
-        step(&mut plain, payload)?;
+        step(plain, payload)?;
         if part(payload) == Part::Locate(tracks.0.locate()) {
             steps = steps.saturating_add(1);
         }
         if plain.steps() % every == 0 {
-            same_at(alloc, day, &tracks.0, &plain, steps)?;
-            same_at(alloc, day, &tracks.1, &plain, steps)?;
+            same_at(alloc, day, &tracks.0, plain, steps)?;
+            same_at(alloc, day, &tracks.1, plain, steps)?;
         }
     }
     Ok(())
+}
+
+// Compares new tracks of a stock with a new plain machine along a day.
+fn compare_new<A: Allocator + Copy>(
+    alloc: A,
+    day: &Day<A>,
+    index: &StockIndex<'_, A>,
+    locate: u16,
+) -> Result<(), Fail>
+    requires { index.now ≡ day.now.payloads }
+{
+    let tracks = tracks_of(alloc, day, index, locate)?;
+    compare_along(alloc, day, &tracks, &mut Plain::new(alloc))
 }
 
 /// Compares the tracks of all stocks of a day with the plain machine along the day.
 pub fn compare_tracks<A: Allocator + Copy>(alloc: A, day: &Day<A>) -> Result<(), Fail> {
     let index = StockIndex::new(alloc, day)?;
     for locate in &locates(alloc, day)? {
-        compare_along(alloc, day, &tracks_of(alloc, day, &index, *locate)?)?;
+        compare_new(alloc, day, &index, *locate)?;
     }
     Ok(())
 }

@@ -1,7 +1,7 @@
 //! A day replayed for several numbers of workers, beside the plain machine, and in segments of several sizes.
 use crate::comparing::{same_stocks, step};
 use binaryfile::{Day, Feed, Sink};
-use day_core::{Turns, WorkerCount, merge, split};
+use day_core::{Parts, Piece, Turns, WorkerCount, merge, split};
 use file_replay::Silent;
 use itch_engine::{replay_run, report_run};
 use itch_table::{Outcome, Part, Plain, part};
@@ -10,7 +10,7 @@ use std::sync::Wait;
 use std::test::Fail;
 use std::thread::Threads;
 use stock_machine::Stock;
-use stock_workers::{FreeGate, run};
+use stock_workers::{FreeGate, Replayed, run};
 use test_support::{same, same_bytes, same_list};
 use top_cell::Board;
 
@@ -68,6 +68,45 @@ fn same_day<A: Allocator + Copy>(
     same_stocks(alloc, &wanted.plain, stocks, wanted.messages)
 }
 
+// What became of a worker's messages, by this many of its turns.
+fn own_pieces<A: Allocator + Copy>(
+    alloc: A,
+    turns: &mut Turns<'_, A>,
+    worker: u32,
+    count: usize,
+) -> Result<Vec<Piece, A>, Fail> {
+    let mut own = Vec::new(alloc);
+    for _ in 0..count {
+        own.extend(turns.turn(worker)?)?;
+    }
+    Ok(own)
+}
+
+// What became of all messages: those of no stock, and those of each worker, whose turns are taken one after another.
+fn all_pieces<A: Allocator + Copy>(
+    alloc: A,
+    parts: &Parts<A>,
+    turns: &mut Turns<'_, A>,
+) -> Result<Vec<Vec<Piece, A>, A>, Fail> {
+    let mut pieces = Vec::new(alloc);
+    pieces.push(parts.fixed().to_vec(alloc)?)?;
+    for worker in 0..parts.workers() {
+        pieces.push(own_pieces(alloc, turns, worker, parts.own(worker).len())?)?;
+    }
+    Ok(pieces)
+}
+
+// What became of all messages by new workers, this many.
+fn pieces_of<R: Threads + Sync, A: Allocator + Copy + Send + Sync>(
+    rt: &R,
+    alloc: A,
+    day: &Day<A>,
+    workers: u32,
+) -> Result<Vec<Vec<Piece, A>, A>, Fail> {
+    let parts = split(rt, alloc, day, workers)?;
+    all_pieces(alloc, &parts, &mut Turns::new(rt, alloc, day, workers)?)
+}
+
 // Does the turns of a day's workers one after another, and puts together what became of the messages.
 fn compare_turns<R: Threads + Sync, A: Allocator + Copy + Send + Sync>(
     rt: &R,
@@ -76,22 +115,18 @@ fn compare_turns<R: Threads + Sync, A: Allocator + Copy + Send + Sync>(
     workers: u32,
     wanted: &Wanted<A>,
 ) -> Result<(), Fail> {
-    let parts = split(rt, alloc, day, workers)?;
-    let mut turns = Turns::new(rt, alloc, day, workers)?;
-    let mut pieces = Vec::new(alloc);
-    pieces.push(parts.fixed().to_vec(alloc)?)?;
-    for worker in 0..workers {
-        let mut own = Vec::new(alloc);
-        for _ in parts.own(worker) {
-            own.extend(turns.turn(worker)?)?;
-        }
-        pieces.push(own)?;
-    }
-    same_list(
-        "the outcomes",
-        &merge(alloc, day.len(), pieces)?,
-        &wanted.outcomes,
-    )
+    let pieces = pieces_of(rt, alloc, day, workers)?;
+    let found = merge(alloc, day.len(), pieces)?;
+    same_list("the outcomes", &found, &wanted.outcomes)
+}
+
+// What a run has made.
+fn same_run<A: Allocator + Copy>(
+    alloc: A,
+    found: &Replayed<A>,
+    wanted: &Wanted<A>,
+) -> Result<(), Fail> {
+    same_day(alloc, &found.outcomes, &found.stocks, found.event, wanted)
 }
 
 // Replays a day by workers in threads.
@@ -103,8 +138,10 @@ fn compare_run<R: Threads + Wait + Sync, A: Allocator + Copy + Send + Sync>(
     wanted: &Wanted<A>,
 ) -> Result<(), Fail> {
     let (board, writers) = Board::new(alloc, day)?;
-    let found = run(rt, alloc, day, &board, writers, workers, &FreeGate)?;
-    same_day(alloc, &found.outcomes, &found.stocks, found.event, wanted)
+    match run(rt, alloc, day, &board, writers, workers, &FreeGate) {
+        Ok(found) => same_run(alloc, &found, wanted),
+        Err(fault) => Err(Fail::from(fault)),
+    }
 }
 
 // This many workers.
@@ -159,6 +196,48 @@ fn report_in_segments<R: Threads + Sync, A: Allocator + Copy + Send + Sync>(
     Ok((report, refused))
 }
 
+// Compares what a day makes for each number of workers.
+fn compare_outcomes<R: Threads + Wait + Sync, A: Allocator + Copy + Send + Sync>(
+    rt: &R,
+    alloc: A,
+    day: &Day<A>,
+    wanted: &Wanted<A>,
+) -> Result<(), Fail> {
+    for workers in WORKERS {
+        compare_turns(rt, alloc, day, workers, wanted)?;
+        compare_run(rt, alloc, day, workers, wanted)?;
+    }
+    Ok(())
+}
+
+// Compares two reports, and how many messages each says were refused.
+fn same_report<A: Allocator>(
+    found: &(Vec<u8, A>, u32),
+    wanted: &(Vec<u8, A>, u32),
+) -> Result<(), Fail> {
+    same_bytes("a report", &found.0, &wanted.0)?;
+    same("refused messages", &found.1, &wanted.1)
+}
+
+// Compares the reports of each number of workers, and those of a replay in segments.
+fn compare_reports<R: Threads + Wait + Sync, A: Allocator + Copy + Send + Sync>(
+    rt: &R,
+    alloc: A,
+    day: &Day<A>,
+    wanted: &(Vec<u8, A>, u32),
+) -> Result<(), Fail> {
+    for workers in WORKERS {
+        same_report(&report_of(rt, alloc, day, workers)?, wanted)?;
+    }
+    for (segment, threads) in SEGMENTS {
+        if day.bytes().len() < 10_000 || segment >= 1_000 {
+            let found = report_in_segments(rt, alloc, day, segment, threads)?;
+            same_report(&found, wanted)?;
+        }
+    }
+    Ok(())
+}
+
 /// Compares what a day makes for each number of workers with what the plain machine makes of it, and the reports with
 /// each other, those of a replay in segments too.
 pub fn compare_workers<R: Threads + Wait + Sync, A: Allocator + Copy + Send + Sync>(
@@ -166,21 +245,6 @@ pub fn compare_workers<R: Threads + Wait + Sync, A: Allocator + Copy + Send + Sy
     alloc: A,
     day: &Day<A>,
 ) -> Result<(), Fail> {
-    let wanted = follow(alloc, day)?;
-    let (report, refused) = report_of(rt, alloc, day, 1)?;
-    for workers in WORKERS {
-        compare_turns(rt, alloc, day, workers, &wanted)?;
-        compare_run(rt, alloc, day, workers, &wanted)?;
-        let found = report_of(rt, alloc, day, workers)?;
-        same_bytes("a report", &found.0, &report)?;
-        same("refused messages", &found.1, &refused)?;
-    }
-    for (segment, threads) in SEGMENTS {
-        if day.bytes().len() < 10_000 || segment >= 1_000 {
-            let found = report_in_segments(rt, alloc, day, segment, threads)?;
-            same_bytes("a report in segments", &found.0, &report)?;
-            same("refused messages in segments", &found.1, &refused)?;
-        }
-    }
-    Ok(())
+    compare_outcomes(rt, alloc, day, &follow(alloc, day)?)?;
+    compare_reports(rt, alloc, day, &report_of(rt, alloc, day, 1)?)
 }

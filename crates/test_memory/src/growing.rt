@@ -102,25 +102,36 @@ impl Series {
     }
 }
 
-// A machine with order 1 before a message of a series, after the earlier ones: each replacement comes after its
-// original.
+// Leads a new machine to a message of a series, with order 1 and after the earlier messages: each replacement comes after
+// its original.
+fn lead_before<A: Allocator + Copy>(
+    alloc: A,
+    machine: &mut Plain<A>,
+    series: Series,
+    number: u8,
+) -> Result<(), Fail> {
+    apply(alloc, machine, &AAPL.directory())?;
+    apply(alloc, machine, &AAPL.add(1, b'B', 10, 100))?;
+    for earlier in 2..=number {
+        if series == Series::Kind(Growing::Replace) {
+            let original = AAPL.add(u64::from(earlier), b'B', 10, 100);
+            apply(alloc, machine, &original)?;
+        }
+        if earlier < number {
+            apply(alloc, machine, &series.message(earlier))?;
+        }
+    }
+    Ok(())
+}
+
+// A machine that stands there.
 fn machine_before<A: Allocator + Copy>(
     alloc: A,
     series: Series,
     number: u8,
 ) -> Result<Plain<A>, Fail> {
     let mut machine = Plain::new(alloc);
-    apply(alloc, &mut machine, &AAPL.directory())?;
-    apply(alloc, &mut machine, &AAPL.add(1, b'B', 10, 100))?;
-    for earlier in 2..=number {
-        if series == Series::Kind(Growing::Replace) {
-            let original = AAPL.add(u64::from(earlier), b'B', 10, 100);
-            apply(alloc, &mut machine, &original)?;
-        }
-        if earlier < number {
-            apply(alloc, &mut machine, &series.message(earlier))?;
-        }
-    }
+    lead_before(alloc, &mut machine, series, number)?;
     Ok(machine)
 }
 
@@ -179,29 +190,31 @@ fn step_all<A: Allocator + Copy>(
 }
 
 // Passes a message of a series to a machine under a refusal. Its twin is over another heap.
-fn try_step(
+fn try_step<A: Allocator + Copy>(
     heap: &Refusing<Global>,
-    other: &Refusing<Global>,
+    alloc: A,
+    other: A,
     series: Series,
     number: u8,
     refusal: Refusal,
 ) -> Result<Tried, Fail> {
-    let mut machine = machine_before(heap, series, number)?;
+    let mut machine = machine_before(alloc, series, number)?;
     let mut twin = machine_before(other, series, number)?;
     let messages = [series.message(number)];
     step_all(heap, other, &mut machine, &mut twin, &messages, refusal)
 }
 
 // Tries 99 messages of a series, some of which need memory, and some find room.
-fn try_series(
+fn try_series<A: Allocator + Copy>(
     heap: &Refusing<Global>,
-    other: &Refusing<Global>,
+    alloc: A,
+    other: A,
     series: Series,
 ) -> Result<(), Fail> {
     let mut growths = 0u64;
     for number in 2..=100u8 {
         let more = refuse_any(|refusal: Refusal| -> Result<Tried, Fail> {
-            try_step(heap, other, series, number, refusal)
+            try_step(heap, alloc, other, series, number, refusal)
         })?;
         growths = growths.saturating_add(more);
     }
@@ -217,9 +230,9 @@ fn a_step_without_memory_changes_nothing(rt: HostRuntime) -> Result<(), Fail> {
     let heap = Refusing::new(rt.alloc(), Refusal::Never);
     let other = Refusing::new(rt.alloc(), Refusal::Never);
     for kind in GROWING {
-        try_series(&heap, &other, Series::Kind(kind))?;
+        try_series(&heap, &heap, &other, Series::Kind(kind))?;
     }
-    try_series(&heap, &other, Series::Directories)
+    try_series(&heap, &heap, &other, Series::Directories)
 }
 
 // How a call may end under each kind of refusal.
@@ -366,17 +379,32 @@ fn make<A: Allocator + Copy>(
 }
 
 // Makes a list under a refusal, which leaves the machine as it is, and with memory where it is refused.
-fn try_listing(heap: &Refusing<Global>, listing: Listing, refusal: Refusal) -> Result<Tried, Fail> {
-    let machine = after_day(heap)?;
+fn list_under<A: Allocator + Copy>(
+    heap: &Refusing<Global>,
+    alloc: A,
+    machine: &Plain<A>,
+    listing: Listing,
+    refusal: Refusal,
+) -> Result<Tried, Fail> {
     heap.restart(refusal);
-    let made = make(heap, &machine, listing);
+    let made = make(alloc, machine, listing);
     let tried = heap.tried(made.is_err());
     match made {
         Ok(compared) => compared?,
-        Err(AllocError) => make(heap, &machine, listing)??,
+        Err(AllocError) => make(alloc, machine, listing)??,
     }
-    same_machines(heap, &machine, &after_day(heap)?)?;
+    same_machines(alloc, machine, &after_day(alloc)?)?;
     Ok(tried)
+}
+
+// Makes a list of a new machine after the short day under a refusal.
+fn try_listing<A: Allocator + Copy>(
+    heap: &Refusing<Global>,
+    alloc: A,
+    listing: Listing,
+    refusal: Refusal,
+) -> Result<Tried, Fail> {
+    list_under(heap, alloc, &after_day(alloc)?, listing, refusal)
 }
 
 #[test]
@@ -384,7 +412,7 @@ fn a_list_without_memory_is_none(rt: HostRuntime) -> Result<(), Fail> {
     let heap = Refusing::new(rt.alloc(), Refusal::Never);
     for listing in LISTINGS {
         refuse_each(|refusal: Refusal| -> Result<Tried, Fail> {
-            try_listing(&heap, listing, refusal)
+            try_listing(&heap, &heap, listing, refusal)
         })?;
     }
     Ok(())
@@ -424,16 +452,27 @@ fn shows_the_end<A: Allocator + Copy>(alloc: A, machine: &Plain<A>) -> Result<()
 }
 
 // Leads a machine and its twin through the short day under a refusal.
-fn try_day(
+fn day_under<A: Allocator + Copy>(
     heap: &Refusing<Global>,
-    other: &Refusing<Global>,
+    other: A,
+    machine: &mut Plain<A>,
+    twin: &mut Plain<A>,
     refusal: Refusal,
 ) -> Result<Tried, Fail> {
-    let mut machine = Plain::new(heap);
-    let mut twin = Plain::new(other);
-    let tried = step_all(heap, other, &mut machine, &mut twin, &short_day(), refusal)?;
-    shows_the_end(other, &machine)?;
+    let tried = step_all(heap, other, machine, twin, &short_day(), refusal)?;
+    shows_the_end(other, machine)?;
     Ok(tried)
+}
+
+// Leads a new machine and its new twin through the short day under a refusal.
+fn try_day<A: Allocator + Copy>(
+    heap: &Refusing<Global>,
+    alloc: A,
+    other: A,
+    refusal: Refusal,
+) -> Result<Tried, Fail> {
+    let (mut machine, mut twin) = (Plain::new(alloc), Plain::new(other));
+    day_under(heap, other, &mut machine, &mut twin, refusal)
 }
 
 #[test]
@@ -441,7 +480,7 @@ fn a_day_ends_the_same_whichever_growth_was_refused(rt: HostRuntime) -> Result<(
     let heap = Refusing::new(rt.alloc(), Refusal::Never);
     let other = Refusing::new(rt.alloc(), Refusal::Never);
     let growths = refuse_each(|refusal: Refusal| -> Result<Tried, Fail> {
-        try_day(&heap, &other, refusal)
+        try_day(&heap, &heap, &other, refusal)
     })?;
     same("that there are growths", &(growths > 2), &true)
 }

@@ -1,7 +1,7 @@
 //! Steps that take no memory: those that are refused or passed over, and those of kinds that need no new row.
 use itch_layouts::{Breach, Decline, Ipo, Msg};
 use itch_table::{Fault, Outcome, Plain};
-use std::alloc::Allocator;
+use std::alloc::{Allocator, Global};
 use std::test::Fail;
 use test_refusing::{Refusal, Refusing};
 use test_support::{AAPL, MSFT, Ticker, head, known_of, payload_of, same, system, take};
@@ -118,15 +118,17 @@ fn refuse_all<A: Allocator + Copy, B: Allocator + Copy>(
     Ok(())
 }
 
-#[test]
-fn steps_without_a_new_row_take_no_memory(rt: HostRuntime) -> Result<(), Fail> {
-    let heap = Refusing::new(rt.alloc(), Refusal::Never);
-    let mut machine = Plain::new(&heap);
-    apply_all(rt.alloc(), &mut machine, &first_messages())?;
+// Leads a new machine over a heap through all these messages, with memory for the first ones alone.
+fn lead<B: Allocator + Copy, A: Allocator + Copy>(
+    heap: &Refusing<Global>,
+    alloc: B,
+    machine: &mut Plain<A>,
+) -> Result<(), Fail> {
+    apply_all(alloc, machine, &first_messages())?;
     heap.restart(Refusal::From(1));
-    apply_all(rt.alloc(), &mut machine, &rowless_messages())?;
-    refuse_all(rt.alloc(), &mut machine)?;
-    let known = known_of(&machine, 1);
+    apply_all(alloc, machine, &rowless_messages())?;
+    refuse_all(alloc, machine)?;
+    let known = known_of(machine, 1);
     let orders = (machine.order(1, 1), machine.order(1, 2));
     let spent = (machine.spent(1, 1), machine.spent(1, 4));
     let found = (
@@ -141,4 +143,10 @@ fn steps_without_a_new_row_take_no_memory(rt: HostRuntime) -> Result<(), Fail> {
         &(found, orders, spent, heap.asked()),
         &(wanted, (None, None), (true, false), 0),
     )
+}
+
+#[test]
+fn steps_without_a_new_row_take_no_memory(rt: HostRuntime) -> Result<(), Fail> {
+    let heap = Refusing::new(rt.alloc(), Refusal::Never);
+    lead(&heap, rt.alloc(), &mut Plain::new(&heap))
 }

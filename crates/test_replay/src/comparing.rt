@@ -32,35 +32,46 @@ fn with_messages<A: Allocator + Copy>(
     Ok(stocks)
 }
 
-/// Leads the plain machine through a day.
-pub fn follow<A: Allocator + Copy>(alloc: A, day: &Day<A>) -> Result<Wanted<A>, Fail> {
-    let mut plain = Plain::new(alloc);
-    let mut passed = 0u32;
-    let mut refused = Vec::new(alloc);
+// Passes the next payload to the plain machine, and notes what became of it.
+fn take<A: Allocator + Copy>(wanted: &mut Wanted<A>, payload: &[u8]) -> Result<(), Fail> {
+    if wanted.plain.steps() == u32::MAX {
+        return Err(Fail::new("a machine takes no more messages"));
+    }
+    let outcome = wanted.plain.step(payload)?;
+    let message = wanted.plain.steps();
+    match outcome {
+        Outcome::Applied => {}
+        Outcome::Passed => wanted.passed = wanted.passed.saturating_add(1),
+        Outcome::Refused(_) => wanted.refused.push(Piece { message, outcome })?,
+    }
+    Ok(())
+}
+
+// Leads the plain machine through a day.
+fn lead<A: Allocator + Copy>(alloc: A, day: &Day<A>, wanted: &mut Wanted<A>) -> Result<(), Fail> {
     let mut counts = vec![in alloc; 0u32; LOCATES]?;
     for payload in day.payloads() {
-        if plain.steps() == u32::MAX {
-            return Err(Fail::new("a machine takes no more messages"));
-        }
-        let outcome = plain.step(payload)?;
-        let message = plain.steps();
-        match outcome {
-            Outcome::Applied => {}
-            Outcome::Passed => passed = passed.saturating_add(1),
-            Outcome::Refused(_) => refused.push(Piece { message, outcome })?,
-        }
-        if let Part::Locate(locate) = part(payload) {
-            if let Some(count) = counts.get_mut(usize::from(locate)) {
-                *count = count.saturating_add(1);
-            }
+        take(wanted, payload)?;
+        if let Part::Locate(locate) = part(payload)
+            && let Some(count) = counts.get_mut(usize::from(locate))
+        {
+            *count = count.saturating_add(1);
         }
     }
-    Ok(Wanted {
-        plain,
-        passed,
-        refused,
-        stocks: with_messages(alloc, &counts)?,
-    })
+    wanted.stocks = with_messages(alloc, &counts)?;
+    Ok(())
+}
+
+/// Leads a new plain machine through a day.
+pub fn follow<A: Allocator + Copy>(alloc: A, day: &Day<A>) -> Result<Wanted<A>, Fail> {
+    let mut wanted = Wanted {
+        plain: Plain::new(alloc),
+        passed: 0,
+        refused: Vec::new(alloc),
+        stocks: Vec::new(alloc),
+    };
+    lead(alloc, day, &mut wanted)?;
+    Ok(wanted)
 }
 
 // Compares all that the machine of a stock says with what the plain machine says of that stock.

@@ -97,6 +97,38 @@ fn rounds(bytes: usize, segment: u32) -> u64 {
     rounds.saturating_add(left.saturating_add(15) / 16)
 }
 
+// Compares what was told of a file of so many messages and bytes, in segments of this size.
+fn same_told(told: &Told, messages: u32, bytes: usize, segment: u32) -> Result<(), Fail> {
+    let calls = told.calls.load(Ordering::SeqCst);
+    let falls = told.falls.load(Ordering::SeqCst);
+    same(
+        "how often it was told, and how often less than before",
+        &(calls, falls),
+        &(rounds(bytes, segment), 0),
+    )?;
+    let last = (
+        told.messages.load(Ordering::SeqCst),
+        told.bytes.load(Ordering::SeqCst),
+    );
+    let wanted = (u64::from(messages), bytes as u64);
+    same("how far it was at last", &last, &wanted)
+}
+
+// Compares what a replay has made of a file with the four bytes at its end, and what was told meanwhile.
+fn same_made<A: Allocator + Copy>(
+    alloc: A,
+    made: &FileSummary<A>,
+    wanted: &Wanted<A>,
+    told: &Told,
+    bytes: usize,
+    segment: u32,
+) -> Result<(), Fail> {
+    same_day(alloc, &made.summary, wanted)?;
+    let end = (segment, made.marked, made.tail);
+    same("its end", &end, &(segment, true, 4))?;
+    same_told(told, made.summary.messages, bytes, segment)
+}
+
 // Replays a file with the four bytes at its end, and compares it with what the plain machine makes of its day.
 fn compare<T: Threads + Sync, A: Allocator + Copy + Send + Sync>(
     rt: &T,
@@ -108,31 +140,10 @@ fn compare<T: Threads + Sync, A: Allocator + Copy + Send + Sync>(
 ) -> Result<(), Fail> {
     let told = Told::new();
     let mut feed = Feed::new(Pieces::new(file, 7));
-    let made = match replay(rt, alloc, &mut feed, MOST, segment, threads, &told)? {
-        Ok(made) => made,
-        Err(fault) => return Err(Fail::new(format_args!("a file has a fault: {fault:?}"))),
-    };
-    same_day(alloc, &made.summary, wanted)?;
-    same(
-        "its end",
-        &(segment, made.marked, made.tail),
-        &(segment, true, 4),
-    )?;
-    let messages = told.messages.load(Ordering::SeqCst);
-    let bytes = told.bytes.load(Ordering::SeqCst);
-    same(
-        "how often it was told, and how often less than before",
-        &(
-            told.calls.load(Ordering::SeqCst),
-            told.falls.load(Ordering::SeqCst),
-        ),
-        &(rounds(file.len(), segment), 0),
-    )?;
-    same(
-        "how far it was at last",
-        &(messages, bytes),
-        &(u64::from(made.summary.messages), file.len() as u64),
-    )
+    match replay(rt, alloc, &mut feed, MOST, segment, threads, &told)? {
+        Ok(made) => same_made(alloc, &made, wanted, &told, file.len(), segment),
+        Err(fault) => Err(Fail::new(format_args!("a file has a fault: {fault:?}"))),
+    }
 }
 
 // Segments end after each byte of an entry, of its length, and of the end marker.
@@ -229,22 +240,32 @@ fn a_file_stops_where_its_feed_fails(rt: HostRuntime) -> Result<(), Fail> {
     Ok(())
 }
 
+// Compares what was made of a file with what the plain machine makes of its day.
+fn same_file<A: Allocator + Copy>(
+    alloc: A,
+    day: &Day<A>,
+    made: &FileSummary<A>,
+) -> Result<(), Fail> {
+    same_day(alloc, &made.summary, &follow(alloc, day)?)
+}
+
 // Replays a file of several segments under a refusal. Where it is refused, the fault says so, and the feed hasn't failed.
-fn try_file<T: Threads + Sync>(
+fn try_file<T: Threads + Sync, A: Allocator + Copy + Send + Sync>(
     rt: &T,
     heap: &Refusing<Global>,
+    alloc: A,
     threads: u32,
     refusal: Refusal,
 ) -> Result<Tried, Fail> {
-    let day = two_stocks(heap)?;
-    let file = file_of(heap, &day)?;
+    let day = two_stocks(alloc)?;
+    let file = file_of(alloc, &day)?;
     let mut feed = Feed::new(file.as_slice());
     heap.restart(refusal);
-    let made = replay(rt, heap, &mut feed, MOST, 60, threads, &Silent)?;
+    let made = replay(rt, alloc, &mut feed, MOST, 60, threads, &Silent)?;
     let tried = heap.tried(made.is_err());
     same("a feed", &(refusal, feed.failed()), &(refusal, false))?;
     match made {
-        Ok(made) => same_day(heap, &made.summary, &follow(heap, &day)?)?,
+        Ok(made) => same_file(alloc, &day, &made)?,
         Err(fault) => same("a fault", &(refusal, fault), &(refusal, LoadFault::Memory))?,
     }
     Ok(tried)
@@ -255,7 +276,7 @@ fn a_file_without_memory_makes_nothing(rt: HostRuntime) -> Result<(), Fail> {
     let heap = Refusing::new(rt.alloc(), Refusal::Never);
     for threads in [1, 2] {
         refuse_each(|refusal: Refusal| -> Result<Tried, Fail> {
-            try_file(&rt, &heap, threads, refusal)
+            try_file(&rt, &heap, &heap, threads, refusal)
         })?;
     }
     Ok(())

@@ -1,13 +1,15 @@
 //! Messages of no stock, of unknown types, and of the least and the greatest lengths.
-use crate::comparing::{follow, same_day};
+use crate::comparing::{Wanted, follow, same_day};
 use crate::cutting::{Cut, add_payload, segments_of};
 use crate::days::threads_of;
 use crate::replaying::replay_segments;
 use binaryfile::Day;
 use day_core::Piece;
+use day_replay::Summary;
 use itch_table::{Fault, Outcome};
 use std::alloc::Allocator;
 use std::test::Fail;
+use std::thread::Threads;
 use test_support::{AAPL, day_of, payload_of, same, same_list, system};
 
 // The greatest length of a payload.
@@ -36,23 +38,43 @@ fn of_wrong_length(message: u32) -> Piece {
     }
 }
 
+// Compares what a replay has made of the unusual day.
+fn same_unusual<A: Allocator + Copy>(
+    alloc: A,
+    found: &Summary<A>,
+    wanted: &Wanted<A>,
+) -> Result<(), Fail> {
+    same_day(alloc, found, wanted)?;
+    same(
+        "messages, those passed over, and the last event",
+        &(found.messages, found.passed, found.event),
+        &(8, 2, Some(b'S')),
+    )?;
+    let refused = [of_wrong_length(6), of_wrong_length(7)];
+    same_list("refused messages", &found.refused, &refused)?;
+    same("how many stocks", &found.stocks.len(), &1)
+}
+
+// Replays the unusual day in two segments, of which the second begins after this message.
+fn try_cut<R: Threads + Sync, A: Allocator + Copy + Send + Sync>(
+    rt: &R,
+    alloc: A,
+    day: &Day<A>,
+    wanted: &Wanted<A>,
+    message: u32,
+) -> Result<(), Fail> {
+    let segments = segments_of(alloc, day, Cut::After(message))?;
+    let found = replay_segments(rt, alloc, &segments, threads_of(1)?)?;
+    same_unusual(alloc, &found, wanted)
+}
+
 #[test]
 fn messages_of_no_stock_are_counted(rt: HostRuntime) -> Result<(), Fail> {
     let alloc = rt.alloc();
     let day = unusual_day(alloc)?;
     let wanted = follow(alloc, &day)?;
     for message in 0..=day.len() {
-        let segments = segments_of(alloc, &day, Cut::After(message))?;
-        let found = replay_segments(&rt, alloc, &segments, threads_of(1)?)?;
-        same_day(alloc, &found, &wanted)?;
-        same(
-            "messages, those passed over, and the last event",
-            &(found.messages, found.passed, found.event),
-            &(8, 2, Some(b'S')),
-        )?;
-        let refused = [of_wrong_length(6), of_wrong_length(7)];
-        same_list("refused messages", &found.refused, &refused)?;
-        same("how many stocks", &found.stocks.len(), &1)?;
+        try_cut(&rt, alloc, &day, &wanted, message)?;
     }
     Ok(())
 }

@@ -44,9 +44,9 @@ fn take_earlier<A: Allocator + Copy>(
 }
 
 // Steps a machine under a refusal through a payload that is applied with memory.
-fn step_under<'h>(
-    heap: &'h Refusing<Global>,
-    stock: &mut Stock<&'h Refusing<Global>>,
+fn step_under<A: Allocator + Copy>(
+    heap: &Refusing<Global>,
+    stock: &mut Stock<A>,
     payload: &[u8],
     refusal: Refusal,
 ) -> Result<Tried, Fail> {
@@ -64,21 +64,22 @@ fn step_under<'h>(
 
 // Passes a payload to a machine under a refusal. Where it is refused, the machine says what its twin says, and takes
 // the payload with memory. In the end it says what the twin says, which took it and was never refused.
-fn take_under<'h>(
-    heap: &'h Refusing<Global>,
-    stock: &mut Stock<&'h Refusing<Global>>,
-    twin: &mut Stock<&'h Refusing<Global>>,
+fn take_under<A: Allocator + Copy>(
+    heap: &Refusing<Global>,
+    alloc: A,
+    stock: &mut Stock<A>,
+    twin: &mut Stock<A>,
     payload: &[u8],
     refusal: Refusal,
 ) -> Result<Tried, Fail> {
     let tried = step_under(heap, stock, payload, refusal)?;
     if tried.refused {
-        same_machines(heap, stock, twin)?;
+        same_machines(alloc, stock, twin)?;
         same_results(stock, twin)?;
         take(stock, payload, Outcome::Applied)?;
     }
     take(twin, payload, Outcome::Applied)?;
-    same_machines(heap, stock, twin)?;
+    same_machines(alloc, stock, twin)?;
     Ok(tried)
 }
 
@@ -94,15 +95,16 @@ fn twins_before<A: Allocator + Copy>(
 }
 
 // Passes message `number` of a kind to a machine under a refusal.
-fn try_step(
+fn try_step<A: Allocator + Copy>(
     heap: &Refusing<Global>,
+    alloc: A,
     kind: Growing,
     number: u8,
     refusal: Refusal,
 ) -> Result<Tried, Fail> {
-    let (mut stock, mut twin) = twins_before(heap, kind, number)?;
-    let payload = payload_of(heap, &kind.message(number))?;
-    take_under(heap, &mut stock, &mut twin, &payload, refusal)
+    let (mut stock, mut twin) = twins_before(alloc, kind, number)?;
+    let payload = payload_of(alloc, &kind.message(number))?;
+    take_under(heap, alloc, &mut stock, &mut twin, &payload, refusal)
 }
 
 // Some of 99 messages of a kind need memory, and some find room.
@@ -113,7 +115,7 @@ fn a_step_without_memory_changes_nothing(rt: HostRuntime) -> Result<(), Fail> {
         let mut growths = 0u64;
         for number in 2..=100u8 {
             let more = refuse_any(|refusal: Refusal| -> Result<Tried, Fail> {
-                try_step(&heap, kind, number, refusal)
+                try_step(&heap, &heap, kind, number, refusal)
             })?;
             growths = growths.saturating_add(more);
         }
@@ -165,18 +167,19 @@ fn fall_to<A: Allocator + Copy>(
 }
 
 // Passes a message with a falling reference to a machine under a refusal.
-fn try_falling(
+fn try_falling<A: Allocator + Copy>(
     heap: &Refusing<Global>,
+    alloc: A,
     kind: Growing,
     reference: u64,
     refusal: Refusal,
 ) -> Result<Tried, Fail> {
     let (mut stock, mut twin) = (
-        fallen_to(heap, kind, reference)?,
-        fallen_to(heap, kind, reference)?,
+        fallen_to(alloc, kind, reference)?,
+        fallen_to(alloc, kind, reference)?,
     );
-    let payload = payload_of(heap, &falling_message(kind, reference))?;
-    take_under(heap, &mut stock, &mut twin, &payload, refusal)
+    let payload = payload_of(alloc, &falling_message(kind, reference))?;
+    take_under(heap, alloc, &mut stock, &mut twin, &payload, refusal)
 }
 
 // References that don't rise stand in trees, which grow by other steps than lists.
@@ -187,7 +190,7 @@ fn a_falling_reference_without_memory_changes_nothing(rt: HostRuntime) -> Result
         let mut growths = 0u64;
         for reference in 970..1_000u64 {
             let more = refuse_any(|refusal: Refusal| -> Result<Tried, Fail> {
-                try_falling(&heap, kind, reference, refusal)
+                try_falling(&heap, &heap, kind, reference, refusal)
             })?;
             growths = growths.saturating_add(more);
         }
@@ -320,19 +323,20 @@ fn shows_both_sides<A: Allocator + Copy>(alloc: A, stock: &Stock<A>) -> Result<(
 
 // Makes a list of a machine with orders of both sides under a refusal. The machine stays as it is, and its lists are
 // made again with memory.
-fn list_under<'h>(
-    heap: &'h Refusing<Global>,
-    stock: &Stock<&'h Refusing<Global>>,
+fn list_under<A: Allocator + Copy>(
+    heap: &Refusing<Global>,
+    alloc: A,
+    stock: &Stock<A>,
     listing: Listing,
     refusal: Refusal,
 ) -> Result<Tried, Fail> {
     heap.restart(refusal);
-    let listed = list(heap, stock, listing);
+    let listed = list(alloc, stock, listing);
     let tried = heap.tried(listed.is_err());
     if let Ok(compared) = listed {
         compared?;
     }
-    shows_both_sides(heap, stock)?;
+    shows_both_sides(alloc, stock)?;
     Ok(tried)
 }
 
@@ -361,15 +365,16 @@ fn same_copy_or_next<A: Allocator + Copy>(
 
 // Makes a copy of a machine with orders of both sides under a refusal, and with memory where it is refused. It leaves
 // the machine as it is.
-fn copy_under<'h>(
-    heap: &'h Refusing<Global>,
-    stock: &Stock<&'h Refusing<Global>>,
+fn copy_under<A: Allocator + Copy>(
+    heap: &Refusing<Global>,
+    alloc: A,
+    stock: &Stock<A>,
     refusal: Refusal,
 ) -> Result<Tried, Fail> {
     heap.restart(refusal);
-    let copy = stock.copy(heap);
+    let copy = stock.copy(alloc);
     let tried = heap.tried(copy.is_err());
-    same_copy_or_next(heap, copy, stock)?;
+    same_copy_or_next(alloc, copy, stock)?;
     Ok(tried)
 }
 
@@ -378,11 +383,17 @@ fn a_list_or_a_copy_without_memory_is_none(rt: HostRuntime) -> Result<(), Fail> 
     let heap = Refusing::new(rt.alloc(), Refusal::Never);
     for listing in LISTINGS {
         refuse_each(|refusal: Refusal| -> Result<Tried, Fail> {
-            list_under(&heap, &after(&heap, &both_sides())?, listing, refusal)
+            list_under(
+                &heap,
+                &heap,
+                &after(&heap, &both_sides())?,
+                listing,
+                refusal,
+            )
         })?;
     }
     refuse_each(|refusal: Refusal| -> Result<Tried, Fail> {
-        copy_under(&heap, &after(&heap, &both_sides())?, refusal)
+        copy_under(&heap, &heap, &after(&heap, &both_sides())?, refusal)
     })?;
     Ok(())
 }
