@@ -1,5 +1,5 @@
 //! One stock along a day.
-ghost use Rattle.std.specs.Prelude.{◌≡◌, ◌*◌, ◌<◌, ◌≤◌, IfOk, length};
+ghost use Rattle.std.specs.Prelude.{◌≡◌, ◌++◌, ◌∷◌, [], ◌*◌, ◌<◌, ◌≤◌, IfOk, OnOk, length};
 ghost use Rattle.day_core.specs.Owners.{machine_of};
 ghost use Rattle.checkpoints.specs.Copies.{IsTrack, copies_of, machine_after_own, numbers_of};
 
@@ -34,8 +34,45 @@ impl<'d, A: Allocator> Model for Track<'d, A> {
     ghost invariant = { λ t. IsTrack t.day.now.payloads t.locate t.every t.numbers.items t.copies.items };
 }
 
-// A stock's machine before its first message, and after every `every` of its messages: copies of one that goes along
-// them, so that each takes no more memory than it needs.
+// Adds a copy of a stock's machine.
+fn add_copy<A: Allocator + Copy>(
+    alloc: A,
+    copies: &mut Vec<Stock<A>, A>,
+    stock: &Stock<A>,
+) -> Result<(), AllocError>
+    ensures { OnOk result (copies.new.items ≡ copies.old.items ++ stock.now ∷ []) }
+{
+    copies.push(stock.copy(alloc)?)?;
+    Ok(())
+}
+
+// Leads a new machine along the stock's messages, and adds copies of it: before the first message, and after every `every`
+// of them. A copy takes no more memory than it needs.
+fn add_copies<A: Allocator + Copy>(
+    alloc: A,
+    day: &Day<A>,
+    locate: u16,
+    every: usize,
+    numbers: &[u32],
+    stock: &mut Stock<A>,
+    copies: &mut Vec<Stock<A>, A>,
+) -> Result<(), AllocError>
+    requires some { 0 < every }
+    requires numbers { numbers.now ≡ numbers_of day.now.payloads locate }
+    requires new { stock.old ≡ machine_after_own day.now.payloads locate (0 * every) }
+    requires none { copies.old.items ≡ [] }
+    ensures { OnOk result (copies.new.items ≡ copies_of day.now.payloads locate every) }
+{
+    add_copy(alloc, copies, stock)?;
+    for last in 0..numbers.len() / every {
+        let (from, to) = (last * every, (last + 1) * every);
+        advance(stock, day, numbers, from, to)?;
+        add_copy(alloc, copies, stock)?;
+    }
+    Ok(())
+}
+
+// A stock's machine before its first message, and after every `every` of its messages.
 fn copies_of<A: Allocator + Copy>(
     alloc: A,
     day: &Day<A>,
@@ -49,12 +86,7 @@ fn copies_of<A: Allocator + Copy>(
 {
     let mut copies = Vec::new(alloc);
     let mut stock = Stock::new(alloc, locate);
-    copies.push(stock.copy(alloc)?)?;
-    for last in 0..numbers.len() / every {
-        let (from, to) = (last * every, (last + 1) * every);
-        advance(&mut stock, day, numbers, from, to)?;
-        copies.push(stock.copy(alloc)?)?;
-    }
+    add_copies(alloc, day, locate, every, numbers, &mut stock, &mut copies)?;
     Ok(copies)
 }
 

@@ -2,6 +2,7 @@
 ghost use Rattle.std.specs.Prelude.{◌≡◌, ◌+◌, ◌-◌, ◌<◌, ◌^◌, ℕ, List, IfOk, OnOk};
 ghost use Rattle.itch_layouts.specs.Shapes.{shape_of};
 ghost use Rattle.itch_table.specs.Projection.{payload_at};
+ghost use Rattle.itch_table.specs.World.{empty_world};
 ghost use Rattle.day_core.specs.Owners.{machine_of};
 ghost use Rattle.debugger.specs.Stops.{changes, names, reaches, stops_of};
 ghost use Rattle.debugger.specs.declared.breakpoint.Break.{Break};
@@ -91,6 +92,32 @@ fn changes_level<A: Allocator + Copy>(
     Ok(stock.level(side, price) != before)
 }
 
+// The messages that change the shares of a stock's level, along which its new machine is led.
+fn price_stops_by<A: Allocator + Copy>(
+    alloc: A,
+    day: &Day<A>,
+    locate: u16,
+    side: Side,
+    price: u32,
+    stock: &mut Stock<A>,
+) -> Result<Vec<u32, A>, AllocError>
+    requires locate { stock.old.locate ≡ locate }
+    requires world { stock.old.world ≡ empty_world }
+    requires steps { stock.old.steps ≡ 0 }
+    ensures { IfOk result (λ stops.
+        stops.items ≡ stops_of day.now.payloads (Break.Price locate side price)) }
+{
+    let mut stops = Vec::new(alloc);
+    let mut number = 0;
+    for payload in day.payloads() {
+        number += 1;
+        if changes_level(stock, payload, side, price)? {
+            stops.push(number)?;
+        }
+    }
+    Ok(stops)
+}
+
 // The messages that change the shares of a stock's level.
 fn price_stops<A: Allocator + Copy>(
     alloc: A,
@@ -102,16 +129,8 @@ fn price_stops<A: Allocator + Copy>(
     ensures { IfOk result (λ stops.
         stops.items ≡ stops_of day.now.payloads (Break.Price locate side price)) }
 {
-    let mut stops = Vec::new(alloc);
     let mut stock = Stock::new(alloc, locate);
-    let mut number = 0;
-    for payload in day.payloads() {
-        number += 1;
-        if changes_level(&mut stock, payload, side, price)? {
-            stops.push(number)?;
-        }
-    }
-    Ok(stops)
+    price_stops_by(alloc, day, locate, side, price, &mut stock)
 }
 
 /// The messages of a day at which a breakpoint stops, by their numbers, rising: one pass over the day, and four bytes

@@ -1,44 +1,7 @@
-use Rattle.std.proofs.Common.{◌≡◌, ◌+◌, ◌*◌, ◌/◌, ◌++◌, ◌∷◌, [], List, length, ap, ◌∙◌, arith}
-use Rattle.stock_machine.specs.StockRows.{StockMachine}
-use Rattle.checkpoints.specs.Copies.{machine_after_own}
-use Rattle.checkpoints.proofs.Along.{copies_first, copies_more, copies_made, first_machine, locate_is, numbers_self, room_left, stands_self}
+use Rattle.checkpoints.proofs.Along.{copies_first}
 use Rattle.checkpoints.proofs.track.copies_of.Goals as goal
 
-pub loop-last-init : goal.loop-last-init
-loop-last-init g c =
+pub add_copies-requires-clause-new : goal.add_copies-requires-clause-new
+add_copies-requires-clause-new g c =
     let new = c.new-stock.ensures in
-    let day = c.args.day.now.payloads in
-    let none : 0 * c.args.every ≡ 0 = omega arith in
-    let first = copies_first day c.args.locate c.args.every c.new-stock.result new.locate new.world new.steps in
-    record {
-      kept =
-          c.in_ok-push.ensures.items ∙ ap (λ (ms : List StockMachine). ms ++ c.in_ok-copy.field-0 ∷ []) c.new-copies.ensures.items
-          ∙ ap (λ (m : StockMachine). m ∷ []) (c.in_ok-copy.ensures ∙ first);
-      stands = rw none (first_machine day c.args.locate c.new-stock.result new.locate new.world new.steps);
-    }
-
-pub advance-requires-clause-numbers : goal.advance-requires-clause-numbers
-advance-requires-clause-numbers g c = numbers_self _ _ _ _ c.loop-last.invariant.stands _ c.requires.numbers
-
-pub advance-requires-clause-from : goal.advance-requires-clause-from
-advance-requires-clause-from g c = stands_self _ _ _ _ c.loop-last.invariant.stands
-
-pub advance-requires-clause-to : goal.advance-requires-clause-to
-advance-requires-clause-to g c = room_left _ _ _ c.loop-last-test.true
-
-pub loop-last-preserved : goal.loop-last-preserved
-loop-last-preserved g c =
-    let day = c.args.day.now.payloads in
-    let moved = c.in_ok-advance.ensures ∙ ap (λ l. machine_after_own day l ((c.loop-last.last + 1) * c.args.every)) (locate_is _ _ _ _ c.loop-last.invariant.stands) in
-    record {
-      kept =
-          copies_more day c.args.locate c.args.every _ _ c.loop-last.invariant.kept _ _ (c.in_ok-copy-2.ensures ∙ moved) c.in_ok-push-2.ensures.items;
-      stands = moved;
-    }
-
-pub returns : goal.returns
-returns g c =
-    let all = ap length c.requires.numbers in
-    copies_made c.args.day.now.payloads c.args.locate c.args.every c.loop-last.last _
-    (let last : c.loop-last.last ≡ length c.args.numbers.now / c.args.every = omega arith in last ∙ ap (λ n. n / c.args.every) all)
-    c.loop-last.invariant.kept
+    copies_first c.args.day.now.payloads c.args.locate c.args.every c.new-stock.result new.locate new.world new.steps

@@ -1,7 +1,7 @@
 use Rattle.std.proofs.Common.{◌≡◌, ◌+◌, ◌*◌, map}
 use Rattle.std.specs.List.{range_with_len}
 use Rattle.checkpoints.specs.Copies.{machine_after_own}
-use Rattle.checkpoints.proofs.track.copies_of.Given as goal
+use Rattle.checkpoints.proofs.track.add_copies.Given as goal
 
 abbrev pub invariant-loop-last : goal.invariant-loop-last
 invariant-loop-last g l = record {

@@ -1,5 +1,5 @@
 use Rattle.debugger.proofs.Stopping.{IsPricing}
-use Rattle.debugger.proofs.scanning.price_stops.Given as goal
+use Rattle.debugger.proofs.scanning.price_stops_by.Given as goal
 
 abbrev pub invariant-loop-payload : goal.invariant-loop-payload
 invariant-loop-payload g l =

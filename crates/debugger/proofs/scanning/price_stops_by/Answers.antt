@@ -1,11 +1,11 @@
 use Rattle.std.proofs.Common.{append-nil, sym, ◌∙◌}
 use Rattle.debugger.proofs.Stopping.{priced_all, priced_few, priced_here, priced_more, priced_none, priced_self}
-use Rattle.debugger.proofs.scanning.price_stops.Goals as goal
+use Rattle.debugger.proofs.scanning.price_stops_by.Goals as goal
 
 pub loop-payload-init : goal.loop-payload-init
 loop-payload-init g c =
     priced_none _ _ _ _ _ _ _ (c.into_iter-payload-iterator.ensures.into_iter_gives ∙ c.payloads-payload-items.ensures.payloads)
-    c.new-stock.ensures.locate c.new-stock.ensures.world c.new-stock.ensures.steps c.new-stops.ensures.items
+    c.requires.locate c.requires.world c.requires.steps c.new-stops.ensures.items
 
 pub changes_level-requires : goal.changes_level-requires
 changes_level-requires g c = record {
