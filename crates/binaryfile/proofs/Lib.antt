@@ -1,4 +1,4 @@
 pub mod ByteRanges
 pub mod Splitting
 pub mod Offsets
-pub mod Distances
+pub mod PayloadBytes

@@ -1,11 +1,10 @@
 -- Where the entries of a file lie, and the index by which a payload is found.
-use Rattle.std.specs.Prelude.{◌≡◌, ℕ, ◌*◌, ◌^◌, ◌<◌, ◌≤◌, Bool, List, length, take, slice_index}
+use Rattle.std.specs.Prelude.{◌≡◌, ℕ, ◌*◌, ◌^◌, ◌<◌, Bool, List, length, take, slice_index}
 use Rattle.std.specs.List.{flat_map}
 use Rattle.byte_strings.specs.Bytes.{AreBytes}
 use Rattle.binaryfile.specs.Entries.{entry}
 use Rattle.binaryfile.specs.Scanned.{contents_of}
 use Rattle.binaryfile.specs.declared.TheConstants.{STRIDE}
-use Rattle.binaryfile.specs.declared.scan.Place.{Place}
 
 -- where the entry after the first n payloads begins
 abbrev pub offset : List (List ℕ) → ℕ → ℕ
@@ -14,14 +13,6 @@ offset payloads n = length (flat_map entry (take n payloads))
 -- the payloads of a byte string
 abbrev pub payloads_of : List ℕ → List (List ℕ)
 payloads_of bytes = (contents_of bytes).payloads
-
--- how many entries stand before a place
-abbrev pub entries_before : Place → ℕ
-entries_before place = place.number
-
--- a place is that of the entry after as many payloads as it says
-unfoldable pub IsPlace : List (List ℕ) → Place → Type 0
-IsPlace payloads place = (place.number ≤ length payloads) × (place.at ≡ offset payloads place.number)
 
 -- the index has the place of each entry whose number from 0 is a multiple of STRIDE
 abbrev pub IsIndex : List ℕ → List ℕ → Type 0

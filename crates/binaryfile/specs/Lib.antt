@@ -1,7 +1,6 @@
 pub mod Entries
 pub mod Scanned
 pub mod Index
-pub mod EntryLists
 pub mod Devices
 pub mod Loading
 pub mod FaultNumbers

@@ -3,16 +3,10 @@ ghost use Rattle.std.specs.Prelude.{◌≡◌, ◌≢◌, ◌+◌, ◌-◌, ◌<
 ghost use Rattle.byte_strings.specs.Bytes.{AreBytes};
 ghost use Rattle.binaryfile.specs.Devices.{HasFailed, GaveMore, GaveUpTo, Sends};
 ghost use Rattle.binaryfile.specs.Entries.{bytes_of, Splits};
-ghost use Rattle.binaryfile.specs.EntryLists.{IsDistance};
-ghost use Rattle.binaryfile.specs.Index.{IsPlace, entries_before};
 ghost use Rattle.binaryfile.specs.Loading.{Loads, ExceedsMessages, HasMoreMessages};
 
-use crate::entry_list::{Distance, FAR};
 use crate::load::read_to_end;
-use crate::scan::{
-    IndexedEntries, Place, begins_with_marker, bytes_after, entries_within, entry_place,
-    nth_payload, payload_and_next,
-};
+use crate::scan::{IndexedEntries, begins_with_marker, bytes_after, entries_within, nth_payload};
 use crate::{Feed, LoadFault, Payloads, Sink, WriteFault, send};
 use std::alloc::Allocator;
 use std::io::{Read, Write};
@@ -139,68 +133,6 @@ impl<A: Allocator> Day<A> {
             self.starts.as_slice(),
             number as usize - 1,
         )
-    }
-
-    /// Where the entry after the first `count` begins, or where the entries end. It is found by the day's index.
-    pub fn place(&self, count: u32) -> Place
-        requires { count ≤ length self.now.payloads }
-        ensures place { IsPlace self.now.payloads result }
-        ensures count { entries_before result ≡ count }
-    {
-        let number = count as usize;
-        let at = if count == self.count {
-            self.end
-        } else {
-            entry_place(&self.bytes, &self.starts, number)
-        };
-        Place { number, at }
-    }
-
-    /// The place to which a distance leads from another one.
-    #[inline(always)]
-    pub(crate) fn place_after(&self, near: Place, distance: Distance) -> Place
-        requires near { IsPlace self.now.payloads near }
-        requires distance { IsDistance self.now.payloads (entries_before near) distance }
-        ensures place { IsPlace self.now.payloads result }
-        ensures number { entries_before result ≡ entries_before near + distance.entries }
-        // The numbers of the day's payloads fit 32 bits.
-        ensures few { length self.now.payloads < 2 ^ 32 }
-    {
-        // The place lies within the day's bytes, so no sum wraps.
-        let _length = self.bytes.len();
-        let number = near.number + distance.entries as usize;
-        if distance.bytes == FAR {
-            return self.place(number as u32);
-        }
-        Place {
-            number,
-            at: near.at + distance.bytes as usize,
-        }
-    }
-
-    /// The payload of the entry at a place of this day, borrowed and not copied.
-    pub(crate) fn payload_from(&self, place: Place) -> &[u8]
-        requires place { IsPlace self.now.payloads place }
-        requires entry { entries_before place < length self.now.payloads }
-        ensures { result.now ≡ slice_index_or self.now.payloads (entries_before place) result.now }
-    {
-        let mut next = place;
-        self.next_payload(&mut next)
-    }
-
-    /// The payload of the entry at a place of this day, borrowed and not copied. The place goes on to the next entry: a
-    /// caller that passes over the payloads of a day has the place of each.
-    pub fn next_payload(&self, place: &mut Place) -> &[u8]
-        requires place { IsPlace self.now.payloads place.old }
-        requires entry { entries_before place.old < length self.now.payloads }
-        ensures payload { result.now
-            ≡ slice_index_or self.now.payloads (entries_before place.old) result.now }
-        ensures place { IsPlace self.now.payloads place.new }
-        ensures next { entries_before place.new ≡ entries_before place.old + 1 }
-    {
-        let (payload, next) = payload_and_next(&self.bytes, *place);
-        *place = next;
-        payload
     }
 
     /// All payloads in their order, borrowed and not copied.

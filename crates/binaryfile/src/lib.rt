@@ -17,8 +17,7 @@
 //! ```
 //!
 //! [`Day::payload`] lends the payload with a number, counted from 1; [`Day::marked`] and [`Day::tail`] say how the file
-//! ended. [`Day::next_payload`] passes over a day by a [`Place`], and an [`EntryList`] keeps entries to come back to.
-//! [`Day::from_bytes`] is a day of bytes that are in memory already.
+//! ended. [`Day::from_bytes`] is a day of bytes that are in memory already.
 //!
 //! Entries are those of Nasdaq BinaryFILE. Limits, the end marker, what stands after it or in the place of a whole
 //! entry, and what a failed device does are of this project.
@@ -27,7 +26,6 @@
 ghost use Rattle.binaryfile.specs.Entries.{EachHasOneSplitting};
 
 mod day;
-mod entry_list;
 mod feed;
 mod load;
 mod payloads;
@@ -35,11 +33,10 @@ mod scan;
 mod sink;
 
 pub use crate::day::{Day, Limits};
-pub use crate::entry_list::{EntryList, ListedPayloads, NumberedPayload};
 pub use crate::feed::Feed;
 pub use crate::load::{LoadFault, read_to_end};
 pub use crate::payloads::Payloads;
-pub use crate::scan::{Place, split_first_payload};
+pub use crate::scan::split_first_payload;
 pub use crate::sink::{Sink, WriteFault, send};
 
 /// One entry in every 8 has its place in the index of a day, so the index has a byte a message.

@@ -1,8 +1,8 @@
 // The entries of a byte string, from the first on.
-ghost use Rattle.std.specs.Prelude.{◌≡◌, ◌≢◌, ◌<◌, ◌≤◌, ◌+◌, ◌*◌, ◌^◌, List, ℕ, [], ◌∷◌, length, drop, Err, MatchOption, IfOk, IsErrOf, slice_index_or};
+ghost use Rattle.std.specs.Prelude.{◌≡◌, ◌≢◌, ◌<◌, ◌≤◌, ◌*◌, List, ℕ, [], ◌∷◌, length, drop, Err, MatchOption, IfOk, IsErrOf, slice_index_or};
 ghost use Rattle.byte_strings.specs.Bytes.{AreBytes};
 ghost use Rattle.binaryfile.specs.Entries.{marker};
-ghost use Rattle.binaryfile.specs.Index.{entries_before, offset, payloads_of, IsIndex, IsPlace};
+ghost use Rattle.binaryfile.specs.Index.{offset, payloads_of, IsIndex};
 ghost use Rattle.binaryfile.specs.Scanned.{contents_of};
 
 use crate::{LoadFault, STRIDE};
@@ -14,23 +14,6 @@ pub(crate) struct IndexedEntries<A: Allocator> {
     pub(crate) count: usize,
     pub(crate) end: usize,
     pub(crate) starts: Vec<u64, A>,
-}
-
-/// Where an entry of a day begins, or where the entries end. From there a payload is read sooner than by its number.
-#[derive(Clone, Copy)]
-pub struct Place {
-    // How many entries stand before it.
-    pub(crate) number: usize,
-    pub(crate) at: usize,
-}
-
-impl Place {
-    /// Where the first entry of any day begins.
-    pub(crate) fn first() -> Place
-        ensures { (payloads : List (List ℕ)) → IsPlace payloads result }
-    {
-        Place { number: 0, at: 0 }
-    }
 }
 
 /// The payload of the first entry and the bytes after that entry, where a whole one stands there; none where an end marker
@@ -86,8 +69,8 @@ fn place_from(bytes: &[u8], from: usize, place: usize, number: usize) -> usize
     at
 }
 
-/// The place of the entry of this number, counted from 0, by the index.
-pub(crate) fn entry_place(bytes: &[u8], starts: &[u64], number: usize) -> usize
+// The place of the entry of this number, counted from 0, by the index.
+fn entry_place(bytes: &[u8], starts: &[u64], number: usize) -> usize
     requires index { IsIndex starts.now bytes.now }
     requires number { number < length (payloads_of bytes.now) }
     ensures place { result ≡ offset (payloads_of bytes.now) number }
@@ -152,24 +135,6 @@ pub(crate) fn nth_payload<'a>(bytes: &'a [u8], starts: &[u64], number: usize) ->
 {
     let at = entry_place(bytes, starts, number);
     first_payload(&bytes[at..]).unwrap()
-}
-
-/// The payload at a place, and where the entry after it begins.
-pub(crate) fn payload_and_next(bytes: &[u8], place: Place) -> (&[u8], Place)
-    requires place { IsPlace (payloads_of bytes.now) place }
-    requires entry { entries_before place < length (payloads_of bytes.now) }
-    requires few { length (payloads_of bytes.now) < 2 ^ 32 }
-    ensures payload { result.0.now
-        ≡ slice_index_or (payloads_of bytes.entry.now) (entries_before place) result.0.now }
-    ensures place { IsPlace (payloads_of bytes.entry.now) result.1 }
-    ensures next { entries_before result.1 ≡ entries_before place + 1 }
-{
-    let payload = first_payload(&bytes[place.at..]).unwrap();
-    let next = Place {
-        number: place.number + 1,
-        at: place.at + 2 + payload.len(),
-    };
-    (payload, next)
 }
 
 /// Whether the bytes, which begin with no entry, begin with an end marker.

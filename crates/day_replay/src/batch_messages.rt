@@ -3,7 +3,7 @@ ghost use Rattle.std.specs.Prelude.{◌≡◌, ◌++◌, ◌∷◌, [], OnOk};
 ghost use Rattle.std.specs.Iterator.{YieldsFirstBy, item_count};
 ghost use Rattle.binaryfile.specs.Entries.{IsPayload};
 
-use binaryfile::{NumberedPayload, split_first_payload};
+use binaryfile::split_first_payload;
 use std::alloc::{AllocError, Allocator};
 use std::marker::Model;
 
@@ -85,6 +85,14 @@ impl<A: Allocator> BatchMessages<A> {
             bytes: &self.bytes,
         }
     }
+}
+
+/// A message of a batch.
+#[derive(Clone, Copy)]
+pub(crate) struct NumberedPayload<'m> {
+    /// Its number in the day, counted from 1.
+    pub number: u32,
+    pub payload: &'m [u8],
 }
 
 /// The messages of a batch that are left, in their order.

@@ -1,5 +1,5 @@
-//! Files of any bytes as days, by segments and in lists of entries, limits, growths that are refused, and devices that
-//! fail. The expected values are worked out by hand from the rules in docs/FORMATS.md.
+//! Files of any bytes as days and by segments, limits, growths that are refused, and devices that fail. The expected values
+//! are worked out by hand from the rules in docs/FORMATS.md.
 #![tactic(auto)]
 
 #[cfg(test)]
@@ -8,8 +8,6 @@ mod days;
 mod feeds;
 #[cfg(test)]
 mod limits;
-#[cfg(test)]
-mod lists;
 #[cfg(test)]
 mod segments;
 #[cfg(test)]
