@@ -7,7 +7,7 @@
 //! ```rust
 //! let mut turns = Turns::new(rt, alloc, &day, workers)?;
 //! while let Some(piece) = turns.turn(0)? {
-//!     println!("{}", piece.message);
+//!     println!(rt; "{}", piece.message)?;
 //! }
 //! ```
 //!

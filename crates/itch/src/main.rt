@@ -1,34 +1,34 @@
-//! The program `itch`: its arguments, the files that they name, and the lines that it prints on standard error.
+//! The program `itch`: the files that its arguments name, and the lines that it prints on standard error.
 #![tactic(auto)]
 
-mod arguments;
 mod progress;
 mod prompt;
 mod stop;
 mod terminals;
 
-use arguments::Task;
 use binaryfile::{Day, Feed, Limits, Sink};
 use clap::error::ErrorKind;
 use day_core::WorkerCount;
 use day_segments::SEGMENT_BYTES;
+use engine_rules::limits::{MOST_FILE_BYTES, MOST_MESSAGES};
+use engine_rules::{ProgFault, status};
+use itch_arguments::Task;
 use itch_debug::debug_run;
 use itch_dis::{dis_part_run, dis_stream_run};
-use itch_engine::limits::{MOST_FILE_BYTES, MOST_MESSAGES};
-use itch_engine::{ProgFault, asm_run, hex_run, report_run, status};
+use itch_engine::{asm_run, hex_run, report_run};
 use itch_readings::{Selection, StockFault, StockName, stocks_run, tops_run};
 use itch_watch::watch_run;
 use named_files::{Failure, Named, Replacement, is_same_file};
 use progress::ProgressLines;
 use prompt::Prompting;
-use std::io::{self, IsTerminal};
+use std::alloc::Global;
+use std::fs::Files;
+use std::io::{self, IsTerminal, Read, Write};
 use std::process::ExitCode;
 use std::rt::Runtime;
 use std::sync::Wait;
-use std::sync::atomic::AtomicU64;
 use std::thread::Threads;
 use std::{env, fs};
-use stock_workers::FreeGate;
 use stop::Stop;
 use terminals::Terminals;
 
@@ -207,8 +207,13 @@ fn print_tops<'a, R: Runtime + AllocGlobal>(
     terminals: Terminals,
     path: &'a str,
     stock: &str,
-    selection: Selection,
+    every: bool,
 ) -> Ended<'a> {
+    let selection = if every {
+        Selection::Every
+    } else {
+        Selection::Changes
+    };
     let mut day = open_day(rt, terminals, path)?;
     let name = named_stock(stock)?;
     let mut output = standard_output(rt);
@@ -235,10 +240,47 @@ fn watch<'a, R: Runtime + AllocGlobal + Threads + Wait + Sync>(
         &mut Sink::new(&mut output),
         name,
         worker_count(workers),
-        &FreeGate,
-        &AtomicU64::new(0),
     );
     ended(run.map(|()| 0), &day, &output)
+}
+
+// Makes the bytes that a text denotes.
+fn assemble_to<'a, T: AllocGlobal, R: Read, W: Write>(
+    rt: &T,
+    input: &mut Named<'a, R>,
+    output: &mut Named<'a, W>,
+) -> Ended<'a> {
+    let (mut feed, mut sink) = (Feed::new(&mut *input), Sink::new(&mut *output));
+    let run = asm_run(rt.alloc(), &mut feed, &mut sink);
+    ended(run.map(|()| 0), input, output)
+}
+
+// Gives a file that was made of a text its name, or takes it away where the text is faulty.
+fn settle<'a, R: Files>(
+    assembled: Ended<'a>,
+    replacement: Replacement<'_, R, Global>,
+    out: &'a str,
+) -> Ended<'a> {
+    if assembled.is_err() {
+        replacement.discard();
+        return assembled;
+    }
+    match replacement.finish() {
+        Ok(()) => assembled,
+        Err(error) => Err(Stop::Fault(ProgFault::Write.into(), Some(Failure::new(out, error)))),
+    }
+}
+
+// Makes the file that a text denotes in the place of another.
+fn replace<'a, T: AllocGlobal, F: Files, R: Read>(
+    rt: &T,
+    input: &mut Named<'a, R>,
+    replacement: Replacement<'_, F, Global>,
+    out: &'a str,
+) -> Ended<'a> {
+    let mut output = Named::new(out, replacement);
+    let assembled = assemble_to(rt, input, &mut output);
+    settle(assembled, output.into_inner(), out)
 }
 
 // Makes the file that a text denotes. Where the text is faulty, the path of the output is not touched.
@@ -247,24 +289,9 @@ fn assemble<'a, R: Runtime + AllocGlobal>(rt: &R, text: &'a str, out: &'a str) -
     if is_same_file(rt, text, out) {
         return Err(Stop::Misuse("TEXT and OUT are the same file"));
     }
-    let Ok(replacement) = Replacement::new(rt, rt.alloc(), out) else {
-        return Err(Stop::Fault(ProgFault::Memory.into(), None));
-    };
-    let mut output = Named::new(out, replacement);
-    let run = asm_run(
-        rt.alloc(),
-        &mut Feed::new(&mut input),
-        &mut Sink::new(&mut output),
-    );
-    let assembled = ended(run.map(|()| 0), &input, &output);
-    let replacement = output.into_inner();
-    if assembled.is_err() {
-        replacement.discard();
-        return assembled;
-    }
-    match replacement.finish() {
-        Ok(()) => assembled,
-        Err(error) => Err(Stop::Fault(ProgFault::Write.into(), Some(Failure::new(out, error)))),
+    match Replacement::new(rt, rt.alloc(), out) {
+        Ok(replacement) => replace(rt, &mut input, replacement, out),
+        Err(_) => Err(Stop::Fault(ProgFault::Memory.into(), None)),
     }
 }
 
@@ -314,7 +341,7 @@ fn explain<R: Runtime>(rt: &R, error: &clap::Error) -> ExitCode {
         return refuse_memory(rt);
     }
     match error.print(rt) {
-        Ok(()) => ExitCode::from(arguments::usage_status(error)),
+        Ok(()) => ExitCode::from(itch_arguments::usage_status(error)),
         Err(_) => ExitCode::from(DEVICE),
     }
 }
@@ -328,11 +355,11 @@ fn run<R: Runtime + AllocGlobal + Threads + Wait + Sync>(
 where
     R::File: Send,
 {
-    let matches = match arguments::parse(rt.alloc(), arguments) {
+    let matches = match itch_arguments::parse(rt.alloc(), arguments) {
         Ok(matches) => matches,
         Err(error) => return explain(rt, &error),
     };
-    let ended = match arguments::chosen_task(&matches) {
+    let ended = match itch_arguments::chosen_task(&matches) {
         Task::Replay {
             file,
             workers,
@@ -343,11 +370,7 @@ where
             disassemble_between(rt, terminals, file, first, last)
         }
         Task::Stocks { file } => list_stocks(rt, terminals, file),
-        Task::Tops {
-            file,
-            stock,
-            selection,
-        } => print_tops(rt, terminals, file, stock, selection),
+        Task::Tops { file, stock, every } => print_tops(rt, terminals, file, stock, every),
         Task::Watch {
             file,
             stock,

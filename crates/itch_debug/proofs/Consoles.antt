@@ -10,8 +10,8 @@ use Rattle.std.proofs.lemmas.List.{length-take-le, take-append-drop, take-append
 use Rattle.std.proofs.lemmas.List.Elements.{All-append, All-cons, All-nil}
 use Rattle.std.proofs.lemmas.List.Splits.{slice_split_at, slice_split_none}
 use Rattle.debugger.specs.Sessions.{Session}
-use Rattle.itch_engine.specs.declared.fault.ProgFault.{ProgFault}
-use Rattle.itch_engine.specs.declared.fault.ProgFault.TheVariants.{Memory, Write}
+use Rattle.engine_rules.specs.declared.fault.ProgFault.{ProgFault}
+use Rattle.engine_rules.specs.declared.fault.ProgFault.TheVariants.{Memory, Write}
 use Rattle.itch_debug.specs.Answering.{Reply, reply_or}
 use Rattle.itch_debug.specs.Commands.{command_of}
 use Rattle.itch_debug.specs.Sessions.{answers, is_line_feed, replies, reply_of, session_after, start}

@@ -7,8 +7,8 @@ use Rattle.std.specs.Io.KnownBytes.{Appends, Consumes, IsAtEnd, Keeps}
 use Rattle.std.proofs.KnownBytes.{Appends-nil, Consumes-trans}
 use Rattle.std.proofs.lemmas.List.Elements.{All-nil}
 use Rattle.debugger.specs.Sessions.{Session}
-use Rattle.itch_engine.specs.declared.fault.ProgFault.{ProgFault}
-use Rattle.itch_engine.specs.declared.fault.ProgFault.TheVariants.{Memory, Read, Write}
+use Rattle.engine_rules.specs.declared.fault.ProgFault.{ProgFault}
+use Rattle.engine_rules.specs.declared.fault.ProgFault.TheVariants.{Memory, Read, Write}
 use Rattle.itch_debug.specs.Runs.{Answers, AnswersWhole, Cause, ChangesNothing, EndsEarly, Fails, Faults, Halts, Interrupts, Serves, ServesAll, Stands, most_command_bytes}
 use Rattle.itch_debug.specs.Sessions.{answers, is_line_feed, replies, start}
 use Rattle.itch_debug.proofs.Consoles.{given_of, more_whole, replies_more, whole_of}

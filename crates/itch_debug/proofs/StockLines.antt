@@ -13,7 +13,7 @@ use Rattle.itch_table.specs.declared.status.Status.{Status}
 use Rattle.itch_table.specs.declared.status.Totals.{Totals}
 use Rattle.itch_table.specs.Levels.{levels}
 use Rattle.itch_table.specs.World.{orders_of, status, totals}
-use Rattle.itch_engine.specs.Report.{ask_line, bid_line, trades_line}
+use Rattle.stock_text.specs.Stocks.{ask_line, bid_line, trades_line}
 use Rattle.stock_machine.specs.StockRows.{StockMachine}
 use Rattle.itch_debug.specs.Answering.{book_of, break_lines, listed_text, numbered_break, order_line, sides_of, stock_text}
 

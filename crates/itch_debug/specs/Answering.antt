@@ -13,8 +13,8 @@ use Rattle.itch_table.specs.After.{after}
 use Rattle.itch_table.specs.Fault.{number_of}
 use Rattle.itch_table.specs.Levels.{levels, same_side}
 use Rattle.itch_table.specs.World.{World, orders_of, status, totals}
-use Rattle.itch_print.specs.Quoted.{quoted}
-use Rattle.itch_engine.specs.Report.{ask_line, bid_line, quoted_byte, stock_line, trades_line}
+use Rattle.text_fields.specs.Quoted.{quoted, quoted_byte}
+use Rattle.stock_text.specs.Stocks.{ask_line, bid_line, stock_line, trades_line}
 use Rattle.debugger.specs.Sessions.{Session, moved_to, next_stop, outcome_at, previous_stop, with_break, without_break}
 use Rattle.debugger.specs.Stops.{hit}
 use Rattle.debugger.specs.declared.breakpoint.Break.{Break}

@@ -2,8 +2,8 @@
 use Rattle.std.specs.Prelude.{◌≡◌, ◌≤◌, ◌<◌, ◌⊎◌, ℕ, ◌+◌, ◌^◌, Bool, false, IsTrue, List, [], ◌++◌, length, take, Option, IfSome}
 use Rattle.std.specs.Io.KnownBytes.{Appends, Consumes}
 use Rattle.std.specs.List.{All, slice_split}
-use Rattle.itch_engine.specs.declared.fault.ProgFault.{ProgFault}
-use Rattle.itch_engine.specs.declared.fault.ProgFault.TheVariants.{Memory, Read, Write}
+use Rattle.engine_rules.specs.declared.fault.ProgFault.{ProgFault}
+use Rattle.engine_rules.specs.declared.fault.ProgFault.TheVariants.{Memory, Read, Write}
 use Rattle.debugger.specs.Sessions.{Session}
 use Rattle.itch_debug.specs.Sessions.{answers, is_line_feed, replies, session_after, start}
 

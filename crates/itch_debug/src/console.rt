@@ -10,7 +10,7 @@ use crate::command::LONGEST_LINE;
 use crate::session::{Next, put_answer};
 use binaryfile::{Sink, send};
 use debugger::Debugger;
-use itch_engine::ProgFault;
+use engine_rules::ProgFault;
 use std::alloc::Allocator;
 use std::io::Write;
 

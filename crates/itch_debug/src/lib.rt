@@ -23,7 +23,6 @@ mod run;
 mod session;
 mod stock;
 
-pub use command::Command;
 pub use laws::quotes_are_in_no_command;
-pub use run::{MOST_COMMAND_BYTES, debug_run};
+pub use run::debug_run;
 pub use session::{Next, answer_line};

@@ -5,9 +5,9 @@ ghost use Rattle.itch_table.specs.After.{after};
 ghost use Rattle.itch_debug.specs.Answering.{break_line, break_text, breaks_text, event_line, hit_text, numbered_break, outcome_text, position_text, refusal_text, side_text};
 
 use debugger::{Break, DebugFault, Debugger};
-use itch_engine::{put_count, put_quoted_byte};
 use itch_table::{Outcome, Side};
 use std::alloc::{AllocError, Allocator};
+use text_fields::{put_count, put_quoted_byte};
 
 // Adds what became of the message at a position, or `start` at 0.
 fn put_outcome<A: Allocator>(

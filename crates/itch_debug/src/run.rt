@@ -9,12 +9,12 @@ ghost use Rattle.itch_debug.specs.Sessions.{start};
 use crate::console::Console;
 use binaryfile::{Day, Feed, Sink};
 use debugger::Debugger;
-use itch_engine::ProgFault;
+use engine_rules::ProgFault;
 use std::alloc::{AllocError, Allocator};
 use std::io::{Read, Write};
 
-/// The most bytes of commands: 2^30.
-pub const MOST_COMMAND_BYTES: u64 = 1 << 30;
+// The most bytes of commands: 2^30.
+const MOST_COMMAND_BYTES: u64 = 1 << 30;
 
 // How many messages of a stock lie at least from one copy of its machine to the next.
 const EVERY: u32 = 1000;

@@ -2,7 +2,7 @@
 ghost use Rattle.std.specs.Prelude.{◌≡◌, ◌++◌, OnOk};
 ghost use Rattle.std.specs.List.{flat_map};
 ghost use Rattle.byte_strings.specs.Extending.{Extends};
-ghost use Rattle.itch_engine.specs.Report.{level_line};
+ghost use Rattle.stock_text.specs.Stocks.{level_line};
 ghost use Rattle.itch_table.specs.After.{after};
 ghost use Rattle.itch_table.specs.Levels.{levels};
 ghost use Rattle.itch_table.specs.World.{orders_of};
@@ -10,11 +10,11 @@ ghost use Rattle.itch_debug.specs.Answering.{attribution_text, book_of, order_li
 
 use crate::lines::put_side;
 use debugger::Debugger;
-use itch_engine::{put_count, put_levels, put_stock_line, put_trades};
-use itch_print::put_quoted;
 use itch_table::{Order, Side};
 use std::alloc::{AllocError, Allocator};
 use stock_machine::Stock;
+use stock_text::{put_levels, put_stock_line, put_trades};
+use text_fields::{put_count, put_quoted};
 
 // Adds the market participant of an order, or `none`.
 fn put_attribution<A: Allocator>(

@@ -12,11 +12,11 @@ use Rattle.binaryfile.specs.declared.load.LoadFault.TheVariants.{Memory as LoadM
 use Rattle.day_segments.specs.Reading.{HasRead, IsWholeFile, Reading, followed_by, nothing_read}
 use Rattle.day_segments.specs.Segments.{carry_after}
 use Rattle.day_segments.proofs.Following.{every_file_goes_on}
-use Rattle.itch_engine.specs.FaultOrigins.{fault_of_load}
-use Rattle.itch_engine.specs.Runs.{Traffic}
-use Rattle.itch_engine.specs.declared.fault.ProgFault.{ProgFault}
-use Rattle.itch_engine.specs.declared.fault.ProgFault.TheVariants.{Memory, Read, TooManyBytes, TooManyMessages, Write, BadHex, Asm}
-use Rattle.itch_print.proofs.Prefixes.{prefix_append}
+use Rattle.engine_rules.specs.FaultOrigins.{fault_of_load}
+use Rattle.engine_rules.specs.Runs.{Traffic}
+use Rattle.engine_rules.specs.declared.fault.ProgFault.{ProgFault}
+use Rattle.engine_rules.specs.declared.fault.ProgFault.TheVariants.{Memory, Read, TooManyBytes, TooManyMessages, Write, BadHex, Asm}
+use Rattle.text_fields.proofs.Prefixes.{prefix_append}
 use Rattle.itch_dis.specs.Printers.{Begins, BeginsAll, Printer, PrintsWhole, Shows, StopsPrinting}
 
 -- what was written so far begins the text of whatever comes

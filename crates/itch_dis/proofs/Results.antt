@@ -6,10 +6,10 @@ use Rattle.std.specs.Prelude.{IsTrue, Option, Result}
 use Rattle.binaryfile.specs.Devices.{Device, GaveUpTo, HasFailed}
 use Rattle.binaryfile.specs.declared.load.LoadFault.{LoadFault}
 use Rattle.binaryfile.specs.declared.load.LoadFault.TheVariants.{Memory as LoadMemory, Read as LoadRead, TooManyBytes as LoadBytes, TooManyMessages as LoadMessages}
-use Rattle.itch_engine.specs.FaultOrigins.{fault_of_load}
-use Rattle.itch_engine.specs.Runs.{traffic_of}
-use Rattle.itch_engine.specs.declared.fault.ProgFault.{ProgFault}
-use Rattle.itch_engine.specs.declared.fault.ProgFault.TheVariants.{Memory, Read, TooManyBytes, TooManyMessages, Write, BadHex, Asm}
+use Rattle.engine_rules.specs.FaultOrigins.{fault_of_load}
+use Rattle.engine_rules.specs.Runs.{traffic_of}
+use Rattle.engine_rules.specs.declared.fault.ProgFault.{ProgFault}
+use Rattle.engine_rules.specs.declared.fault.ProgFault.TheVariants.{Memory, Read, TooManyBytes, TooManyMessages, Write, BadHex, Asm}
 use Rattle.itch_dis.specs.Printers.{Ends, Printer, Prints, StopsPrinting}
 
 is_read : ProgFault → Bool

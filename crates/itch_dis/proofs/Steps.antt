@@ -9,9 +9,9 @@ use Rattle.binaryfile.specs.declared.load.LoadFault.{LoadFault}
 use Rattle.binaryfile.specs.declared.load.LoadFault.TheVariants.{TooManyBytes as LoadBytes, TooManyMessages as LoadMessages}
 use Rattle.day_segments.specs.Reading.{HasRead, IsWholeFile, Reading, followed_by, nothing_read}
 use Rattle.day_segments.specs.Segments.{IsSegment, carry_after}
-use Rattle.itch_engine.specs.FaultOrigins.{fault_of_load}
-use Rattle.itch_engine.specs.declared.fault.ProgFault.{ProgFault}
-use Rattle.itch_engine.specs.declared.fault.ProgFault.TheVariants.{Memory, TooManyMessages, Write}
+use Rattle.engine_rules.specs.FaultOrigins.{fault_of_load}
+use Rattle.engine_rules.specs.declared.fault.ProgFault.{ProgFault}
+use Rattle.engine_rules.specs.declared.fault.ProgFault.TheVariants.{Memory, TooManyMessages, Write}
 use Rattle.itch_dis.specs.Extents.{closing_text, printer_of, segment_text}
 use Rattle.itch_dis.specs.Printers.{NeedsLast, PrintsWhole, StopsPrinting}
 use Rattle.itch_dis.specs.TextEnds.{text_end_after, text_end_of}

@@ -7,10 +7,10 @@ use Rattle.binaryfile.specs.Entries.{Contents, Splits}
 use Rattle.binaryfile.specs.Loading.{HasMoreMessages}
 use Rattle.itch_text.specs.Text.{Text}
 use Rattle.itch_print.specs.Disassembly.{lines_between, text_of}
-use Rattle.itch_print.specs.Printing.{IsPrefix}
-use Rattle.itch_engine.specs.Runs.{Traffic, traffic_of}
-use Rattle.itch_engine.specs.declared.fault.ProgFault.{ProgFault}
-use Rattle.itch_engine.specs.declared.fault.ProgFault.TheVariants.{Memory, Read, TooManyBytes, TooManyMessages, Write, BadHex, Asm}
+use Rattle.text_fields.specs.Prefixes.{IsPrefix}
+use Rattle.engine_rules.specs.Runs.{Traffic, traffic_of}
+use Rattle.engine_rules.specs.declared.fault.ProgFault.{ProgFault}
+use Rattle.engine_rules.specs.declared.fault.ProgFault.TheVariants.{Memory, Read, TooManyBytes, TooManyMessages, Write, BadHex, Asm}
 
 -- A printer makes a text of a file, which may denote the file's bytes. It may stop reading where so many messages suffice.
 pub record Printer : Type 1 where

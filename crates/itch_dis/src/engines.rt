@@ -7,8 +7,8 @@ use crate::extent::Extent;
 use crate::text_end::TextEnd;
 use binaryfile::{Feed, Sink, send};
 use day_segments::SegmentReader;
-use itch_engine::ProgFault;
-use itch_engine::limits::{MOST_FILE_BYTES, MOST_MESSAGES};
+use engine_rules::ProgFault;
+use engine_rules::limits::{MOST_FILE_BYTES, MOST_MESSAGES};
 use std::alloc::Allocator;
 use std::io::{Read, Write};
 

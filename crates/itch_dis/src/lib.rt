@@ -12,8 +12,8 @@
 //! dis_stream_run(rt.alloc(), &mut feed, &mut sink, day_segments::SEGMENT_BYTES)?;
 //! ```
 //!
-//! The text is that of [`itch_engine::dis_run`], which makes all of it before it sends any. Here the lines of a segment are
-//! sent before the next one is read: so after a fault the beginning of a text may have been sent. Both calls meet one
+//! The text is that of `dis_run` of `itch_engine`, which makes all of it before it sends any. Here the lines of a segment
+//! are sent before the next one is read: so after a fault the beginning of a text may have been sent. Both calls meet one
 //! contract, `Prints`, which says what was read, written and returned for each result.
 //!
 //! The text form, segments and limits are of this project.

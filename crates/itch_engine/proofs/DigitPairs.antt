@@ -8,11 +8,11 @@ use Rattle.hex.specs.Hex.{decode_of, is_hex_digit}
 use Rattle.hex.specs.declared.error.FromHexError.{FromHexError}
 use Rattle.hex.specs.declared.error.FromHexError.TheVariants.{OutOfMemory, OddLength, InvalidStringLength, InvalidHexCharacter}
 use Rattle.hex.proofs.HexLemmas.{decode_of-digits}
-use Rattle.itch_engine.specs.FaultOrigins.{fault_of_hex}
+use Rattle.engine_rules.specs.FaultOrigins.{fault_of_hex}
 use Rattle.itch_engine.specs.HexInput.{are_pairs, denoted, digits_of}
 use Rattle.itch_engine.specs.ReplayEngines.{HasBadDigits, digits_replayer}
-use Rattle.itch_engine.specs.Runs.{Fails}
-use Rattle.itch_engine.specs.declared.fault.ProgFault.TheVariants.{BadHex}
+use Rattle.engine_rules.specs.Runs.{Fails}
+use Rattle.engine_rules.specs.declared.fault.ProgFault.TheVariants.{BadHex}
 
 false_unless : (b : Bool) → (b ≡ true → ⊥) → b ≡ false
 false_unless true never = absurd (never refl)

@@ -3,10 +3,10 @@ use Rattle.std.proofs.Common.{◌≢◌, ℕ, List, refl}
 use Rattle.itch_text.specs.Blames.{Blames, DenotesNothing}
 use Rattle.itch_text.specs.declared.assembler.AsmFault.{AsmFault}
 use Rattle.itch_text.specs.declared.assembler.AsmFault.TheVariants.{Memory as AsmMemory, Mnemonic, Field, AfterEnd}
-use Rattle.itch_engine.specs.FaultOrigins.{fault_of_asm}
-use Rattle.itch_engine.specs.Runs.{Fails}
+use Rattle.engine_rules.specs.FaultOrigins.{fault_of_asm}
+use Rattle.engine_rules.specs.Runs.{Fails}
 use Rattle.itch_engine.specs.TextEngines.{HasFaultyLine, assembler}
-use Rattle.itch_engine.specs.declared.fault.ProgFault.TheVariants.{Asm}
+use Rattle.engine_rules.specs.declared.fault.ProgFault.TheVariants.{Asm}
 
 -- a fault of a line is the program's fault for the text
 at_line : (text : List ℕ) (found : AsmFault) → found ≢ AsmMemory → Blames text found → DenotesNothing text → HasFaultyLine text (Asm found)

@@ -1,5 +1,5 @@
 -- The lines of the stocks of a day: those of the locate codes that have a directory row are all.
-use Rattle.std.proofs.Common.{subst, ◌+◌, length-append, ◌≡◌, ◌&&◌, ◌++◌, ℕ, List, [], ◌∷◌, length, map, Option, None, Some, Bool, true, false, refl, ap, sym, ◌∙◌, arith, inl, inr}
+use Rattle.std.proofs.Common.{◌≡◌, ◌&&◌, ℕ, List, [], ◌∷◌, length, map, Option, None, Some, Bool, true, false, refl, ap, sym, ◌∙◌, arith, inl, inr}
 use Rattle.std.specs.Prelude.{T, filter}
 use Rattle.std.specs.declared.cmp.Ordering.{Ordering}
 use Rattle.std.specs.declared.cmp.Ordering.TheVariants.{Less, Equal, Greater}
@@ -13,15 +13,12 @@ use Rattle.std.specs.FinMap.Entries.{below_all, is_sorted}
 use Rattle.std.proofs.lemmas.Grind.{common_steps}
 use mathlib.Core.Bool.{true≢false}
 use Rattle.std.proofs.lemmas.Bool.{cases_Bool}
-use Rattle.std.proofs.lemmas.List.{append_assoc, get_or_append_left, get_or-append-add}
-use Rattle.std.proofs.lemmas.List.Elements.{All-cons, All-nil}
-use Rattle.std.specs.Int.{w16, to_be_bytes}
 use Rattle.std.proofs.lemmas.List.Folds.{flat_map-map}
 use Rattle.std.proofs.lemmas.List.Kept.{IsStrictlyIncreasing-filter}
 use Rattle.std.proofs.lemmas.Map.Keys.{sorted_from_strictly_increasing}
 use Rattle.std.proofs.lemmas.Map.Lookups.{btree_set_from_contains}
 use Rattle.std.proofs.lemmas.Map.Views.{list_any-from_Contains, tells_apart}
-use Rattle.byte_strings.specs.Bytes.{AreBytes, IsByte}
+use Rattle.byte_strings.specs.Bytes.{AreBytes}
 use Rattle.itch_table.specs.declared.status.StockRow.{StockRow}
 use Rattle.itch_table.specs.After.{after}
 use Rattle.itch_table.specs.Projection.{only}
@@ -30,8 +27,8 @@ use Rattle.itch_table.specs.World.{World, locates, stock_row}
 use Rattle.itch_table.proofs.DayLocates.{members, no_rows, rising}
 use Rattle.itch_table.proofs.OneStock.{orders_of-only, status-only, totals-only, stock_row-only}
 use Rattle.day_core.specs.Replaying.{last_machine}
-use Rattle.binaryfile.specs.Entries.{Contents, Splits, entry}
-use Rattle.itch_engine.specs.Report.{machine_lines, stock_lines}
+use Rattle.stock_text.specs.Stocks.{stock_lines}
+use Rattle.itch_engine.specs.Report.{machine_lines}
 
 -- ---- the keys of a map of numbers among other numbers
 
@@ -122,24 +119,3 @@ lines_of_day day bytes =
     ∙ ap (λ (f : ℕ → List ℕ). flat_map f (locates_of_day day)) (λ i locate. own_lines w locate i)
     ∙ sym (flat_map_picked (stock_lines w) (contains_key w.stocks) (locates_of_day day) (no_lines w))
     ∙ ap (flat_map (stock_lines w)) (keys_picked w.stocks (locates_of_day day) (rising day) (λ q off. no_directory day (length day) q bytes off))
-
--- ---- the bytes of payloads
-
-module _ {X : Type 0} (P : X → Type 0) (xs ys : List X) (are : All P (xs ++ ys)) where
-  All-first : All P xs
-  All-first k d lt = subst P (get_or_append_left xs ys d k lt) (are k d (omega (arith, length-append xs ys)))
-
-  All-second : All P ys
-  All-second k d lt = subst P (get_or-append-add xs ys k d) (are (length xs + k) d (omega (arith, length-append xs ys)))
-
-each_payload : (payloads : List (List ℕ)) (rest : List ℕ) → AreBytes (flat_map entry payloads ++ rest) → All AreBytes payloads
-each_payload [] rest are = All-nil AreBytes
-each_payload (p ∷ ps) rest are =
-    let here : AreBytes (entry p ++ (flat_map entry ps ++ rest)) = subst AreBytes (append_assoc (entry p) (flat_map entry ps) rest) are in
-    All-cons AreBytes p ps
-    (All-second IsByte (to_be_bytes w16 (length p)) p (All-first IsByte (entry p) (flat_map entry ps ++ rest) here))
-    (each_payload ps rest (All-second IsByte (entry p) (flat_map entry ps ++ rest) here))
-
--- the payloads of bytes are bytes
-pub payloads_are : (bytes : List ℕ) (contents : Contents) → AreBytes bytes → Splits bytes contents → All AreBytes contents.payloads
-payloads_are bytes contents are s = each_payload contents.payloads _ (subst AreBytes s.whole are)

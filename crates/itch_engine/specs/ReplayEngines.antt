@@ -1,12 +1,12 @@
 -- What the engines that replay make of an input, and the faults that they find in one.
 use Rattle.std.specs.Prelude.{◌≡◌, ◌⊎◌, ◌^◌, ◌-◌, ◌≤◌, ℕ, List, Some, None, false, length}
 use Rattle.binaryfile.specs.Entries.{Contents, Splits}
-use Rattle.binaryfile.specs.Loading.{HasMoreMessages}
 use Rattle.itch_engine.specs.Report.{report_of_file, refused_count}
 use Rattle.itch_engine.specs.HexInput.{are_pairs, denoted, digits_of}
-use Rattle.itch_engine.specs.Runs.{Engine}
-use Rattle.itch_engine.specs.declared.fault.ProgFault.{ProgFault}
-use Rattle.itch_engine.specs.declared.fault.ProgFault.TheVariants.{TooManyMessages, BadHex}
+use Rattle.engine_rules.specs.Limits.{HasTooManyMessages}
+use Rattle.engine_rules.specs.Runs.{Engine}
+use Rattle.engine_rules.specs.declared.fault.ProgFault.{ProgFault}
+use Rattle.engine_rules.specs.declared.fault.ProgFault.TheVariants.{BadHex}
 
 -- The input is a file, the text is its report, and this many of its messages are refused.
 pub record Replays (input text : List ℕ) (refused : ℕ) : Type 0 where
@@ -15,11 +15,6 @@ pub record Replays (input text : List ℕ) (refused : ℕ) : Type 0 where
   pub few : length contents.payloads ≤ 2 ^ 32 - 1
   pub report : text ≡ report_of_file contents
   pub counted : refused ≡ refused_count contents.payloads
-
--- The file has more messages than a message number counts.
-pub record HasTooManyMessages (input : List ℕ) (fault : ProgFault) : Type 0 where
-  pub is : fault ≡ TooManyMessages
-  pub more : HasMoreMessages input (2 ^ 32 - 1)
 
 -- The digits denote a file, and the text is its report.
 pub record ReplaysDigits (digits text : List ℕ) (refused : ℕ) : Type 0 where

@@ -6,10 +6,10 @@ use Rattle.itch_text.specs.Text.{Text}
 use Rattle.itch_text.specs.declared.assembler.AsmFault.{AsmFault}
 use Rattle.itch_text.specs.declared.assembler.AsmFault.TheVariants.{Memory as AsmMemory}
 use Rattle.itch_print.specs.Disassembly.{text_of}
-use Rattle.itch_engine.specs.Runs.{Engine}
-use Rattle.itch_engine.specs.ReplayEngines.{HasTooManyMessages}
-use Rattle.itch_engine.specs.declared.fault.ProgFault.{ProgFault}
-use Rattle.itch_engine.specs.declared.fault.ProgFault.TheVariants.{Asm}
+use Rattle.engine_rules.specs.Runs.{Engine}
+use Rattle.engine_rules.specs.Limits.{HasTooManyMessages}
+use Rattle.engine_rules.specs.declared.fault.ProgFault.{ProgFault}
+use Rattle.engine_rules.specs.declared.fault.ProgFault.TheVariants.{Asm}
 
 -- The input is a file, and the text is the one that is printed for it, which denotes the very bytes of the input.
 pub record Disassembles (input text : List ℕ) : Type 0 where

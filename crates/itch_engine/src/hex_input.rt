@@ -1,10 +1,10 @@
 //! Day files in hexadecimal digits.
 ghost use Rattle.std.specs.Prelude.{◌≡◌, Some, IfOk, IfErr};
 ghost use Rattle.itch_engine.specs.HexInput.{denoted, digits_of, is_kept};
-ghost use Rattle.itch_engine.specs.Runs.{Fails};
+ghost use Rattle.engine_rules.specs.Runs.{Fails};
 ghost use Rattle.itch_engine.specs.ReplayEngines.{digits_replayer};
 
-use crate::fault::ProgFault;
+use engine_rules::ProgFault;
 use std::alloc::Allocator;
 
 // Whether a byte is neither a space nor a line feed.

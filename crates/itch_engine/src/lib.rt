@@ -19,29 +19,21 @@
 //!
 //! The program `itch` calls these but [`replay_run`], which is for callers with a gate of their own, and [`dis_run`], in
 //! place of which it writes a text while it reads the file. Those that replay take `rt` as well, which makes their threads;
-//! how many is a `WorkerCount` of `day_core`.
+//! how many is a number from 1 to 64 of [`replay_run`], and a `WorkerCount` of `day_core` of [`report_run`].
 //!
-//! All meet one contract, `Runs`, which says what was read, written and returned for each result. [`limits`] has the
-//! greatest inputs that they take, and [`status`] the exit status for what an engine returned. The functions that begin
-//! with `put_` add the lines of a report that other outputs have too; what the text holds after an error, no contract
-//! says.
+//! All meet one contract, `Runs` of `engine_rules`, which says what was read, written and returned for each result. Its
+//! `limits` are the greatest inputs that they take, and [`status`] is the exit status for what an engine returned.
 //!
-//! Reports, texts and their lines, limits and exit statuses are of this project. An `AllocError` and
-//! `ProgFault::Memory` say that memory was refused.
+//! Reports, texts and their lines are of this project. `ProgFault::Memory` says that memory was refused.
 #![tactic(auto)]
 
 mod engines;
-mod exit_status;
-mod fault;
 mod hex_input;
-pub mod limits;
 mod report;
 
+pub use engine_rules::{ProgFault, status};
 pub use engines::asm::asm_run;
 pub use engines::digits::hex_run;
 pub use engines::dis::dis_run;
 pub use engines::replay::replay_run;
 pub use engines::report::report_run;
-pub use exit_status::status;
-pub use fault::ProgFault;
-pub use report::{put_count, put_levels, put_quoted_byte, put_stock_line, put_trades};

@@ -1,6 +1,4 @@
 pub mod Between
-pub mod Padding
-pub mod HexDigits
 pub mod HeldFields
 pub mod OneWord
 pub mod PrintedValues
@@ -8,4 +6,3 @@ pub mod PrintableLayouts
 pub mod PrintedLines
 pub mod PrintedFiles
 pub mod RoundTrip
-pub mod Prefixes

@@ -8,7 +8,7 @@ use Rattle.hex.specs.Hex.{encode_with, encode_lower, lower_digits}
 use Rattle.byte_strings.specs.Bytes.{IsByte}
 use Rattle.itch_text.specs.Values.{denotes_itself}
 use Rattle.itch_text.specs.Words.{pieces, words, is_word}
-use Rattle.itch_print.specs.Quoted.{escaped}
+use Rattle.text_fields.specs.Quoted.{escaped}
 
 -- the text has no space outside quotes, and its quotes are closed
 abbrev pub closed : Bool → List ℕ → Bool

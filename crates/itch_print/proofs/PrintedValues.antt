@@ -11,7 +11,7 @@ use Rattle.itch_layouts.specs.Layouts.{Form, Integer, Alpha, Value, Number, Byte
 use Rattle.itch_layouts.specs.Encoding.{FitsField}
 use Rattle.itch_text.specs.Values.{unescaped, with_first, padded, denotes_itself, ValueText}
 use Rattle.itch_text.proofs.Escapes.{itself_first}
-use Rattle.itch_print.specs.Quoted.{is_space, escaped, unpadded}
+use Rattle.text_fields.specs.Quoted.{is_space, escaped, unpadded}
 use Rattle.itch_print.specs.Disassembly.{value_text}
 use Rattle.itch_print.proofs.OneWord.{EachByte, below_at, IsHigh, IsInk, IsInner, closed, closed_high, closed_inner, high_digits, inner_bytes, each_append, each_weaker}
 

@@ -7,7 +7,7 @@ use Rattle.byte_strings.specs.Bytes.{AreBytes}
 use Rattle.binaryfile.specs.Entries.{Contents, Splits}
 use Rattle.itch_layouts.specs.Layouts.{Field, Layout, Value, Number, Bytes, fields, layout_of_kind, value_at}
 use Rattle.itch_text.specs.Text.{Text}
-use Rattle.itch_print.specs.Quoted.{quoted}
+use Rattle.text_fields.specs.Quoted.{quoted}
 
 -- a number in decimal digits without leading zeros, or text between quotes
 abbrev pub value_text : Value → List ℕ

@@ -1,3 +1,2 @@
-pub mod Quoted
 pub mod Disassembly
 pub mod Printing

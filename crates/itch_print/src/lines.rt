@@ -6,10 +6,10 @@ ghost use Rattle.itch_layouts.specs.Layouts.{layout_of_kind};
 ghost use Rattle.itch_layouts.specs.StaticLayouts.{as_layout};
 ghost use Rattle.itch_print.specs.Disassembly.{message_line, hex_line, payload_line, end_lines, ended};
 
-use crate::hex_digits::put_hex;
 use crate::printing::put_fields;
 use itch_layouts::{Layout, head_fields, layout_of_kind};
 use std::alloc::{AllocError, Allocator};
+use text_fields::put_hex;
 
 // Adds a line of a name and bytes in hexadecimal digits.
 fn put_hex_line<A: Allocator>(

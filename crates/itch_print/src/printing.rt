@@ -7,10 +7,9 @@ ghost use Rattle.itch_layouts.specs.StaticFields.{as_field};
 ghost use Rattle.itch_print.specs.Printing.{HasField};
 ghost use Rattle.itch_print.specs.Disassembly.{value_text, field_text, field_texts};
 
-use crate::numbers::put_number;
-use crate::quoting::put_quoted;
 use itch_layouts::{Field, Form};
 use std::alloc::{AllocError, Allocator};
+use text_fields::{put_number, put_quoted};
 
 // Adds what stands in a field.
 fn put_value<A: Allocator>(

@@ -7,9 +7,9 @@ use Rattle.binaryfile.specs.Entries.{Contents}
 use Rattle.day_segments.specs.Reading.{HasRead, IsWholeFile, Reading, followed_by, nothing_read}
 use Rattle.binaryfile.specs.declared.load.LoadFault.{LoadFault}
 use Rattle.binaryfile.specs.declared.load.LoadFault.TheVariants.{Memory, Read, TooManyBytes, TooManyMessages as LoadedTooMany}
-use Rattle.itch_engine.specs.FaultOrigins.{fault_of_load}
-use Rattle.itch_engine.specs.declared.fault.ProgFault.TheVariants.{TooManyMessages}
-use Rattle.itch_engine.specs.Runs.{Engine, StopsReading}
+use Rattle.engine_rules.specs.FaultOrigins.{fault_of_load}
+use Rattle.engine_rules.specs.declared.fault.ProgFault.TheVariants.{TooManyMessages}
+use Rattle.engine_rules.specs.Runs.{Engine, StopsReading}
 use Rattle.itch_readings.specs.Engines.{GaveStocks, stock_lister}
 use Rattle.itch_readings.specs.Naming.{AreListed}
 use Rattle.itch_readings.specs.declared.naming.Listed.{Listed}

@@ -4,8 +4,8 @@ use Rattle.std.proofs.lemmas.List.{length-append}
 use Rattle.std.specs.Prelude.{MatchOption, Option, option_map}
 use Rattle.binaryfile.specs.Entries.{Contents}
 use Rattle.day_segments.specs.Reading.{HasRead, IsWholeFile, Reading, followed_by, nothing_read}
-use Rattle.itch_engine.specs.declared.fault.ProgFault.TheVariants.{TooManyMessages}
-use Rattle.itch_engine.specs.Runs.{HasMade, StopsReading}
+use Rattle.engine_rules.specs.declared.fault.ProgFault.TheVariants.{TooManyMessages}
+use Rattle.engine_rules.specs.Runs.{HasMade, StopsReading}
 use Rattle.itch_table.specs.declared.order.Top.{Top}
 use Rattle.stock_machine.specs.StockRows.{StockMachine}
 use Rattle.itch_readings.specs.Engines.{GaveNoStock, tops_printer}

@@ -2,8 +2,8 @@
 use Rattle.std.specs.Prelude.{◌≡◌, ◌^◌, ◌-◌, ◌≤◌, ℕ, List, Option, Result, Ok, Err, length}
 use Rattle.binaryfile.specs.Devices.{Device, GaveAll, HasFailed}
 use Rattle.binaryfile.specs.Entries.{Contents, Splits}
-use Rattle.itch_engine.specs.ReplayEngines.{HasTooManyMessages}
-use Rattle.itch_engine.specs.Runs.{Engine, Runs}
+use Rattle.engine_rules.specs.Limits.{HasTooManyMessages}
+use Rattle.engine_rules.specs.Runs.{Engine, Runs}
 use Rattle.itch_readings.specs.Naming.{AreListed, NamesNone, NamesStock}
 use Rattle.itch_readings.specs.StockLines.{listed_lines}
 use Rattle.itch_readings.specs.TopLines.{tops_text}

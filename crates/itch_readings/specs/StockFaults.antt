@@ -1,6 +1,6 @@
 -- The exit status of the program for a fault of an engine of one stock. The numbers are of this project.
 use Rattle.std.specs.Prelude.{ℕ}
-use Rattle.itch_engine.specs.ExitStatus.{fault_status}
+use Rattle.engine_rules.specs.ExitStatus.{fault_status}
 use Rattle.itch_readings.specs.declared.fault.StockFault.{StockFault}
 use Rattle.itch_readings.specs.declared.fault.StockFault.TheVariants.{NoStock, Engine}
 

@@ -1,6 +1,6 @@
 -- The lines of a day's stocks. They are of this project; each ends with a line feed, and its numbers are decimal.
 use Rattle.std.specs.Prelude.{ℕ, ◌+◌, nat_lt, if◌then◌else◌, List, [], ◌∷◌, ◌++◌, Option, Some, None, codes, decimal}
-use Rattle.itch_print.specs.Quoted.{quoted}
+use Rattle.text_fields.specs.Quoted.{quoted}
 use Rattle.itch_readings.specs.declared.naming.Listed.{Listed}
 
 -- a symbol between quotes, or `none` where there is none

@@ -1,12 +1,12 @@
 //! Why an engine of one stock stops.
 ghost use Rattle.std.specs.Prelude.{◌≡◌};
-ghost use Rattle.itch_engine.specs.FaultOrigins.{fault_of_load};
-ghost use Rattle.itch_engine.specs.declared.fault.ProgFault.TheVariants.{Write as WriteFailed};
+ghost use Rattle.engine_rules.specs.FaultOrigins.{fault_of_load};
+ghost use Rattle.engine_rules.specs.declared.fault.ProgFault.TheVariants.{Write as WriteFailed};
 ghost use Rattle.itch_readings.specs.StockFaults.{status_of};
 ghost use Rattle.itch_readings.specs.declared.fault.StockFault.TheVariants.{Engine};
 
 use binaryfile::{LoadFault, WriteFault};
-use itch_engine::{ProgFault, status};
+use engine_rules::{ProgFault, status};
 use thiserror::Error;
 
 /// Why an engine that reads a day for one of its stocks stopped before its work was done. The words are those that the

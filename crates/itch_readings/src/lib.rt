@@ -5,11 +5,11 @@
 //! | [`stocks_run`] | a day file | a line for each of its stocks |
 //! | [`tops_run`] | a day file | a stock's best bid and ask after each of its messages, or each that changes them |
 //!
-//! They meet the contract of the engines of `itch_engine`, `Runs`, but that [`tops_run`] may find that the day hasn't the
+//! They meet the contract of engines, `Runs` of `engine_rules`, but that [`tops_run`] may find that the day hasn't the
 //! stock ([`StockFault`]).
 //!
 //! [`tops`] is the best bid and ask of a stock after each of its messages. [`StockName::of_word`] reads the name of a
-//! stock, and [`find_stock`] finds the stock of a day that it names. A [`StockSearch`] does so message by message.
+//! stock, and [`find_stock`] finds the stock of a day that it names.
 //!
 //! ```rust
 //! if let Some(name) = StockName::of_word("AAPL")
@@ -36,7 +36,7 @@ mod tops_text;
 pub use fault::StockFault;
 pub use moments::{Moment, tops};
 pub use naming::StockName;
-pub use search::{StockSearch, find_stock};
+pub use search::find_stock;
 pub use stocks_engine::stocks_run;
 pub use top_lines::Selection;
 pub use tops_engine::tops_run;

@@ -37,17 +37,8 @@ fn begun_with(listed: &mut [bool], symbol: &[u8; 8], payload: &[u8]) -> Option<u
 /// A locate code names its stock, which begins with its first message. A symbol names the stock of the first directory
 /// message (Nasdaq TotalView-ITCH 5.0, "Stock Directory") that gives the symbol and is applied; the stock begins with that
 /// message, and its messages before are all refused.
-///
-/// ```rust
-/// let mut search = StockSearch::new(alloc, StockName::Symbol(*b"AAPL    "))?;
-/// for payload in day.payloads() {
-///     if let Some(locate) = search.take(payload) {
-///         return Ok(Some(locate));
-///     }
-/// }
-/// ```
 #[derive(Drop)]
-pub struct StockSearch<A: Allocator> {
+pub(crate) struct StockSearch<A: Allocator> {
     name: StockName,
     // By locate code, whether the stock has had a directory message; where the stock is named by its symbol.
     listed: Vec<bool, A>,
@@ -91,8 +82,10 @@ impl<A: Allocator> StockSearch<A> {
     }
 }
 
-/// The locate code of the stock of a day that is named, as [`StockSearch`] finds it; none where the day hasn't the stock.
-/// The memory is that of `alloc`.
+/// The locate code of the stock of a day that is named; none where the day hasn't the stock. The memory is that of `alloc`.
+///
+/// A locate code names its stock. A symbol names the stock of the first directory message (Nasdaq TotalView-ITCH 5.0, "Stock
+/// Directory") that gives the symbol and is applied.
 pub fn find_stock<A: Allocator + Copy>(
     alloc: A,
     day: &Day<A>,

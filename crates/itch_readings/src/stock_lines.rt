@@ -4,9 +4,8 @@ ghost use Rattle.byte_strings.specs.Extending.{Extends};
 ghost use Rattle.itch_readings.specs.StockLines.{listed_line, listed_lines, symbol_words};
 
 use crate::naming::Listed;
-use itch_engine::put_count;
-use itch_print::put_quoted;
 use std::alloc::{AllocError, Allocator};
+use text_fields::{put_count, put_quoted};
 
 // Adds a symbol between quotes, or `none` where there is none.
 fn put_symbol<A: Allocator>(

@@ -1,16 +1,16 @@
 //! The engine that lists the stocks of a day file.
 ghost use Rattle.std.specs.Prelude.{◌≡◌, ◌+◌, ◌↔◌, IfOk, IfErr, IsErrOf};
 ghost use Rattle.binaryfile.specs.Devices.{GaveUpTo, HasFailed};
-ghost use Rattle.itch_engine.specs.declared.limits.TheConstants.{MOST_FILE_BYTES};
-ghost use Rattle.itch_engine.specs.Runs.{Runs, StopsReading};
+ghost use Rattle.engine_rules.specs.declared.limits.TheConstants.{MOST_FILE_BYTES};
+ghost use Rattle.engine_rules.specs.Runs.{Runs, StopsReading};
 ghost use Rattle.itch_readings.specs.Engines.{GaveStocks, stock_lister};
 
 use crate::naming::{Listed, list_more, unlisted};
 use crate::stock_lines::put_stocks;
 use binaryfile::{Feed, Sink, send};
 use day_segments::{SEGMENT_BYTES, SegmentReader};
-use itch_engine::ProgFault;
-use itch_engine::limits::{MOST_FILE_BYTES, MOST_MESSAGES};
+use engine_rules::ProgFault;
+use engine_rules::limits::{MOST_FILE_BYTES, MOST_MESSAGES};
 use std::alloc::Allocator;
 use std::io::{Read, Write};
 

@@ -4,9 +4,9 @@ ghost use Rattle.byte_strings.specs.Extending.{Extends};
 ghost use Rattle.itch_readings.specs.TopLines.{differs, field_names, is_shown, moment_line, shown_line, side_fields};
 
 use crate::moments::Moment;
-use itch_engine::put_count;
 use itch_table::Top;
 use std::alloc::{AllocError, Allocator};
+use text_fields::put_count;
 
 /// Which of a stock's messages have a line.
 #[derive(Debug, Clone, Copy, PartialEq, Eq)]

@@ -1,8 +1,8 @@
 //! The engine that writes the best bid and ask of one stock of a day file.
 ghost use Rattle.std.specs.Prelude.{◌≡◌, ◌+◌, ◌↔◌, IfOk, IfErr, IsErrOf, MatchOption};
 ghost use Rattle.binaryfile.specs.Devices.{GaveUpTo, HasFailed};
-ghost use Rattle.itch_engine.specs.declared.limits.TheConstants.{MOST_FILE_BYTES};
-ghost use Rattle.itch_engine.specs.Runs.{HasMade, StopsReading};
+ghost use Rattle.engine_rules.specs.declared.limits.TheConstants.{MOST_FILE_BYTES};
+ghost use Rattle.engine_rules.specs.Runs.{HasMade, StopsReading};
 ghost use Rattle.itch_readings.specs.Engines.{GaveNoStock, RunsOnStock, tops_printer};
 
 use crate::fault::StockFault;
@@ -11,8 +11,8 @@ use crate::top_lines::Selection;
 use crate::tops_text::TopsText;
 use binaryfile::{Feed, Sink, send};
 use day_segments::{SEGMENT_BYTES, SegmentReader};
-use itch_engine::ProgFault;
-use itch_engine::limits::{MOST_FILE_BYTES, MOST_MESSAGES};
+use engine_rules::ProgFault;
+use engine_rules::limits::{MOST_FILE_BYTES, MOST_MESSAGES};
 use std::alloc::Allocator;
 use std::io::{Read, Write};
 
@@ -58,13 +58,12 @@ fn tops_of_file<A: Allocator + Copy, R: Read>(
 /// of a currency unit; the fields of an empty side are empty.
 ///
 /// A locate code names its stock, whose lines begin at its first message. A symbol names the stock of the first directory
-/// message that gives the symbol and is applied, and its lines begin at that message ([`StockSearch`]).
+/// message that gives the symbol and is applied, and its lines begin at that message.
 ///
 /// The file is read once, and in memory are no more than a segment of 1 MiB, a byte for each locate code, the machine of
 /// this stock, and the text, which is made before it is sent. [`StockFault::NoStock`] comes where the day hasn't the stock,
 /// and nothing was sent then; other faults are those of [`stocks_run`].
 ///
-/// [`StockSearch`]: crate::StockSearch
 /// [`stocks_run`]: crate::stocks_run
 pub fn tops_run<A: Allocator + Copy, R: Read, W: Write>(
     alloc: A,

@@ -41,7 +41,6 @@ pub use laws::{
     live_orders_have_shares, locates_are_parts, one_row_of_words, own_rows_suffice,
     references_stay_spent, stocks_are_independent,
 };
-pub use levels::levels_of;
 pub use order::{Found, Level, Order, OrderRow, Side, Top};
 pub use outcome::{Fault, Outcome, Part};
 pub use parts::{LOCATES, is_of_stock, locate_in, part};

@@ -111,7 +111,7 @@ impl<A: Allocator + Copy> Plain<A> {
     /// A stock's live orders, by rising reference.
     pub fn orders(&self, alloc: A, locate: u16) -> Result<Vec<Order, A>, AllocError>
         ensures list { IfOk result (λ list. list.items ≡ orders_of self.now.world locate) }
-        // They are fewer than messages can be, as `levels_of` requires.
+        // They are fewer than messages can be.
         ensures few { length (orders_of self.now.world locate) < 2 ^ 32 }
     {
         self.rows.orders(alloc, locate)

@@ -1,5 +1,5 @@
 -- What a screen has seen, with a later reading after it.
-use Rattle.std.proofs.Common.{◌≡◌, ℕ, ◌<◌, List, [], ◌∷◌, ◌++◌, Bool, true, filter, refl, ap, sym, subst, ◌∙◌, arith, inl, inr}
+use Rattle.std.proofs.Common.{◌≡◌, ℕ, zero, suc, ◌+◌, ◌<◌, List, [], ◌∷◌, ◌++◌, length, get_or, Bool, true, filter, refl, ap, sym, subst, ◌∙◌, arith, inl, inr}
 use Rattle.std.specs.Prelude.{nat_lt}
 use Rattle.std.proofs.lemmas.Bool.{cases_Bool, lt-ltb, ltb-true}
 use Rattle.std.proofs.lemmas.Grind.{common_steps}
@@ -31,6 +31,14 @@ last_before n d (x ∷ xs) less = elim (cases_Bool (nat_lt x n)) [
 -- the numbers after another reading
 numbers_more : (rs : List Reading) (r : Reading) → numbers (rs ++ r ∷ []) ≡ numbers rs ++ r.message ∷ []
 numbers_more rs r = map-append (λ r. r.message) rs (r ∷ [])
+
+-- the last of some numbers is that of the last reading
+pub last_at : (before n : ℕ) (rs : List Reading) (d : Reading) → length rs ≡ n + 1 → (get_or rs n d).message ≡ last_or before (numbers rs)
+last_at before n [] d is = absurd (omega (arith, is))
+last_at before zero (r ∷ []) d is = refl
+last_at before zero (r ∷ next ∷ rs) d is = absurd (omega (arith, is))
+last_at before (suc n) (r ∷ []) d is = absurd (omega (arith, is))
+last_at before (suc n) (r ∷ next ∷ rs) d is = last_at r.message n (next ∷ rs) d (omega (arith, is))
 
 pub last_is : (rs : List Reading) (r : Reading) → last_or 0 (numbers (rs ++ r ∷ [])) ≡ r.message
 last_is rs r = ap (last_or 0) (numbers_more rs r) ∙ last_push 0 (numbers rs) r.message

@@ -1,8 +1,8 @@
 -- What the engine of a screen makes of an input, and the faults that it finds in one.
 use Rattle.std.specs.Prelude.{◌≡◌, ◌^◌, ◌-◌, ◌≤◌, ℕ, List, length}
 use Rattle.binaryfile.specs.Entries.{Contents, Splits}
-use Rattle.itch_engine.specs.ReplayEngines.{HasTooManyMessages}
-use Rattle.itch_engine.specs.Runs.{Engine}
+use Rattle.engine_rules.specs.Limits.{HasTooManyMessages}
+use Rattle.engine_rules.specs.Runs.{Engine}
 use Rattle.itch_readings.specs.Naming.{NamesStock}
 use Rattle.itch_readings.specs.declared.naming.StockName.{StockName}
 use Rattle.top_cell.specs.declared.reading.Reading.{Reading}

@@ -6,14 +6,13 @@
 //! last doesn't.
 //!
 //! ```rust
-//! let seen = AtomicU64::new(0);
 //! let stock = StockName::Locate(1);
-//! watch_run(rt, rt.alloc(), &mut feed, &mut sink, stock, workers, &FreeGate, &seen)?;
+//! watch_run(rt, rt.alloc(), &mut feed, &mut sink, stock, workers)?;
 //! ```
 //!
 //! Both take `rt`, in whose threads the workers replay and the screen looks; `workers` is a `WorkerCount` of
-//! `day_core`. [`watch_stock`] is a caller to copy from:
-//! it calls `run` of `stock_workers`, and its screen reads the board meanwhile.
+//! `day_core`. [`watch_stock`] is a caller to copy from: it calls `run` of `stock_workers`, and its screen reads the board
+//! meanwhile. [`look`] is for a display that looks at moments of its own.
 //!
 //! All is of this project. An `AllocError` and `StockFault::Engine(ProgFault::Memory)` say that memory was refused.
 #![tactic(auto)]
@@ -23,4 +22,4 @@ mod lines;
 mod watching;
 
 pub use engine::watch_run;
-pub use watching::{watch, watch_stock};
+pub use watching::{look, watch_stock};

@@ -3,8 +3,8 @@ ghost use Rattle.std.specs.Prelude.{◌≡◌, ◌++◌, OnOk};
 ghost use Rattle.byte_strings.specs.Extending.{Extends};
 ghost use Rattle.itch_watch.specs.Lines.{reading_line, reading_lines, side_words};
 
-use itch_engine::put_count;
 use std::alloc::{AllocError, Allocator};
+use text_fields::put_count;
 use top_cell::Reading;
 
 // Adds the price and the shares of a side, or `none` where it is empty.

@@ -1,13 +1,13 @@
 //! A screen of one stock, beside the workers that replay its day.
-ghost use Rattle.std.specs.Prelude.{◌≡◌, ◌<◌, ℕ, List, All, IfOk, length, map, slice_index};
+ghost use Rattle.std.specs.Prelude.{◌≡◌, ◌<◌, ◌≤◌, ◌++◌, ℕ, List, All, IfOk, OnErr, OnOk, length, map, slice_index};
 ghost use Rattle.std.specs.List.{Contains};
-ghost use Rattle.day_core.specs.Owners.{last_message};
+ghost use Rattle.day_core.specs.Owners.{last_message, last_or};
 ghost use Rattle.itch_table.specs.Projection.{IsQuiet};
 ghost use Rattle.itch_table.specs.Shows.{HasMessage, locates_of_day};
 ghost use Rattle.byte_strings.specs.Bytes.{AreBytes};
 ghost use Rattle.stock_workers.specs.Running.{at_last};
 ghost use Rattle.top_cell.specs.Boards.{AreNew, IsOn};
-ghost use Rattle.itch_watch.specs.Watching.{AreSeen, AreSeenToTheEnd, IsReading, IsScreenOf};
+ghost use Rattle.itch_watch.specs.Watching.{AreSeen, AreSeenToTheEnd, IsReading, IsScreenOf, numbers};
 
 use binaryfile::Day;
 use day_core::WorkerCount;
@@ -16,41 +16,84 @@ use std::alloc::{AllocError, Allocator};
 use std::sync::Wait;
 use std::sync::atomic::{AtomicU64, Ordering};
 use std::thread::{Threads, join, yield_now};
-use stock_workers::{Gate, RunFault, run};
+use stock_workers::{FreeGate, RunFault, run};
 use top_cell::{Board, Reading, Screen, TopWriter};
 
 // How often a glance tries to read a cell before other threads get their turn.
 const TRIES: u32 = 4;
 
-/// What a screen sees until `ended` isn't 0: a reading for each glance that shows a later message than those before.
-/// The number of that message is stored in `seen`. The caller passes the screen's own board.
+// The number of the last message that was read; 0 where none was.
+fn last_seen(readings: &[Reading]) -> u32
+    ensures { result ≡ last_or 0 (numbers readings.now) }
+{
+    match readings.last() {
+        Some(reading) => reading.message,
+        None => 0,
+    }
+}
+
+// Adds a reading to those that a screen has seen, where it is of a later message than they are.
+fn note<A: Allocator>(readings: &mut Vec<Reading, A>, reading: Reading) -> Result<(), AllocError>
+    ensures seen { (day : List (List ℕ)) (locate : ℕ) → AreSeen day locate readings.old.items
+        → IsReading day locate reading → AreSeen day locate readings.new.items }
+    ensures noted { last_or 0 (numbers readings.old.items) ≤ reading.message
+        → OnOk result (last_or 0 (numbers readings.new.items) ≡ reading.message) }
+    ensures kept { (more : List Reading) × (readings.new.items ≡ readings.old.items ++ more) }
+    ensures err { OnErr result (readings.new.items ≡ readings.old.items) }
+{
+    if reading.message > last_seen(readings) {
+        readings.push(reading)?;
+    }
+    Ok(())
+}
+
+/// Looks once at a screen's stock, and adds a reading to those that the screen has seen where it is of a later message. So
+/// these go up to the message at which the screen stands. The caller passes the screen's own board.
 ///
-/// An error comes at once. Else it returns only once `ended` isn't 0, which it looks at before each glance.
-pub fn watch<R: Wait, A: Allocator + Copy>(
+/// It waits for nobody: where the stock's worker is changing the cell at each of a few tries, nothing is added. An error
+/// says that memory was refused. Then nothing was added either, but the screen may stand at a later message, which the
+/// next look adds.
+pub fn look<A: Allocator>(
+    board: &Board<A>,
+    screen: &mut Screen,
+    readings: &mut Vec<Reading, A>,
+) -> Result<(), AllocError>
+    requires { IsOn board.now screen.old.place }
+    ensures place { screen.new.place ≡ screen.old.place }
+    ensures seen { AreSeen screen.old.place.day screen.old.place.locate readings.old.items
+        → AreSeen screen.old.place.day screen.old.place.locate readings.new.items }
+    ensures noted { last_or 0 (numbers readings.old.items) ≡ screen.old.message
+        → OnOk result (last_or 0 (numbers readings.new.items) ≡ screen.new.message) }
+    ensures kept { (more : List Reading) × (readings.new.items ≡ readings.old.items ++ more) }
+    ensures err { OnErr result (readings.new.items ≡ readings.old.items) }
+{
+    match screen.glance(board, TRIES) {
+        Ok(reading) => note(readings, reading),
+        Err(_) => Ok(()),
+    }
+}
+
+// What a screen sees until `ended` isn't 0, to the message at which it stands then. An error comes at once; else it returns
+// only once `ended` isn't 0, which it looks at before each look at the board.
+fn watch<R: Wait, A: Allocator + Copy>(
     rt: &R,
     alloc: A,
     board: &Board<A>,
-    mut screen: Screen,
-    seen: &AtomicU64,
+    screen: &mut Screen,
     ended: &AtomicU64,
 ) -> Result<Vec<Reading, A>, AllocError>
-    requires { IsOn board.now screen.place }
-    ensures { IfOk result (λ readings.
-        AreSeen screen.place.day screen.place.locate readings.items) }
+    requires { IsOn board.now screen.old.place }
+    ensures seen { IfOk result (λ readings.
+        AreSeen screen.old.place.day screen.old.place.locate readings.items) }
+    ensures noted { screen.old.message ≡ 0
+        → IfOk result (λ readings. last_or 0 (numbers readings.items) ≡ screen.new.message) }
 {
     let mut readings = Vec::new(alloc);
-    let mut last = 0;
     for _ in rt.forever() {
         if ended.load(Ordering::SeqCst) != 0 {
             return Ok(readings);
         }
-        if let Ok(reading) = screen.glance(board, TRIES)
-            && reading.message > last
-        {
-            last = reading.message;
-            readings.push(reading)?;
-            seen.store(u64::from(last), Ordering::SeqCst);
-        }
+        look(board, screen, &mut readings)?;
         yield_now();
     }
     unreachable!()
@@ -118,19 +161,18 @@ fn to_the_end<A: Allocator>(
 }
 
 // Replays the day, and gives back the writers.
-fn replay<R: Threads + Wait + Sync, A: Allocator + Copy + Send + Sync, G: Gate>(
+fn replay<R: Threads + Wait + Sync, A: Allocator + Copy + Send + Sync>(
     rt: &R,
     alloc: A,
     day: &Day<A>,
     board: &Board<A>,
     writers: Vec<TopWriter, A>,
     workers: WorkerCount,
-    gate: &G,
 ) -> Result<Vec<TopWriter, A>, AllocError>
     requires { AreNew day.now.payloads (locates_of_day day.now.payloads) board.now writers.items }
     ensures { IfOk result (λ last. last.items ≡ map (at_last day.now.payloads) writers.items) }
 {
-    match run(rt, alloc, day, board, writers, workers.get(), gate) {
+    match run(rt, alloc, day, board, writers, workers.get(), &FreeGate) {
         Ok(replayed) => Ok(replayed.writers),
         Err(RunFault::Memory) => Err(AllocError),
         Err(RunFault::Workers) => unreachable!(),
@@ -139,7 +181,7 @@ fn replay<R: Threads + Wait + Sync, A: Allocator + Copy + Send + Sync, G: Gate>(
 
 // What a screen sees while workers replay the day, and the writers after it. The screen has a thread of its own; where
 // none can be made, it sees nothing.
-fn look_and_replay<R: Threads + Wait + Sync, A: Allocator + Copy + Send + Sync, G: Gate>(
+fn look_and_replay<R: Threads + Wait + Sync, A: Allocator + Copy + Send + Sync>(
     rt: &R,
     alloc: A,
     day: &Day<A>,
@@ -147,8 +189,6 @@ fn look_and_replay<R: Threads + Wait + Sync, A: Allocator + Copy + Send + Sync, 
     screen: Screen,
     writers: Vec<TopWriter, A>,
     workers: WorkerCount,
-    gate: &G,
-    seen: &AtomicU64,
     ended: &AtomicU64,
 ) -> (
     Result<Vec<Reading, A>, AllocError>,
@@ -160,40 +200,36 @@ fn look_and_replay<R: Threads + Wait + Sync, A: Allocator + Copy + Send + Sync, 
         AreSeen screen.place.day screen.place.locate readings.items) }
     ensures ends { IfOk result.1 (λ last. last.items ≡ map (at_last day.now.payloads) writers.items) }
 {
-    let look = move || -> Result<Vec<Reading, A>, AllocError>
+    let watching = move || -> Result<Vec<Reading, A>, AllocError>
         requires { IsOn board.now screen.place }
         ensures { IfOk result (λ readings.
             AreSeen screen.place.day screen.place.locate readings.items) }
-    { watch(rt, alloc, board, screen, seen, ended) };
+    {
+        let mut screen = screen;
+        watch(rt, alloc, board, &mut screen, ended)
+    };
     let work = || -> Result<Vec<TopWriter, A>, AllocError>
         requires { AreNew day.now.payloads (locates_of_day day.now.payloads) board.now writers.items }
         ensures { IfOk result (λ last. last.items ≡ map (at_last day.entry.now.payloads) writers.items) }
     {
-        let replayed = replay(rt, alloc, day, board, writers, workers, gate);
+        let replayed = replay(rt, alloc, day, board, writers, workers);
         ended.store(1, Ordering::SeqCst);
         replayed
     };
-    join(rt, look, work)
+    join(rt, watching, work)
 }
 
 /// Replays a day by 1 to 64 workers, while a screen looks at one of its stocks in a thread of its own, and gives what
-/// the screen has seen, to the stock's last message. Prices are in 1/10,000 of a currency unit. The stock has a message
-/// in the day.
+/// the screen has seen, to the stock's last message, which is read after the run. Prices are in 1/10,000 of a currency
+/// unit. The stock has a message in the day.
 ///
-/// The number of the message that the screen has seen last is stored in `seen` while the workers run, for whoever asks
-/// how far it is: a gate, or a display. A gate that waits for it has to give up after a while, since the screen may
-/// pass over messages, and sees none where it has no thread or was refused memory. The last message is read after the
-/// run, and isn't stored.
-///
-/// It may wait at the gate, and for its threads.
-pub fn watch_stock<R: Threads + Wait + Sync, A: Allocator + Copy + Send + Sync, G: Gate>(
+/// It waits for its threads.
+pub fn watch_stock<R: Threads + Wait + Sync, A: Allocator + Copy + Send + Sync>(
     rt: &R,
     alloc: A,
     day: &Day<A>,
     locate: u16,
     workers: WorkerCount,
-    gate: &G,
-    seen: &AtomicU64,
 ) -> Result<Vec<Reading, A>, AllocError>
     requires bytes { All AreBytes day.now.payloads }
     requires stock { HasMessage day.now.payloads locate }
@@ -203,7 +239,7 @@ pub fn watch_stock<R: Threads + Wait + Sync, A: Allocator + Copy + Send + Sync, 
     let (index, screen) = screen_of(&board, &mut writers, locate);
     let ended = AtomicU64::new(0);
     let (readings, writers) = look_and_replay(
-        rt, alloc, day, &board, screen, writers, workers, gate, seen, &ended,
+        rt, alloc, day, &board, screen, writers, workers, &ended,
     );
     let mut writers = writers?;
     let last = last_reading(rt, &board, &mut writers[index]);

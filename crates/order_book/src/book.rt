@@ -208,7 +208,7 @@ impl<A: Allocator + Copy> Book<A> {
     /// The live orders, by rising reference.
     pub fn orders(&self, alloc: A) -> Result<Vec<Order, A>, AllocError>
         ensures list { IfOk result (λ list. list.items ≡ orders_in self.now) }
-        // They are few enough for `levels_of`.
+        // They are fewer than messages can be.
         ensures few { length (orders_in self.now) < 2 ^ 32 }
     {
         self.orders.list(alloc)

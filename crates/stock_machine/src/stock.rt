@@ -123,7 +123,7 @@ impl<A: Allocator + Copy> Stock<A> {
     /// The live orders, by rising reference.
     pub fn orders(&self, alloc: A) -> Result<Vec<Order, A>, AllocError>
         ensures list { IfOk result (λ list. list.items ≡ orders_of self.now.world self.now.locate) }
-        // They are fewer than messages can be, as `levels_of` requires.
+        // They are fewer than messages can be.
         ensures few { length (orders_of self.now.world self.now.locate) < 2 ^ 32 }
     {
         self.rows.orders(alloc)

@@ -48,7 +48,8 @@ pub record AreFinished {A : Type 0} (day : List (List ℕ)) (parts : DayParts) (
 
 -- what all workers made, put together by worker
 pub record AreGathered (day : List (List ℕ)) (parts : DayParts) (writers : List WriterAt)
-    (pieces : List (List Piece)) (stocks : List (List StockMachine)) (after : List (List WriterAt)) : Type 0 where
+    (pieces : List (List Piece)) (stocks : List (List StockMachine)) (after : List (List WriterAt))
+    : Type 0 where
   pub pieces_are : pieces ≡ each_worker (pieces_by day parts.workers) parts.workers
   pub stocks_are : stocks
       ≡ each_worker (λ w. map (last_machine day) (locates_by parts.workers w parts.locates)) parts.workers

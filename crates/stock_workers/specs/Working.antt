@@ -73,7 +73,8 @@ stands day w locate = record { day = day; locate = locate; message = progress_in
 pub record IsWorkerOf (day : List (List ℕ)) (w : Working) : Type 0 where
   pub parts_are : ArePartsOf day w.parts
   pub within : w.done ≤ length (messages_of day w)
-  pub stocks_are : w.stocks ≡ map (λ locate. machine_of day locate (progress_in day w locate)) (locates_in day w)
+  pub stocks_are : w.stocks
+      ≡ map (λ locate. machine_of day locate (progress_in day w locate)) (locates_in day w)
   pub writers_are : WritersAt day (progress_in day w) (locates_in day w) w.writers
 
 -- a turn may need memory: a message is left that may

@@ -84,7 +84,8 @@ pub(crate) fn finish_all<R: Threads + Wait + Sync, A: Allocator + Copy + Send + 
         &|waiting: Waiting<A>| -> Result<Finished<A>, AllocError>
             requires { IsSync R.row × IsSync G.row × IsSend A.row × IsSync A.row
                 × Frees A.Allocator A.dealloc_token × ArePartsOf day.now.payloads parts.now
-                × IsWaiting day.now.payloads parts.now.workers board.now waiting.worker waiting.writers.items }
+                × IsWaiting day.now.payloads parts.now.workers board.now waiting.worker
+                waiting.writers.items }
             ensures { IfOk result (λ made. IsFinished day.entry.now.payloads parts.entry.now waiting.worker
                 waiting.writers.items made.pieces.items made.stocks.items made.writers.items) }
         { finish(rt, alloc, day, board, parts, waiting, gate) },

@@ -8,7 +8,6 @@ use itch_watch::watch_run;
 use std::alloc::Allocator;
 use std::io::{Read, Write};
 use std::sync::Wait;
-use std::sync::atomic::AtomicU64;
 use std::thread::Threads;
 use stock_workers::FreeGate;
 use test_support::{DIGITS, FILE, REPORT, TEXT};
@@ -147,8 +146,7 @@ impl Engine {
                 Ok(0)
             }
             Engine::Watch => {
-                let (name, seen) = (StockName::Locate(3), AtomicU64::new(0));
-                watch_run(rt, alloc, &mut feed, &mut sink, name, one, &FreeGate, &seen)?;
+                watch_run(rt, alloc, &mut feed, &mut sink, StockName::Locate(3), one)?;
                 Ok(0)
             }
         };

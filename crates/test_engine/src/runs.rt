@@ -132,40 +132,28 @@ fn try_report<T: AllocGlobal + Threads + Wait + Sync>(
     same_bytes("a report", &output, report)
 }
 
-// What a screen sees while this many workers replay the file of two stocks, whose seven messages are all of a stock. Of
-// the workers the one that has the stock of locate code 3 comes to this many of them.
-fn try_watch<T: AllocGlobal + Threads + Wait + Sync>(
-    rt: &T,
-    workers: u32,
-    own: u64,
-) -> Result<(), Fail> {
+// What a screen sees while this many workers replay the file of two stocks.
+fn try_watch<T: AllocGlobal + Threads + Wait + Sync>(rt: &T, workers: u32) -> Result<(), Fail> {
     let engine = Engine::Watch;
     let mut output = Vec::new(rt.alloc());
-    let count = worker_count(workers)?;
-    let gate = Counting::new(3, count);
     let returned = watch_run(
         rt,
         rt.alloc(),
         &mut Feed::new(engine.input()),
         &mut Sink::new(&mut output),
         StockName::Locate(3),
-        count,
-        &gate,
-        &AtomicU64::new(0),
+        worker_count(workers)?,
     );
     same("a result", &(workers, returned), &(workers, Ok(())))?;
-    same_bytes("what a screen sees", &output, engine.output())?;
-    gate.compare(workers, (7, own, 28))
+    same_bytes("what a screen sees", &output, engine.output())
 }
 
-// Messages 1, 3, 5 and 7 of the file of two stocks are of locate code 1, messages 2 and 4 of 2, and message 6 of 3. Two
-// workers have one list for 1 and 3.
 #[test]
 fn outputs_are_the_same_for_all_numbers_of_workers(rt: HostRuntime) -> Result<(), Fail> {
-    for (workers, own) in [(1, 7), (2, 5), (3, 1), (64, 1)] {
+    for workers in [1, 2, 3, 64] {
         try_replay(&rt, workers)?;
         try_report(&rt, workers, FILE, 1, REPORT)?;
-        try_watch(&rt, workers, own)?;
+        try_watch(&rt, workers)?;
     }
     Ok(())
 }

@@ -7,6 +7,7 @@ use std::alloc::{AllocError, Allocator, Global};
 use std::test::Fail;
 use test_refusing::{Refusal, Refusing, Tried, refuse_each};
 use test_support::{FILE, TEXT, same, same_bytes};
+use text_fields::put_quoted_byte;
 
 const FIELD: &[u8] = b"A\x00B     ";
 
@@ -78,14 +79,18 @@ fn each_growth_of_a_text_may_be_refused(rt: HostRuntime) -> Result<(), Fail> {
 #[derive(Debug, Clone, Copy, PartialEq, Eq)]
 enum Added {
     Field,
+    Byte,
+    NoByte,
     Number,
 }
 
 impl Added {
-    // Its bytes: the field quoted, or the digits of the greatest number.
+    // Its bytes: the field or the byte quoted, or the digits of the greatest number.
     fn bytes(self) -> &'static [u8] {
         match self {
             Added::Field => QUOTED,
+            Added::Byte => b"\"O\"",
+            Added::NoByte => b"none",
             Added::Number => b"18446744073709551615",
         }
     }
@@ -94,6 +99,8 @@ impl Added {
     fn add<A: Allocator>(self, text: &mut Vec<u8, A>) -> Result<(), AllocError> {
         match self {
             Added::Field => put_quoted(text, FIELD),
+            Added::Byte => put_quoted_byte(text, Some(b'O')),
+            Added::NoByte => put_quoted_byte(text, None),
             Added::Number => put_number(text, u64::MAX),
         }
     }
@@ -121,7 +128,12 @@ fn try_add(heap: &Refusing<Global>, added: Added, refusal: Refusal) -> Result<Tr
 #[test]
 fn a_field_or_a_number_is_added_whole_or_not_at_all(rt: HostRuntime) -> Result<(), Fail> {
     let heap = Refusing::new(rt.alloc(), Refusal::Never);
-    for (added, wanted) in [(Added::Field, 2), (Added::Number, 1)] {
+    for (added, wanted) in [
+        (Added::Field, 2),
+        (Added::Byte, 1),
+        (Added::NoByte, 1),
+        (Added::Number, 1),
+    ] {
         let growths = refuse_each(|refusal: Refusal| -> Result<Tried, Fail> {
             try_add(&heap, added, refusal)
         })?;

@@ -1,11 +1,14 @@
 //! Turns that are refused memory and taken again, at a gate that notes with which messages it is called.
-ghost use Rattle.std.specs.Prelude.{All};
+ghost use Rattle.std.specs.Prelude.{◌≡◌, All};
+ghost use Rattle.day_core.specs.Splitting.{ArePartsOf};
 ghost use Rattle.top_cell.specs.Boards.{IsOn};
+ghost use Rattle.stock_workers.specs.Running.{IsWaiting};
 ghost use Rattle.stock_workers.specs.Working.{IsWorkerOf, places_of};
 
-use crate::turns::{only_worker, prepare};
+use crate::turns::{Waiting, only_worker, prepare};
 use binaryfile::Day;
-use std::alloc::Global;
+use day_core::Parts;
+use std::alloc::{Allocator, Global};
 use std::sync::Wait;
 use std::sync::atomic::{AtomicU64, Ordering};
 use std::test::Fail;
@@ -37,12 +40,12 @@ impl Gate for Noting {
 // Takes the turns of the only worker of two stocks under a refusal, and one more where none of its seven messages is
 // left. A turn that is refused is taken again with memory. The gate was called once for each try, with the message of
 // that turn, and not at all where no message was left.
-fn take_turns<'h, R: Threads + Wait + Sync>(
+fn take_turns<R: Threads + Wait + Sync, A: Allocator + Copy + Send + Sync>(
     rt: &R,
-    heap: &'h Refusing<Global>,
-    day: &Day<&'h Refusing<Global>>,
-    board: &Board<&'h Refusing<Global>>,
-    worker: &mut Worker<'_, &'h Refusing<Global>>,
+    heap: &Refusing<Global>,
+    day: &Day<A>,
+    board: &Board<A>,
+    worker: &mut Worker<'_, A>,
 ) -> Result<Tried, Fail>
     requires worker { IsWorkerOf day.now.payloads worker.old }
     requires board { All (IsOn board.now) (places_of worker.old) }
@@ -67,23 +70,46 @@ fn take_turns<'h, R: Threads + Wait + Sync>(
 }
 
 // Takes the turns of a new worker under a refusal.
-fn try_turns<R: Threads + Wait + Sync>(
+fn turns_of<R: Threads + Wait + Sync, A: Allocator + Copy + Send + Sync>(
     rt: &R,
     heap: &Refusing<Global>,
+    alloc: A,
+    day: &Day<A>,
+    parts: &Parts<A>,
+    waiting: Waiting<A>,
+    refusal: Refusal,
+) -> Result<Tried, Fail>
+    requires parts { ArePartsOf day.now.payloads parts.now }
+    requires one { parts.now.workers ≡ 1 }
+    requires waits { IsWaiting day.now.payloads 1 waiting.board 0 waiting.writers.items }
+    requires screen { IsOn waiting.board waiting.screen.place }
+{
+    match only_worker(alloc, day, parts, waiting) {
+        Ok((mut worker, board, _)) => {
+            heap.restart(refusal);
+            take_turns(rt, heap, day, &board, &mut worker)
+        }
+        Err(error) => Err(Fail::from(error)),
+    }
+}
+
+// Takes the turns of the only worker of two stocks under a refusal.
+fn try_turns<R: Threads + Wait + Sync, A: Allocator + Copy + Send + Sync>(
+    rt: &R,
+    heap: &Refusing<Global>,
+    alloc: A,
     refusal: Refusal,
 ) -> Result<Tried, Fail> {
-    let day = two_stocks(heap)?;
-    let (parts, waiting) = prepare(rt, heap, &day)?;
-    let (mut worker, board, _) = only_worker(heap, &day, &parts, waiting)?;
-    heap.restart(refusal);
-    take_turns(rt, heap, &day, &board, &mut worker)
+    let day = two_stocks(alloc)?;
+    let (parts, waiting) = prepare(rt, alloc, &day)?;
+    turns_of(rt, heap, alloc, &day, &parts, waiting, refusal)
 }
 
 #[test]
 fn a_refused_turn_comes_to_the_gate_again(rt: HostRuntime) -> Result<(), Fail> {
     let heap = Refusing::new(rt.alloc(), Refusal::Never);
     let growths = refuse_each(|refusal: Refusal| -> Result<Tried, Fail> {
-        try_turns(&rt, &heap, refusal)
+        try_turns(&rt, &heap, &heap, refusal)
     })?;
     same("some growths", &(growths > 1 && growths <= 100), &true)
 }

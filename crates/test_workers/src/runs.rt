@@ -1,4 +1,7 @@
 //! Whole runs, by several numbers of workers.
+ghost use Rattle.std.specs.Prelude.{All};
+ghost use Rattle.top_cell.specs.Boards.{IsOn};
+
 use crate::screens::first_screen;
 use crate::stocks::{after_two_stocks, said_by};
 use binaryfile::Day;
@@ -14,7 +17,7 @@ use test_support::{
     ASKED, OF_TWO_STOCKS, crossed_book, day_with, same, same_list, spent_references, spent_up_to,
     system, two_stocks,
 };
-use top_cell::{Board, Reading};
+use top_cell::{Board, Reading, Screen, TopWriter};
 
 /// A day, replayed on a new board.
 pub fn replayed<R: Threads + Wait + Sync>(
@@ -57,24 +60,57 @@ fn two_stocks_are_the_same_for_each_number_of_workers(rt: HostRuntime) -> Result
     Ok(())
 }
 
+// Compares the stock and the writer of a crossed book.
+fn same_crossed<A: Allocator + Copy>(replayed: &Replayed<A>) -> Result<(), Fail> {
+    let counts = (replayed.stocks.len(), replayed.writers.len());
+    same("how many stocks and writers", &counts, &(1, 1))?;
+    for writer in &replayed.writers {
+        same("the writer", &writer.message(), &3)?;
+    }
+    for stock in &replayed.stocks {
+        let top = stock.top();
+        let prices = (top.bid_price, top.ask_price);
+        same("the stock", &prices, &(1_010_000, 1_000_000))?;
+    }
+    Ok(())
+}
+
 #[test]
 fn a_crossed_book_ends_at_its_last_message(rt: HostRuntime) -> Result<(), Fail> {
     let alloc = rt.alloc();
     let day = crossed_book(alloc)?;
     for workers in [1, 2, 3, 64] {
-        let replayed = replayed(&rt, alloc, &day, workers)?;
-        let counts = (replayed.stocks.len(), replayed.writers.len());
-        same("how many stocks and writers", &counts, &(1, 1))?;
-        for writer in &replayed.writers {
-            same("the writer", &writer.message(), &3)?;
-        }
-        for stock in &replayed.stocks {
-            let top = stock.top();
-            let prices = (top.bid_price, top.ask_price);
-            same("the stock", &prices, &(1_010_000, 1_000_000))?;
-        }
+        same_crossed(&replayed(&rt, alloc, &day, workers)?)?;
     }
     Ok(())
+}
+
+// Compares what two screens of a board read: one from before a run, and one that a writer makes after it.
+fn same_readings<R: Wait, A: Allocator>(
+    rt: &R,
+    board: &Board<A>,
+    early: &mut Screen,
+    writers: &mut Vec<TopWriter, A>,
+) -> Result<(), Fail>
+    requires early { IsOn board.now early.old.place }
+    requires writers { All (λ w. IsOn board.now w.place) writers.old.items }
+{
+    let mut late = first_screen(board, writers)?;
+    let crossed = Reading {
+        message: 3,
+        bid_price: 1_010_000,
+        bid_shares: 100,
+        ask_price: 1_000_000,
+        ask_shares: 50,
+    };
+    same("a screen that hasn't looked yet", &early.message(), &0)?;
+    same("a glance", &early.glance(board, 1), &Ok(crossed))?;
+    let found = (early.read(rt, board), late.read(rt, board));
+    same(
+        "a screen from before the run, and one from after it",
+        &found,
+        &(crossed, crossed),
+    )
 }
 
 #[test]
@@ -83,23 +119,10 @@ fn screens_read_the_last_message_after_a_run(rt: HostRuntime) -> Result<(), Fail
     let day = crossed_book(alloc)?;
     let (board, mut writers) = Board::new(alloc, &day)?;
     let mut early = first_screen(&board, &mut writers)?;
-    same("before the run", &early.message(), &0)?;
-    let mut replayed = run(&rt, alloc, &day, &board, writers, 2, &FreeGate)?;
-    let mut late = first_screen(&board, &mut replayed.writers)?;
-    let crossed = Reading {
-        message: 3,
-        bid_price: 1_010_000,
-        bid_shares: 100,
-        ask_price: 1_000_000,
-        ask_shares: 50,
-    };
-    same("a glance", &early.glance(&board, 1), &Ok(crossed))?;
-    let found = (early.read(&rt, &board), late.read(&rt, &board));
-    same(
-        "a screen from before the run, and one from after it",
-        &found,
-        &(crossed, crossed),
-    )
+    match run(&rt, alloc, &day, &board, writers, 2, &FreeGate) {
+        Ok(mut replayed) => same_readings(&rt, &board, &mut early, &mut replayed.writers),
+        Err(fault) => Err(Fail::from(fault)),
+    }
 }
 
 // What becomes of the messages of a day on which references are asked for again.
@@ -150,31 +173,42 @@ fn spent_references_are_the_same_for_each_number_of_workers(rt: HostRuntime) -> 
     Ok(())
 }
 
+// The last event, and how many stocks there are.
+fn event_of<A: Allocator>(replayed: &Replayed<A>) -> (Option<u8>, usize) {
+    (replayed.event, replayed.stocks.len())
+}
+
 #[test]
 fn a_run_returns_the_last_event(rt: HostRuntime) -> Result<(), Fail> {
     let alloc = rt.alloc();
     let day = day_with(alloc, &[system(0, b'O'), system(0, b'S')])?;
-    let replayed = replayed(&rt, alloc, &day, 2)?;
-    same("the event", &replayed.event, &Some(b'S'))?;
-    same("how many stocks", &replayed.stocks.len(), &0)
+    let found = event_of(&replayed(&rt, alloc, &day, 2)?);
+    same("the event, and how many stocks", &found, &(Some(b'S'), 0))
+}
+
+// The fault of a run by this many workers that is refused all memory, and how many growths it has asked for.
+fn fault_of<R: Threads + Wait + Sync, A: Allocator + Copy + Send + Sync>(
+    rt: &R,
+    heap: &Refusing<Global>,
+    alloc: A,
+    day: &Day<A>,
+    workers: u32,
+) -> Result<(Option<RunFault>, u64), Fail> {
+    heap.restart(Refusal::Never);
+    let (board, writers) = Board::new(alloc, day)?;
+    heap.restart(Refusal::From(1));
+    let fault = run(rt, alloc, day, &board, writers, workers, &FreeGate).err();
+    Ok((fault, heap.asked()))
 }
 
 // The number is looked at before any growth.
 #[test]
 fn a_number_of_workers_is_from_1_to_64(rt: HostRuntime) -> Result<(), Fail> {
     let heap = Refusing::new(rt.alloc(), Refusal::Never);
-    let alloc = &heap;
-    let day = two_stocks(alloc)?;
+    let day = two_stocks(&heap)?;
     for workers in [0, 65] {
-        heap.restart(Refusal::Never);
-        let (board, writers) = Board::new(alloc, &day)?;
-        heap.restart(Refusal::From(1));
-        let fault = run(&rt, alloc, &day, &board, writers, workers, &FreeGate).err();
-        same(
-            "the fault, and the growths",
-            &(fault, heap.asked()),
-            &(Some(RunFault::Workers), 0),
-        )?;
+        let found = fault_of(&rt, &heap, &heap, &day, workers)?;
+        same("fault and growths", &found, &(Some(RunFault::Workers), 0))?;
     }
     Ok(())
 }

@@ -16,9 +16,7 @@ use std::test::Fail;
 use std::thread::Threads;
 use stock_workers::{FreeGate, Worker};
 use test_refusing::{Refusal, Refusing, Tried, refuse_any, refuse_each};
-use test_support::{
-    AAPL, MSFT, Ticker, crossed_book, day_with, same, same_list, system, two_stocks,
-};
+use test_support::{AAPL, MSFT, Ticker, day_with, same, same_list, system, two_stocks};
 use top_cell::{Board, Reading, Screen, TopWriter};
 
 /// The writers of the only worker of a day, their board, and a screen of the day's first stock.
@@ -76,13 +74,13 @@ pub fn only_worker<'p, A: Allocator + Copy>(
     Ok((worker, board, screen))
 }
 
-// What becomes of a message.
-fn piece(message: u32, outcome: Outcome) -> Option<Piece> {
+/// What becomes of a message.
+pub fn piece(message: u32, outcome: Outcome) -> Option<Piece> {
     Some(Piece { message, outcome })
 }
 
-// The four words of a reading.
-fn words_of(reading: Reading) -> [u64; 4] {
+/// The four words of a reading.
+pub fn words_of(reading: Reading) -> [u64; 4] {
     let Reading {
         message,
         bid_price,
@@ -97,59 +95,6 @@ fn words_of(reading: Reading) -> [u64; 4] {
         ask_shares,
     };
     top.to_words(message)
-}
-
-// Takes the turns of the only worker of a day, and the same turns without threads. After each of them, the screen reads
-// what is looked at there.
-fn follow<R: Threads + Wait + Sync, A: Allocator + Copy>(
-    rt: &R,
-    day: &Day<A>,
-    board: &Board<A>,
-    worker: &mut Worker<'_, A>,
-    screen: &mut Screen,
-    turns: &mut Turns<'_, A>,
-    wanted: &[(Option<Piece>, [u64; 4])],
-) -> Result<(), Fail>
-    requires worker { IsWorkerOf day.now.payloads worker.old }
-    requires board { All (IsOn board.now) (places_of worker.old) }
-    requires screen { IsOn board.now screen.old.place }
-{
-    for after in wanted {
-        let piece = worker.turn(rt, day, board, &FreeGate)?;
-        let words = words_of(screen.read(rt, board));
-        same("a turn", &(piece, words), after)?;
-        let looked = (turns.turn(0)?, turns.look(1));
-        same("the same turn without threads", &looked, after)?;
-    }
-    Ok(())
-}
-
-#[test]
-fn a_screen_reads_what_each_turn_leaves(rt: HostRuntime) -> Result<(), Fail> {
-    let alloc = rt.alloc();
-    let day = crossed_book(alloc)?;
-    let (parts, waiting) = prepare(&rt, alloc, &day)?;
-    let (mut worker, board, mut screen) = only_worker(alloc, &day, &parts, waiting)?;
-    let mut turns = Turns::new(&rt, alloc, &day, 1)?;
-    let crossed = [3, 0x000f_6950_000f_4240, 100, 50];
-    let wanted = [
-        (piece(1, Outcome::Applied), [1, 0, 0, 0]),
-        (
-            piece(2, Outcome::Applied),
-            [2, 0x000f_6950_0000_0000, 100, 0],
-        ),
-        (piece(3, Outcome::Applied), crossed),
-        (None, crossed),
-    ];
-    follow(
-        &rt,
-        &day,
-        &board,
-        &mut worker,
-        &mut screen,
-        &mut turns,
-        &wanted,
-    )
 }
 
 // A worker of a number that is no worker's, without writers.
@@ -185,6 +130,35 @@ fn has_stocks<A: Allocator>(worker: &Worker<'_, A>, stocks: [(u16, bool); 3]) ->
     Ok(())
 }
 
+// A worker without stocks has no turn.
+fn has_nothing<R: Threads + Wait + Sync, A: Allocator + Copy>(
+    rt: &R,
+    day: &Day<A>,
+    board: &Board<A>,
+    worker: &mut Worker<'_, A>,
+) -> Result<(), Fail>
+    requires worker { IsWorkerOf day.now.payloads worker.old }
+    requires places { places_of worker.old ≡ [] }
+{
+    let returned = worker.turn(rt, day, board, &FreeGate)?;
+    same("a turn", &returned, &None)?;
+    has_stocks(worker, [(1, false), (2, false), (3, false)])
+}
+
+// A number of no worker's has nothing.
+fn past_workers<R: Threads + Wait + Sync, A: Allocator + Copy>(
+    rt: &R,
+    alloc: A,
+    day: &Day<A>,
+    parts: &Parts<A>,
+    board: &Board<A>,
+    number: u32,
+) -> Result<(), Fail>
+    requires { ArePartsOf day.now.payloads parts.now }
+{
+    has_nothing(rt, day, board, &mut no_worker(alloc, day, parts, number)?)
+}
+
 // Numbers from 2 on have nothing of a day that is split for two workers, who have these messages.
 fn past_two_workers<R: Threads + Wait + Sync, A: Allocator + Copy + Send + Sync>(
     rt: &R,
@@ -198,10 +172,7 @@ fn past_two_workers<R: Threads + Wait + Sync, A: Allocator + Copy + Send + Sync>
     same_list("the messages of worker 1", parts.own(1), odd)?;
     let (board, _writers) = Board::new(alloc, day)?;
     for number in [2, 3, 63, 64, u32::MAX] {
-        let mut worker = no_worker(alloc, day, &parts, number)?;
-        let returned = worker.turn(rt, day, &board, &FreeGate)?;
-        same("a turn", &(number, returned), &(number, None))?;
-        has_stocks(&worker, [(1, false), (2, false), (3, false)])?;
+        past_workers(rt, alloc, day, &parts, &board, number)?;
     }
     Ok(())
 }
@@ -215,15 +186,16 @@ fn a_number_of_no_worker_has_no_turn(rt: HostRuntime) -> Result<(), Fail> {
 }
 
 // Makes the only worker of the two stocks under a refusal. Where it is refused, the parts are as they were.
-fn make_worker<'h, R: Threads + Wait + Sync>(
+fn make_worker<R: Threads + Wait + Sync, A: Allocator + Copy + Send + Sync>(
     rt: &R,
-    heap: &'h Refusing<Global>,
-    day: &Day<&'h Refusing<Global>>,
+    heap: &Refusing<Global>,
+    alloc: A,
+    day: &Day<A>,
     refusal: Refusal,
 ) -> Result<Tried, Fail> {
-    let (parts, waiting) = prepare(rt, heap, day)?;
+    let (parts, waiting) = prepare(rt, alloc, day)?;
     heap.restart(refusal);
-    let made = only_worker(heap, day, &parts, waiting).is_ok();
+    let made = only_worker(alloc, day, &parts, waiting).is_ok();
     let tried = heap.tried(!made);
     same_list("its messages", parts.own(0), &[1, 2, 3, 4, 5, 6, 7])?;
     Ok(tried)
@@ -232,19 +204,20 @@ fn make_worker<'h, R: Threads + Wait + Sync>(
 // The same, and where it is refused, a worker is made with memory. A list that is refused more room than it needs may
 // ask again for less: where one growth alone is refused, there is no worker exactly where no other growth is asked for
 // after it.
-fn try_worker<R: Threads + Wait + Sync>(
+fn try_worker<R: Threads + Wait + Sync, A: Allocator + Copy + Send + Sync>(
     rt: &R,
     heap: &Refusing<Global>,
+    alloc: A,
     refusal: Refusal,
 ) -> Result<Tried, Fail> {
-    let day = two_stocks(heap)?;
-    let tried = make_worker(rt, heap, &day, refusal)?;
+    let day = two_stocks(alloc)?;
+    let tried = make_worker(rt, heap, alloc, &day, refusal)?;
     if let Refusal::Only(growth) = refusal {
         let last = tried.growths == growth;
         same("one alone", &(growth, tried.refused), &(growth, last))?;
     }
     if tried.refused {
-        let again = make_worker(rt, heap, &day, Refusal::Never)?;
+        let again = make_worker(rt, heap, alloc, &day, Refusal::Never)?;
         same("with memory", &again.refused, &false)?;
     }
     Ok(tried)
@@ -254,7 +227,7 @@ fn try_worker<R: Threads + Wait + Sync>(
 fn a_worker_without_memory_is_none(rt: HostRuntime) -> Result<(), Fail> {
     let heap = Refusing::new(rt.alloc(), Refusal::Never);
     let growths = refuse_each(|refusal: Refusal| -> Result<Tried, Fail> {
-        try_worker(&rt, &heap, refusal)
+        try_worker(&rt, &heap, &heap, refusal)
     })?;
     same("some growths", &(growths >= 2 && growths <= 100), &true)
 }
@@ -329,9 +302,9 @@ fn turns_of_two_stocks() -> [After; 8] {
 }
 
 // Finds a worker's stocks and writers, and none of a stock of no message, without memory.
-fn find_without_memory<'h>(
-    heap: &'h Refusing<Global>,
-    worker: &Worker<'_, &'h Refusing<Global>>,
+fn find_without_memory<A: Allocator + Copy + Send + Sync>(
+    heap: &Refusing<Global>,
+    worker: &Worker<'_, A>,
 ) -> Result<(), Fail> {
     heap.restart(Refusal::From(1));
     has_stocks(worker, [(1, true), (2, true), (9, false)])?;
@@ -359,12 +332,13 @@ fn lead<R: Threads + Wait + Sync, A: Allocator + Copy>(
 }
 
 // Takes a turn under a refusal. Where it is refused, all is as it was, and it is taken with memory.
-fn turn_under<'h, R: Threads + Wait + Sync>(
+fn turn_under<R: Threads + Wait + Sync, A: Allocator + Copy + Send + Sync>(
     rt: &R,
-    heap: &'h Refusing<Global>,
-    day: &Day<&'h Refusing<Global>>,
-    board: &Board<&'h Refusing<Global>>,
-    worker: &mut Worker<'_, &'h Refusing<Global>>,
+    heap: &Refusing<Global>,
+    alloc: A,
+    day: &Day<A>,
+    board: &Board<A>,
+    worker: &mut Worker<'_, A>,
     screen: &mut Screen,
     wanted: &After,
     refusal: Refusal,
@@ -373,16 +347,16 @@ fn turn_under<'h, R: Threads + Wait + Sync>(
     requires board { All (IsOn board.now) (places_of worker.old) }
     requires screen { IsOn board.now screen.old.place }
 {
-    let before = see(rt, heap, board, worker, screen);
+    let before = see(rt, alloc, board, worker, screen);
     heap.restart(refusal);
     let mut returned = worker.turn(rt, day, board, &FreeGate);
     let tried = heap.tried(returned.is_err());
     if tried.refused {
-        let after = see(rt, heap, board, worker, screen);
+        let after = see(rt, alloc, board, worker, screen);
         same("a refused turn", &after, &before)?;
         returned = worker.turn(rt, day, board, &FreeGate);
     }
-    let (first, second, reading) = see(rt, heap, board, worker, screen);
+    let (first, second, reading) = see(rt, alloc, board, worker, screen);
     let (piece, one, two) = *wanted;
     same("a turn", &returned, &Ok(piece))?;
     same(
@@ -394,30 +368,72 @@ fn turn_under<'h, R: Threads + Wait + Sync>(
 }
 
 // Takes the last of these turns under a refusal, after the earlier ones.
-fn try_turn<R: Threads + Wait + Sync>(
+fn last_under<R: Threads + Wait + Sync, A: Allocator + Copy + Send + Sync>(
     rt: &R,
     heap: &Refusing<Global>,
+    alloc: A,
+    day: &Day<A>,
+    board: &Board<A>,
+    worker: &mut Worker<'_, A>,
+    screen: &mut Screen,
     turns: &[After],
     refusal: Refusal,
-) -> Result<Tried, Fail> {
+) -> Result<Tried, Fail>
+    requires worker { IsWorkerOf day.now.payloads worker.old }
+    requires board { All (IsOn board.now) (places_of worker.old) }
+    requires screen { IsOn board.now screen.old.place }
+{
     let Some((wanted, earlier)) = turns.split_last() else {
         return Err(Fail::new("no turn"));
     };
-    let day = two_stocks(heap)?;
-    let (parts, waiting) = prepare(rt, heap, &day)?;
-    let (mut worker, board, mut screen) = only_worker(heap, &day, &parts, waiting)?;
-    lead(rt, &day, &board, &mut worker, earlier)?;
-    find_without_memory(heap, &worker)?;
-    turn_under(
-        rt,
-        heap,
-        &day,
-        &board,
-        &mut worker,
-        &mut screen,
-        wanted,
-        refusal,
-    )
+    lead(rt, day, board, worker, earlier)?;
+    find_without_memory(heap, worker)?;
+    turn_under(rt, heap, alloc, day, board, worker, screen, wanted, refusal)
+}
+
+// Takes the last of these turns of a new worker under a refusal.
+fn last_of<R: Threads + Wait + Sync, A: Allocator + Copy + Send + Sync>(
+    rt: &R,
+    heap: &Refusing<Global>,
+    alloc: A,
+    day: &Day<A>,
+    parts: &Parts<A>,
+    waiting: Waiting<A>,
+    turns: &[After],
+    refusal: Refusal,
+) -> Result<Tried, Fail>
+    requires parts { ArePartsOf day.now.payloads parts.now }
+    requires one { parts.now.workers ≡ 1 }
+    requires waits { IsWaiting day.now.payloads 1 waiting.board 0 waiting.writers.items }
+    requires screen { IsOn waiting.board waiting.screen.place }
+{
+    match only_worker(alloc, day, parts, waiting) {
+        Ok((mut worker, board, mut screen)) => last_under(
+            rt,
+            heap,
+            alloc,
+            day,
+            &board,
+            &mut worker,
+            &mut screen,
+            turns,
+            refusal,
+        ),
+        Err(error) => Err(Fail::from(error)),
+    }
+}
+
+// Takes the last of these turns of the only worker of two stocks under a refusal.
+fn try_turn<R: Threads + Wait + Sync, A: Allocator + Copy + Send + Sync>(
+    rt: &R,
+    heap: &Refusing<Global>,
+    alloc: A,
+    turns: &[After],
+    refusal: Refusal,
+) -> Result<Tried, Fail> {
+    let day = two_stocks(alloc)?;
+    let (parts, waiting) = prepare(rt, alloc, &day)?;
+    last_of(rt, heap, alloc, &day, &parts, waiting, turns, refusal)
 }
 
 #[test]
@@ -428,7 +444,7 @@ fn a_turn_without_memory_is_tried_again(rt: HostRuntime) -> Result<(), Fail> {
     for last in 1..=turns.len() {
         let some = turns.get(..last).unwrap_or(&[]);
         let more = refuse_any(|refusal: Refusal| -> Result<Tried, Fail> {
-            try_turn(&rt, &heap, some, refusal)
+            try_turn(&rt, &heap, &heap, some, refusal)
         })?;
         growths = growths.saturating_add(more);
     }

@@ -63,7 +63,8 @@ impl<A: Allocator> Board<A> {
     // The count and the words of a cell.
     pub(crate) fn cell(&self, index: u16) -> &SharedCell
         requires { index < length self.now }
-        ensures table { (cell : CellId) → slice_get self.now index ≡ Some cell → result.now.table_id ≡ cell.table }
+        ensures table { (cell : CellId) → slice_get self.now index ≡ Some cell
+            → result.now.table_id ≡ cell.table }
         ensures five { result.now.table_id.words ≡ 5 }
         ensures apart { AreApart self.now }
     {

@@ -1,12 +1,12 @@
 //! The engine of the assembler.
 ghost use Rattle.std.specs.Prelude.{◌≡◌, IfOk, IfErr};
-ghost use Rattle.itch_engine.specs.Runs.{Fails, Runs};
+ghost use Rattle.engine_rules.specs.Runs.{Fails, Runs};
 ghost use Rattle.itch_engine.specs.TextEngines.{assembler};
 ghost use Rattle.itch_text.specs.Text.{Text};
 
-use crate::fault::ProgFault;
-use crate::limits::MOST_TEXT_BYTES;
 use binaryfile::{Feed, Sink, read_to_end, send};
+use engine_rules::ProgFault;
+use engine_rules::limits::MOST_TEXT_BYTES;
 use itch_text::assemble;
 use std::alloc::Allocator;
 use std::io::{Read, Write};

@@ -1,14 +1,14 @@
 //! The engine that replays a day file in hexadecimal digits.
 ghost use Rattle.std.specs.Prelude.{◌≡◌, IfOk, IfErr};
-ghost use Rattle.itch_engine.specs.Runs.{Fails, Runs};
+ghost use Rattle.engine_rules.specs.Runs.{Fails, Runs};
 ghost use Rattle.itch_engine.specs.ReplayEngines.{ReplaysDigits, digits_replayer};
 
 use crate::engines::replay::report_of_file;
-use crate::fault::ProgFault;
 use crate::hex_input::decode_digits;
-use crate::limits::MOST_HEX_BYTES;
 use crate::report::file::Report;
 use binaryfile::{Feed, Sink, read_to_end, send};
+use engine_rules::ProgFault;
+use engine_rules::limits::MOST_HEX_BYTES;
 use std::alloc::Allocator;
 use std::io::{Read, Write};
 use std::sync::Wait;

@@ -1,12 +1,12 @@
 //! The engine of the disassembler.
 ghost use Rattle.std.specs.Prelude.{◌≡◌, ◌-◌, ◌^◌, Err, IfOk, IfErr};
 ghost use Rattle.binaryfile.specs.Loading.{HasMoreMessages};
-ghost use Rattle.itch_engine.specs.Runs.{Fails, Runs};
+ghost use Rattle.engine_rules.specs.Runs.{Fails, Runs};
 ghost use Rattle.itch_engine.specs.TextEngines.{Disassembles, disassembler};
 
-use crate::fault::ProgFault;
-use crate::limits::{MOST_FILE_BYTES, MOST_MESSAGES};
 use binaryfile::{Day, Feed, Sink, read_to_end, send};
+use engine_rules::ProgFault;
+use engine_rules::limits::{MOST_FILE_BYTES, MOST_MESSAGES};
 use itch_print::disassemble;
 use std::alloc::Allocator;
 use std::io::{Read, Write};

@@ -4,15 +4,15 @@ ghost use Rattle.binaryfile.specs.Loading.{HasMoreMessages};
 ghost use Rattle.itch_table.specs.After.{outcomes};
 ghost use Rattle.day_core.specs.Replaying.{is_passed, refused_of};
 ghost use Rattle.file_replay.specs.Files.{IsFileSummary};
-ghost use Rattle.itch_engine.specs.Runs.{Fails, Runs};
+ghost use Rattle.engine_rules.specs.Runs.{Fails, Runs};
 ghost use Rattle.itch_engine.specs.ReplayEngines.{Replays, replayer};
 
-use crate::fault::ProgFault;
-use crate::limits::{MOST_FILE_BYTES, MOST_MESSAGES};
 use crate::report::file::{Report, report_of};
 use binaryfile::{Day, Feed, Sink, read_to_end, send};
 use day_core::Piece;
 use day_replay::Summary;
+use engine_rules::ProgFault;
+use engine_rules::limits::{MOST_FILE_BYTES, MOST_MESSAGES};
 use file_replay::FileSummary;
 use itch_table::Outcome;
 use std::alloc::{AllocError, Allocator};

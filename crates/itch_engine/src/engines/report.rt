@@ -1,15 +1,15 @@
 //! The engine that replays a day file while it reads it.
 ghost use Rattle.std.specs.Prelude.{◌≡◌, ◌+◌, ◌<◌, ◌≤◌, ◌^◌, ◌↔◌, IfErr, IfOk, IsErrOf};
 ghost use Rattle.binaryfile.specs.Devices.{GaveUpTo, HasFailed};
-ghost use Rattle.itch_engine.specs.declared.limits.TheConstants.{MOST_FILE_BYTES};
-ghost use Rattle.itch_engine.specs.Runs.{HasMade, Runs, StopsReading};
+ghost use Rattle.engine_rules.specs.declared.limits.TheConstants.{MOST_FILE_BYTES};
+ghost use Rattle.engine_rules.specs.Runs.{HasMade, Runs, StopsReading};
 ghost use Rattle.itch_engine.specs.ReplayEngines.{replayer};
 
-use crate::fault::ProgFault;
-use crate::limits::{MOST_FILE_BYTES, MOST_MESSAGES};
 use crate::report::file::{Report, report_of};
 use binaryfile::{Feed, Limits, Sink, send};
 use day_core::WorkerCount;
+use engine_rules::ProgFault;
+use engine_rules::limits::{MOST_FILE_BYTES, MOST_MESSAGES};
 use file_replay::{Progress, replay_file};
 use std::alloc::Allocator;
 use std::io::{Read, Write};

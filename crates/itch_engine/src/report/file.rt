@@ -10,11 +10,11 @@ ghost use Rattle.itch_engine.specs.Report.{machine_lines, report_of_file, refuse
 ghost use Rattle.itch_engine.specs.Tallies.{IsTally};
 
 use crate::report::messages::{Tally, put_file_line, put_refused_lines, tally_of};
-use crate::report::stock::put_stock;
 use file_replay::FileSummary;
 use itch_table::Side;
 use std::alloc::{AllocError, Allocator};
 use stock_machine::Stock;
+use stock_text::put_stock;
 
 /// The report of a file, and how many of its messages were refused.
 #[derive(Drop)]

@@ -9,12 +9,11 @@ ghost use Rattle.file_replay.specs.Files.{IsFileSummary};
 ghost use Rattle.itch_engine.specs.Report.{counts, file_line, mark, refused_line};
 ghost use Rattle.itch_engine.specs.Tallies.{IsTally};
 
-use crate::report::numbers::put_count;
-use crate::report::quoted_bytes::put_quoted_byte;
 use day_core::Piece;
 use file_replay::FileSummary;
 use itch_table::Outcome;
 use std::alloc::{AllocError, Allocator};
+use text_fields::{put_count, put_quoted_byte};
 
 /// How many messages a file has, and how many of them were applied, passed over and refused.
 #[derive(Clone, Copy)]

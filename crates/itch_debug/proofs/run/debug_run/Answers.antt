@@ -1,6 +1,6 @@
 use Rattle.std.proofs.Common.{◌≡◌, [], true, false, rules}
 use Rattle.std.specs.Prelude.{IfErr}
-use Rattle.itch_engine.specs.declared.fault.ProgFault.TheVariants.{Memory}
+use Rattle.engine_rules.specs.declared.fault.ProgFault.TheVariants.{Memory}
 use Rattle.itch_debug.specs.Going.{session_of}
 use Rattle.itch_debug.specs.Runs.{Faults}
 use Rattle.itch_debug.specs.Sessions.{start}

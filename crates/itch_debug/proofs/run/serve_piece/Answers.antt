@@ -1,7 +1,7 @@
 use Rattle.std.proofs.Common.{◌≡◌, ◌≢◌, ◌<◌, ◌≤◌, ◌++◌, ℕ, true, false, length, take, rules}
 use Rattle.std.specs.Prelude.{Err, IfErr}
 use Rattle.std.specs.Io.KnownBytes.{Consumes, Keeps}
-use Rattle.itch_engine.specs.declared.fault.ProgFault.TheVariants.{Read}
+use Rattle.engine_rules.specs.declared.fault.ProgFault.TheVariants.{Read}
 use Rattle.itch_debug.specs.Going.{session_of}
 use Rattle.itch_debug.specs.Runs.{Halts}
 use Rattle.itch_debug.proofs.Serving.{exceeds, piece_fails, read_fails, serves_more}

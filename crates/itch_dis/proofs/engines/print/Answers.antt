@@ -6,8 +6,8 @@ use Rattle.binaryfile.specs.Devices.{HasFailed}
 use Rattle.binaryfile.specs.Entries.{Contents}
 use Rattle.day_segments.specs.Reading.{Reading}
 use Rattle.day_segments.proofs.SegmentCases.{all_of_it, none_more, one_more, took_within}
-use Rattle.itch_engine.specs.FaultOrigins.{fault_of_load}
-use Rattle.itch_engine.specs.declared.fault.ProgFault.TheVariants.{Memory, TooManyMessages, Write}
+use Rattle.engine_rules.specs.FaultOrigins.{fault_of_load}
+use Rattle.engine_rules.specs.declared.fault.ProgFault.TheVariants.{Memory, TooManyMessages, Write}
 use Rattle.itch_dis.specs.Extents.{closing_text, printer_of, segment_text}
 use Rattle.itch_dis.specs.TextEnds.{text_end_after}
 use Rattle.itch_dis.proofs.Extended.{prints_enough}

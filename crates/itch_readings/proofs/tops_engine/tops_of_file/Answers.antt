@@ -4,7 +4,7 @@ use Rattle.binaryfile.specs.Devices.{GaveMore, HasFailed}
 use Rattle.binaryfile.specs.Entries.{Contents}
 use Rattle.day_segments.specs.Reading.{Reading}
 use Rattle.day_segments.proofs.SegmentCases.{all_of_it, none_more, one_more, took_within}
-use Rattle.itch_engine.specs.Runs.{StopsReading}
+use Rattle.engine_rules.specs.Runs.{StopsReading}
 use Rattle.itch_readings.specs.Engines.{tops_printer}
 use Rattle.itch_readings.proofs.Segmented.{halts}
 use Rattle.itch_readings.specs.TopsSoFar.{AreTopsTo}

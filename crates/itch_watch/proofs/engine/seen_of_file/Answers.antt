@@ -1,7 +1,7 @@
 use Rattle.std.proofs.Common.{subst}
 use Rattle.binaryfile.specs.Entries.{Splits}
 use Rattle.binaryfile.proofs.Splitting.{contents_splits}
-use Rattle.itch_engine.proofs.StockLines.{payloads_are}
+use Rattle.binaryfile.proofs.PayloadBytes.{payloads_are}
 use Rattle.itch_watch.proofs.engine.seen_of_file.Goals as goal
 
 pub watch_stock-requires-clause-bytes : goal.watch_stock-requires-clause-bytes

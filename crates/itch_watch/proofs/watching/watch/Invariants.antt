@@ -9,5 +9,5 @@ invariant-loop g l = record {
   place : l.screen.place ≡ l.fn.screen.place;
   on : IsOn l.board l.screen.place;
   seen : AreSeen l.screen.place.day l.screen.place.locate l.readings.items;
-  stands : last_or 0 (numbers l.readings.items) ≡ l.last;
+  noted : l.fn.screen.message ≡ 0 → last_or 0 (numbers l.readings.items) ≡ l.screen.message;
 }

@@ -1,7 +1,7 @@
 use Rattle.std.proofs.Common.{◌≡◌, ◌<◌, ◌≤◌, ◌++◌, ◌∷◌, [], false, length, rules, arith, refl}
 use Rattle.std.specs.Prelude.{IfErr}
 use Rattle.std.proofs.lemmas.Bool.Decides.{nat_tests}
-use Rattle.itch_engine.specs.declared.fault.ProgFault.TheVariants.{Memory}
+use Rattle.engine_rules.specs.declared.fault.ProgFault.TheVariants.{Memory}
 use Rattle.itch_debug.specs.Going.{session_of}
 use Rattle.itch_debug.specs.Runs.{Unfinished}
 use Rattle.itch_debug.specs.Sessions.{is_line_feed, reply_of}

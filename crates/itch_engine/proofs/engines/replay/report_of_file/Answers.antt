@@ -1,7 +1,7 @@
 use Rattle.std.proofs.Common.{subst}
 use Rattle.binaryfile.specs.Entries.{Splits}
 use Rattle.binaryfile.proofs.Splitting.{contents_splits}
-use Rattle.itch_engine.proofs.StockLines.{payloads_are}
+use Rattle.binaryfile.proofs.PayloadBytes.{payloads_are}
 use Rattle.itch_engine.proofs.engines.replay.report_of_file.Goals as goal
 
 pub returns-clause-report : goal.returns-clause-report

@@ -1,4 +1,4 @@
-use Rattle.itch_engine.proofs.StockLines.{payloads_are}
+use Rattle.binaryfile.proofs.PayloadBytes.{payloads_are}
 use Rattle.itch_engine.proofs.engines.report.report_of_feed.Goals as goal
 
 pub returns-clause-report : goal.returns-clause-report

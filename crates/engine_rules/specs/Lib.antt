@@ -1,0 +1,4 @@
+pub mod Runs
+pub mod Limits
+pub mod FaultOrigins
+pub mod ExitStatus

@@ -1,0 +1,334 @@
+//! The arguments of the program `itch`: what it takes, and what it is asked for by them. They are of this project.
+//!
+//! ```rust
+//! let matches = itch_arguments::parse(rt.alloc(), &arguments)?;
+//! let task = itch_arguments::chosen_task(&matches);
+//! ```
+#![tactic(auto)]
+
+ghost use Rattle.std.specs.Prelude.{◌≡◌, ◌≢◌};
+ghost use Rattle.clap.specs.Values.{kind_of};
+ghost use Rattle.clap.specs.declared.error.kind.ErrorKind.TheVariants.{DisplayHelp, DisplayVersion};
+
+use clap::{Arg, ArgAction, ArgMatches, Command, Error, value_parser};
+use day_core::WorkerCount;
+use std::alloc::{AllocError, Global};
+
+/// What FILE is.
+const DAY_HELP: &str = "A Nasdaq TotalView-ITCH 5.0 day in Nasdaq BinaryFILE form";
+
+/// The commands of a debugging session, with an example each.
+const DEBUG_COMMANDS: &str = "Commands, a line each:
+  goto 1000                  to the position after that many messages
+  step                       one message on
+  back                       one message back
+  onward                     to the next message at which a breakpoint stops
+  rearward                   to the one before
+  break price 1 B 1500000    stop where the shares bid (B) or asked (S) at a price of a stock change
+  break reference 1 42       stop at each message of a stock with that order reference
+  break time 34200000000000  stop at the first message from that time on, in nanoseconds since midnight
+  breaks                     list the breakpoints
+  remove 1                   remove a breakpoint
+  event                      show the last system event
+  show 1                     show a stock
+  quit                       end
+
+Stocks are named by locate code, which `itch stocks FILE` lists. Prices are in 1/10,000 of a currency unit.";
+
+/// What the arguments ask for.
+#[derive(Drop)]
+pub enum Task<'a> {
+    /// To replay a file, by as many workers as the arguments say.
+    Replay {
+        file: &'a str,
+        workers: u32,
+        /// Whether to say how far the replay is.
+        progress: bool,
+    },
+    /// To write a file's text.
+    Disassemble {
+        file: &'a str,
+    },
+    /// To write the lines of a file's messages from one number on, to another or to the file's end.
+    DisassembleBetween {
+        file: &'a str,
+        first: u32,
+        last: Option<u32>,
+    },
+    /// To list a file's stocks.
+    Stocks {
+        file: &'a str,
+    },
+    /// To write the best bid and ask of one of a file's stocks along it.
+    Tops {
+        file: &'a str,
+        stock: &'a str,
+        /// Whether after each of its messages, and not only where they change.
+        every: bool,
+    },
+    /// To replay a file, and write what a screen of one of its stocks sees meanwhile.
+    Watch {
+        file: &'a str,
+        stock: &'a str,
+        workers: u32,
+    },
+    /// To make a file of a text.
+    Assemble {
+        text: &'a str,
+        out: &'a str,
+    },
+    /// To answer the commands of standard input about a file.
+    Debug {
+        file: &'a str,
+    },
+    /// To replay the file whose hexadecimal digits are standard input.
+    ReplayDigits,
+}
+
+// A path that must be given.
+fn path<'a>(alloc: Global, name: &'a str, help: &'a str) -> Arg<'a> {
+    Arg::new(alloc, name).help(help).required(true)
+}
+
+// The number of workers.
+fn workers<'a>(alloc: Global, help: &'a str) -> Arg<'a> {
+    Arg::new(alloc, "workers")
+        .long("workers")
+        .value_name("N")
+        .help(help)
+        .value_parser(value_parser!(u32).range(1..=i64::from(WorkerCount::MOST)))
+        .default_value("1")
+}
+
+// The number of a message.
+fn number<'a>(alloc: Global, name: &'a str, help: &'a str) -> Arg<'a> {
+    Arg::new(alloc, name)
+        .long(name)
+        .value_name("N")
+        .help(help)
+        .value_parser(value_parser!(u32).range(1..=4_294_967_295))
+}
+
+// The arguments that replay a file.
+fn replay_command<'a>(alloc: Global) -> Result<Command<'a>, AllocError> {
+    let workers = workers(
+        alloc,
+        "How many threads replay the day, from 1 to 64, while one more reads it",
+    );
+    let progress = Arg::new(alloc, "progress")
+        .long("progress")
+        .action(ArgAction::SetTrue)
+        .help("Says on standard error how far it is, at most once a second and at the end");
+    let args = vec![in alloc; path(alloc, "FILE", DAY_HELP), workers, progress]?;
+    Command::new(alloc, "replay")
+        .about("Replays a day and prints its report, which is the same for every number of workers")
+        .args(args)
+}
+
+// The arguments that print a file's text.
+fn dis_command<'a>(alloc: Global) -> Result<Command<'a>, AllocError> {
+    let from = number(
+        alloc,
+        "from",
+        "Prints no message before this one, counted from 1, and not the file's end",
+    );
+    let to = number(
+        alloc,
+        "to",
+        "Prints no message after this one, and not the file's end",
+    );
+    let args = vec![in alloc; path(alloc, "FILE", DAY_HELP), from, to]?;
+    Command::new(alloc, "dis")
+        .about("Prints a day as text, one line a message")
+        .args(args)
+}
+
+// The arguments that list a file's stocks.
+fn stocks_command<'a>(alloc: Global) -> Result<Command<'a>, AllocError> {
+    Command::new(alloc, "stocks")
+        .about("Prints the stocks of a day: locate code, symbol and number of messages")
+        .arg(path(alloc, "FILE", DAY_HELP))
+}
+
+// The stock that must be given.
+fn stock<'a>(alloc: Global) -> Arg<'a> {
+    path(
+        alloc,
+        "STOCK",
+        "A symbol, between quotes where it has digits alone, or a locate code in digits",
+    )
+}
+
+// The arguments that print a stock's best bid and ask.
+fn tops_command<'a>(alloc: Global) -> Result<Command<'a>, AllocError> {
+    let every = Arg::new(alloc, "every")
+        .long("every")
+        .action(ArgAction::SetTrue)
+        .help("Prints them after each message of the stock");
+    let args = vec![in alloc; path(alloc, "FILE", DAY_HELP), stock(alloc), every]?;
+    Command::new(alloc, "tops")
+        .about(
+            "Prints the best bid and ask of a stock wherever they change, as comma-separated lines",
+        )
+        .args(args)
+}
+
+// The arguments that print what a screen of a stock sees.
+fn watch_command<'a>(alloc: Global) -> Result<Command<'a>, AllocError> {
+    let workers = workers(alloc, "How many workers replay the day, from 1 to 64");
+    let args = vec![in alloc; path(alloc, "FILE", DAY_HELP), stock(alloc), workers]?;
+    Command::new(alloc, "watch")
+        .about(
+            "Replays a day, and prints what a screen of a stock sees of its best bid and ask meanwhile",
+        )
+        .args(args)
+}
+
+// The arguments that make the file of a text.
+fn asm_command<'a>(alloc: Global) -> Result<Command<'a>, AllocError> {
+    let text = path(
+        alloc,
+        "TEXT",
+        "The text of a day: a line for each entry, as `itch dis` writes it or by hand",
+    );
+    let out = path(
+        alloc,
+        "OUT",
+        "The file to make or replace, which is left alone where the text is faulty",
+    );
+    let args = vec![in alloc; text, out]?;
+    Command::new(alloc, "asm")
+        .about("Makes the file that a text stands for")
+        .args(args)
+}
+
+// The arguments that debug a file.
+fn debug_command<'a>(alloc: Global) -> Result<Command<'a>, AllocError> {
+    Command::new(alloc, "debug")
+        .about("Goes through a day both ways, by commands on standard input")
+        .after_help(DEBUG_COMMANDS)
+        .arg(path(alloc, "FILE", DAY_HELP))
+}
+
+// Adds a command to others, where it was made.
+fn add<'a>(
+    commands: &mut Vec<Command<'a>>,
+    made: Result<Command<'a>, AllocError>,
+) -> Result<(), AllocError> {
+    commands.push(made?)?;
+    Ok(())
+}
+
+// Adds the commands that the program has, in the order of its help.
+fn add_all<'a>(alloc: Global, commands: &mut Vec<Command<'a>>) -> Result<(), AllocError> {
+    add(commands, replay_command(alloc))?;
+    add(commands, dis_command(alloc))?;
+    add(commands, stocks_command(alloc))?;
+    add(commands, tops_command(alloc))?;
+    add(commands, watch_command(alloc))?;
+    add(commands, asm_command(alloc))?;
+    add(commands, debug_command(alloc))
+}
+
+// The arguments that the program takes.
+fn itch_command<'a>(alloc: Global) -> Result<Command<'a>, AllocError> {
+    let mut commands = Vec::new(alloc);
+    add_all(alloc, &mut commands)?;
+    Command::new(alloc, "itch")
+        .about(
+            "Replays a Nasdaq TotalView-ITCH 5.0 day; without words, one in hexadecimal digits on standard input",
+        )
+        .disable_help_subcommand(true)
+        .subcommands(commands)
+}
+
+/// The arguments, read, or why they are invalid.
+pub fn parse<'a>(alloc: Global, arguments: &'a [String]) -> Result<ArgMatches<'a>, Error> {
+    itch_command(alloc)?.try_get_matches_from(arguments)
+}
+
+// How a file is disassembled: whole, or between two of its messages.
+fn disassembling<'a>(dis: &ArgMatches<'a>, file: &'a str) -> Task<'a> {
+    let (first, last): (Option<u32>, Option<u32>) = (dis.get_one("from"), dis.get_one("to"));
+    match (first, last) {
+        (None, None) => Task::Disassemble { file },
+        (first, last) => Task::DisassembleBetween {
+            file,
+            first: first.unwrap_or(1),
+            last,
+        },
+    }
+}
+
+// To replay a file, where the arguments ask for it.
+fn replaying<'a>(matches: &ArgMatches<'a>) -> Option<Task<'a>> {
+    let replay = matches.subcommand_matches("replay")?;
+    Some(Task::Replay {
+        file: replay.get_str("FILE")?,
+        workers: replay.get_one("workers").unwrap_or(1),
+        progress: replay.get_flag("progress"),
+    })
+}
+
+// To write the best bid and ask of a stock, where the arguments ask for it.
+fn printing_tops<'a>(matches: &ArgMatches<'a>) -> Option<Task<'a>> {
+    let tops = matches.subcommand_matches("tops")?;
+    Some(Task::Tops {
+        file: tops.get_str("FILE")?,
+        stock: tops.get_str("STOCK")?,
+        every: tops.get_flag("every"),
+    })
+}
+
+// To write what a screen of a stock sees, where the arguments ask for it.
+fn watching<'a>(matches: &ArgMatches<'a>) -> Option<Task<'a>> {
+    let watch = matches.subcommand_matches("watch")?;
+    Some(Task::Watch {
+        file: watch.get_str("FILE")?,
+        stock: watch.get_str("STOCK")?,
+        workers: watch.get_one("workers").unwrap_or(1),
+    })
+}
+
+/// What the arguments ask for.
+pub fn chosen_task<'a>(matches: &ArgMatches<'a>) -> Task<'a> {
+    if let Some(task) = replaying(matches) {
+        return task;
+    }
+    if let Some(task) = printing_tops(matches) {
+        return task;
+    }
+    if let Some(task) = watching(matches) {
+        return task;
+    }
+    if let Some(dis) = matches.subcommand_matches("dis")
+        && let Some(file) = dis.get_str("FILE")
+    {
+        return disassembling(dis, file);
+    }
+    if let Some(stocks) = matches.subcommand_matches("stocks")
+        && let Some(file) = stocks.get_str("FILE")
+    {
+        return Task::Stocks { file };
+    }
+    if let Some(asm) = matches.subcommand_matches("asm")
+        && let Some(text) = asm.get_str("TEXT")
+        && let Some(out) = asm.get_str("OUT")
+    {
+        return Task::Assemble { text, out };
+    }
+    if let Some(debug) = matches.subcommand_matches("debug")
+        && let Some(file) = debug.get_str("FILE")
+    {
+        return Task::Debug { file };
+    }
+    Task::ReplayDigits
+}
+
+/// The exit status where the arguments gave no task: 0 where they asked for help, and 2 where they are invalid.
+pub fn usage_status(error: &Error) -> u8
+    ensures help { kind_of error.now ≡ DisplayHelp → result ≡ 0 }
+    ensures misuse { kind_of error.now ≢ DisplayHelp → kind_of error.now ≢ DisplayVersion → result ≡ 2 }
+{
+    error.exit_code() as u8
+}

@@ -1,7 +1,0 @@
-use Rattle.std.proofs.Common.{◌≡◌, ◌++◌, take}
-use Rattle.std.specs.List.{flat_map}
-use Rattle.itch_engine.specs.Report.{level_line}
-use Rattle.itch_engine.proofs.report.stock.put_levels.Given as goal
-
-abbrev pub invariant-loop-level : goal.invariant-loop-level
-invariant-loop-level g l = l.text.items ≡ l.fn.text.items ++ flat_map (level_line l.side) (take l.level-index l.levels)

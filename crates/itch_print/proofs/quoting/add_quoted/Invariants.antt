@@ -1,7 +1,0 @@
-use Rattle.std.proofs.Common.{◌≡◌, ◌++◌, ◌∷◌, [], take}
-use Rattle.std.specs.List.{flat_map}
-use Rattle.itch_print.specs.Quoted.{escaped}
-use Rattle.itch_print.proofs.quoting.add_quoted.Given as goal
-
-abbrev pub invariant-loop-byte : goal.invariant-loop-byte
-invariant-loop-byte g l = l.text.items ≡ (l.fn.text.items ++ 34 ∷ []) ++ flat_map escaped (take l.byte-index l.kept)

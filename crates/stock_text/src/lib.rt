@@ -1,0 +1,15 @@
+//! The lines of a stock: what is known of it, its levels and the sums over its trades, as reports and sessions have them.
+//!
+//! ```rust
+//! put_stock_line(&mut text, 14, *b"AAPL    ", None, None)?;
+//! put_levels(&mut text, b"bid ", &bids)?;
+//! put_trades(&mut text, totals)?;
+//! ```
+//!
+//! Each call adds to a text, which may have a part of its lines after an error. The lines are of this project. An
+//! `AllocError` says that memory was refused.
+#![tactic(auto)]
+
+mod stock;
+
+pub use stock::{put_levels, put_stock, put_stock_line, put_trades};
