@@ -1,11 +1,13 @@
 //! The program `itch`: the files that its arguments name, and the lines that it prints on standard error.
 #![tactic(auto)]
 
+mod assembling;
 mod progress;
 mod prompt;
 mod stop;
 mod terminals;
 
+use assembling::assemble;
 use binaryfile::{Day, Feed, Limits, Sink};
 use clap::error::ErrorKind;
 use day_core::WorkerCount;
@@ -15,15 +17,13 @@ use engine_rules::{ProgFault, status};
 use itch_arguments::Task;
 use itch_debug::debug_run;
 use itch_dis::{dis_part_run, dis_stream_run};
-use itch_engine::{asm_run, hex_run, report_run};
+use itch_engine::{hex_run, report_run};
 use itch_readings::{Selection, StockFault, StockName, stocks_run, tops_run};
 use itch_watch::watch_run;
-use named_files::{Failure, Named, Replacement, is_same_file};
+use named_files::{Failure, Named};
 use progress::ProgressLines;
 use prompt::Prompting;
-use std::alloc::Global;
-use std::fs::Files;
-use std::io::{self, IsTerminal, Read, Write};
+use std::io::{self, IsTerminal};
 use std::process::ExitCode;
 use std::rt::Runtime;
 use std::sync::Wait;
@@ -242,57 +242,6 @@ fn watch<'a, R: Runtime + AllocGlobal + Threads + Wait + Sync>(
         worker_count(workers),
     );
     ended(run.map(|()| 0), &day, &output)
-}
-
-// Makes the bytes that a text denotes.
-fn assemble_to<'a, T: AllocGlobal, R: Read, W: Write>(
-    rt: &T,
-    input: &mut Named<'a, R>,
-    output: &mut Named<'a, W>,
-) -> Ended<'a> {
-    let (mut feed, mut sink) = (Feed::new(&mut *input), Sink::new(&mut *output));
-    let run = asm_run(rt.alloc(), &mut feed, &mut sink);
-    ended(run.map(|()| 0), input, output)
-}
-
-// Gives a file that was made of a text its name, or takes it away where the text is faulty.
-fn settle<'a, R: Files>(
-    assembled: Ended<'a>,
-    replacement: Replacement<'_, R, Global>,
-    out: &'a str,
-) -> Ended<'a> {
-    if assembled.is_err() {
-        replacement.discard();
-        return assembled;
-    }
-    match replacement.finish() {
-        Ok(()) => assembled,
-        Err(error) => Err(Stop::Fault(ProgFault::Write.into(), Some(Failure::new(out, error)))),
-    }
-}
-
-// Makes the file that a text denotes in the place of another.
-fn replace<'a, T: AllocGlobal, F: Files, R: Read>(
-    rt: &T,
-    input: &mut Named<'a, R>,
-    replacement: Replacement<'_, F, Global>,
-    out: &'a str,
-) -> Ended<'a> {
-    let mut output = Named::new(out, replacement);
-    let assembled = assemble_to(rt, input, &mut output);
-    settle(assembled, output.into_inner(), out)
-}
-
-// Makes the file that a text denotes. Where the text is faulty, the path of the output is not touched.
-fn assemble<'a, R: Runtime + AllocGlobal>(rt: &R, text: &'a str, out: &'a str) -> Ended<'a> {
-    let mut input = open(rt, text)?;
-    if is_same_file(rt, text, out) {
-        return Err(Stop::Misuse("TEXT and OUT are the same file"));
-    }
-    match Replacement::new(rt, rt.alloc(), out) {
-        Ok(replacement) => replace(rt, &mut input, replacement, out),
-        Err(_) => Err(Stop::Fault(ProgFault::Memory.into(), None)),
-    }
 }
 
 // Answers the commands of standard input about a file, on standard output. At a terminal each line is asked for.

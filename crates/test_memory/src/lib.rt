@@ -3,6 +3,10 @@
 #![tactic(auto)]
 
 #[cfg(test)]
+mod comparing;
+#[cfg(test)]
 mod growing;
+#[cfg(test)]
+mod listing;
 #[cfg(test)]
 mod steady;

@@ -6,6 +6,10 @@ mod comparing;
 #[cfg(test)]
 mod growing;
 #[cfg(test)]
+mod listing;
+#[cfg(test)]
 mod own;
 #[cfg(test)]
 mod spent;
+#[cfg(test)]
+mod steady;

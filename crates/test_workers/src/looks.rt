@@ -5,7 +5,7 @@ ghost use Rattle.day_core.specs.Splitting.{ArePartsOf};
 ghost use Rattle.stock_workers.specs.Running.{IsWaiting};
 ghost use Rattle.stock_workers.specs.Working.{IsWorkerOf, places_of};
 
-use crate::turns::{Waiting, only_worker, piece, prepare, words_of};
+use crate::alone::{Waiting, only_worker, piece, prepare, words_of};
 use binaryfile::Day;
 use day_core::{Parts, Piece, Turns};
 use itch_table::Outcome;

@@ -5,7 +5,7 @@ ghost use Rattle.top_cell.specs.Boards.{IsOn};
 ghost use Rattle.stock_workers.specs.Running.{IsWaiting};
 ghost use Rattle.stock_workers.specs.Working.{IsWorkerOf, places_of};
 
-use crate::turns::{Waiting, only_worker, prepare};
+use crate::alone::{Waiting, only_worker, prepare};
 use binaryfile::Day;
 use day_core::Parts;
 use std::alloc::{Allocator, Global};
