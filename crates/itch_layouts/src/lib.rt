@@ -20,6 +20,7 @@
 //! `AllocError` says that memory was refused.
 #![tactic(auto)]
 
+mod any_message;
 mod at_offset;
 mod field;
 mod field_value;
