@@ -2,15 +2,14 @@
 use Rattle.std.proofs.Common.{◌≡◌, ℕ, ◌+◌, ◌-◌, ◌*◌, ◌/◌, ◌^◌, ◌<◌, ◌≤◌, List, [], ◌∷◌, ◌++◌, Bool, true, false, leb, length, get_or, take, drop, map, refl, sym, ap, ◌∙◌, arith}
 use Rattle.std.specs.List.{range_with_len}
 use Rattle.std.specs.List.Sorted.{IsPartitionedBy, IsPartitionPoint}
-use Rattle.std.proofs.lemmas.List.{get_or-drop, get_or-take, length-drop, length-take, length-take-le, take_more}
+use Rattle.std.proofs.lemmas.List.{get_or-drop, get_or-take, length-drop, length-take, take_more}
 use Rattle.std.proofs.lemmas.List.Elements.{filter_passes}
 use Rattle.std.proofs.lemmas.List.FromFn.{get_or-map-range_with_len, length-map-range_with_len, map-range_with_len_more}
 use Rattle.std.proofs.Math.Nat.{div-mul-le_self, le-div_iff_mul-le, mul-le-mul_right}
-use Rattle.std.proofs.lemmas.List.Sums.{count_by-le-length}
 use Rattle.itch_table.specs.declared.outcome.Outcome.{Outcome}
 use Rattle.itch_table.specs.declared.outcome.Part.TheVariants.{Locate}
 use Rattle.itch_table.specs.Parts.{part}
-use Rattle.itch_table.specs.Projection.{is_locate, is_of_stock, only, payload_at, steps_of}
+use Rattle.itch_table.specs.Projection.{is_locate, is_of_stock, only, payload_at}
 use Rattle.itch_table.specs.Table.{step}
 use Rattle.itch_table.specs.World.{empty_world}
 use Rattle.itch_table.proofs.Days.{after-none}
@@ -19,7 +18,7 @@ use Rattle.stock_machine.specs.StockRows.{StockMachine}
 use Rattle.day_core.specs.Owners.{last_or, machine_of, of_stock, part_at}
 use Rattle.day_core.proofs.Kept.{kept_before, kept_within}
 use Rattle.day_core.proofs.Progress.{last_push, machine_until}
-use Rattle.day_core.proofs.MachineSteps.{machine_stepped, payload_is}
+use Rattle.day_core.proofs.MachineSteps.{machine_stepped, payload_is, steps_most}
 use Rattle.checkpoints.specs.Copies.{IsTrack, copies_of, machine_after_own, numbers_of}
 use Rattle.checkpoints.proofs.Splitting.{found, parted, taken}
 
@@ -34,12 +33,6 @@ room_left count every last lt =
 pub last_within : (taken count every : ℕ) → 0 < every → taken ≤ count → taken / every ≤ count / every
 last_within taken count every some le =
     (le-div_iff_mul-le {k = every} {x = taken / every} {y = count} some).1 (omega (arith, div-mul-le_self taken every))
-
--- a stock has no more messages than the day
-pub steps_most : (day : List (List ℕ)) (locate n : ℕ) → n ≤ length day → steps_of day locate n ≤ n
-unfolding steps_of
-steps_most day locate n le =
-    omega (arith, count_by-le-length (is_of_stock locate) (take n day), length-take-le n day le)
 
 module _ (day : List (List ℕ)) (locate : ℕ) where
   abbrev own : List ℕ
@@ -95,7 +88,7 @@ module _ (day : List (List ℕ)) (locate : ℕ) where
     pub takes_few : n < 2 ^ 32 → before.steps < 2 ^ 32 - 1
     takes_few fits =
         let within = own_within count d more in
-        let most = steps_most day locate (n - 1) (omega (arith, within)) in
+        let most = steps_most day locate (n - 1) in
         omega (arith, fits, within, most, ap (λ (m : StockMachine). m.steps) stands)
 
     -- and then has taken one message more

@@ -1,5 +1,6 @@
 -- A day, dealt to its workers: whose each message is, the stocks that are seen, one message more, and a whole day.
 use Rattle.std.proofs.Common.{◌≡◌, ℕ, ◌+◌, ◌-◌, ◌%◌, ◌<◌, ◌^◌, List, [], ◌∷◌, ◌++◌, length, get_or, set, map, filter, replicate, cond, Bool, true, false, Option, None, refl, ap, sym, ◌∙◌, arith, inl, inr, append-nil, zero, suc, subst, ◌≤◌, ◌||◌}
+use Rattle.std.specs.Prelude.{slice_index_or, take}
 use Rattle.std.specs.List.{range_with_len, AllZip, list_any}
 use Rattle.std.proofs.lemmas.Bool.{cases_eq, cases_lt, eq-eqb, ne_eqb}
 use Rattle.std.proofs.lemmas.Nat.{mod_below}
@@ -24,11 +25,30 @@ use Rattle.itch_table.proofs.NoStock.{system_sets_event}
 use Rattle.itch_table.proofs.StockDays.{outcomes_stay_fixed}
 use Rattle.itch_table.specs.Shows.{locates_of_day}
 use Rattle.day_core.specs.declared.merging.Piece.{Piece}
-use Rattle.day_core.specs.Splitting.{AreDealt, ArePartsOf, AreSeen, DayParts, AreWhose, has_until}
+use Rattle.day_core.specs.Splitting.{ArePartsOf, DayParts, AreWhose}
 use Rattle.day_core.specs.Owners.{fixed_pieces, fixed_until, is_nowhere, is_own, own_of, own_until, part_at, piece_of}
 use Rattle.day_core.proofs.Kept.{kept_more}
 use Rattle.day_core.proofs.Progress.{own_none}
 use Rattle.day_core.proofs.StocksByWorker.{none_yet, one_set}
+
+-- whether a stock has a message among the first of a day
+abbrev pub has_until : List (List ℕ) → ℕ → ℕ → Bool
+has_until day locate count = list_any (is_of_stock locate) (take count day)
+
+-- at each locate code whether its stock has a message among the first of a day
+pub record AreSeen (day : List (List ℕ)) (count : ℕ) (seen : List Bool) : Type 0 where
+  pub long : length seen ≡ 0x1_0000
+  pub each : (locate : ℕ) → locate < 0x1_0000
+      → slice_index_or seen locate false ≡ has_until day locate count
+
+-- the first messages of a day are dealt: the stocks that have messages among them, each worker's messages, those of no
+-- stock with their outcomes, and the last event
+pub record AreDealt (day : List (List ℕ)) (workers count : ℕ) (seen : List Bool) (own : List (List ℕ))
+    (fixed : List Piece) (event : Option ℕ) : Type 0 where
+  pub seen_are : AreSeen day count seen
+  pub own_are : own ≡ map (λ worker. own_until workers worker day count) (range_with_len 0 workers)
+  pub fixed_are : fixed ≡ fixed_until day count
+  pub event_is : event ≡ (after day count).event
 
 -- none before the first message
 pub seen_none : (day : List (List ℕ)) (seen : List Bool) → length seen ≡ 0x1_0000 → ((k : ℕ) → k < 0x1_0000 → get_or seen k false ≡ false) → AreSeen day 0 seen
@@ -111,7 +131,7 @@ whose_from day whose given places found all is =
 -- ---- whose each message is, in a list that threads have made
 
 -- a stock's message leaves the event
-event_stays : (shape : Shape) (locate : ℕ) (event : Option ℕ) → part_of_shape shape ≡ Locate locate → event_with shape event ≡ event
+pub event_stays : (shape : Shape) (locate : ℕ) (event : Option ℕ) → part_of_shape shape ≡ Locate locate → event_with shape event ≡ event
 event_stays (Known (System head m)) locate event is = let never : ⊥ = cc in absurd never
 event_stays shape locate event is = refl
 

@@ -20,9 +20,15 @@ use Rattle.day_core.specs.declared.merging.MergeFault.TheVariants.{Double, Memor
 use Rattle.day_core.specs.declared.merging.Piece.{Piece}
 use Rattle.day_core.specs.Merging.{IsMerged, IsMergeFault, joined, named, AreFilled, AreSound, Found, HasMessage, Holds, IsEmptyAt, IsFaulty, IsFirstFault}
 use Rattle.day_core.specs.Owners.{fixed_pieces, is_nowhere, is_own, own_of, owner, part_at, piece_of}
-use Rattle.day_core.specs.Replaying.{IsPieceOf, each_worker, pieces_by}
+use Rattle.day_core.specs.Replaying.{each_worker, pieces_by}
 use Rattle.day_core.proofs.Kept.{kept_within, map_by_all}
 use Rattle.day_core.proofs.Progress.{own_within}
+
+-- a piece is a message of a day with its outcome
+pub record IsPieceOf (day : List (List ℕ)) (piece : Piece) : Type 0 where
+  pub some : 1 ≤ piece.message
+  pub within : piece.message ≤ length day
+  pub has : piece.outcome ≡ outcome day piece.message
 
 -- ---- one piece more
 

@@ -17,7 +17,12 @@ use Rattle.day_core.specs.declared.playing.Seen.{Seen}
 use Rattle.day_core.specs.Turns.{TurnsState, TurnsWorker, shown}
 use Rattle.day_core.specs.Owners.{own_of, owner, progress}
 use Rattle.day_core.proofs.Progress.{progress_rises}
-use Rattle.day_core.specs.Schedules.{Changes, turns_after, done_after, is_turn, seen_at, seen_of, seen_until, IsNotBack, SeenNeverGoesBack, message_seen}
+use Rattle.day_core.specs.Schedules.{Changes, done_after, is_turn, seen_at, seen_of, seen_until, IsNotBack, SeenNeverGoesBack, message_seen}
+
+-- how far all workers of a day are after these events
+abbrev pub turns_after : List (List ℕ) → ℕ → List Event → TurnsState
+turns_after day workers events =
+    record { day = day; done = map (done_after day workers events) (range_with_len 0 workers) }
 
 -- one event more to count
 count_more : (worker : ℕ) (event : Event) (before : List Event) → count_by (is_turn worker) (before ++ event ∷ []) ≡ count_by (is_turn worker) before + cond (is_turn worker event) 1 0

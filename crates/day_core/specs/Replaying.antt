@@ -23,12 +23,6 @@ pub record IsReplayed (day : List (List ℕ)) (all : List Outcome) (stocks : Lis
   pub stocks_are : stocks ≡ map (last_machine day) (locates_of_day day)
   pub event_is : event ≡ (after day (length day)).event
 
--- a piece is a message of a day with its outcome
-pub record IsPieceOf (day : List (List ℕ)) (piece : Piece) : Type 0 where
-  pub some : 1 ≤ piece.message
-  pub within : piece.message ≤ length day
-  pub has : piece.outcome ≡ outcome day piece.message
-
 -- a worker's messages with their outcomes, by rising number
 abbrev pub pieces_by : List (List ℕ) → ℕ → ℕ → List Piece
 pieces_by day workers worker = map (piece_of day) (own_of workers worker day)
@@ -64,10 +58,6 @@ abbrev pub OthersAreApplied : Type 0
 OthersAreApplied =
     (day : List (List ℕ)) (n locate : ℕ) → 1 ≤ n → n ≤ length day → part_at day n ≡ Locate locate
     → ¬ Contains (map (λ piece. piece.message) (refused_of day)) n → outcome day n ≡ Applied
-
--- the refused messages of a worker, with their outcomes, by rising number
-abbrev pub refused_by : List (List ℕ) → ℕ → ℕ → List Piece
-refused_by day workers worker = refused_among day (own_of workers worker day)
 
 -- what a whole day makes, in short: its refused messages with their outcomes, by rising number, the machines
 -- of its stocks by rising locate code, and the last event

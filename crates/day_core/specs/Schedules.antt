@@ -18,11 +18,6 @@ abbrev pub done_after : List (List ℕ) → ℕ → List Event → ℕ → ℕ
 done_after day workers events worker =
     min (count_by (is_turn worker) events) (length (own_of workers worker day))
 
--- how far all workers of a day are after these events
-abbrev pub turns_after : List (List ℕ) → ℕ → List Event → TurnsState
-turns_after day workers events =
-    record { day = day; done = map (done_after day workers events) (range_with_len 0 workers) }
-
 -- what an event shows after those before it: a look shows a stock as far as its worker has come, and a turn
 -- nothing
 abbrev pub seen_at : List (List ℕ) → ℕ → List Event → Option Event → List Seen

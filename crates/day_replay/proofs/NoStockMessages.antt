@@ -15,6 +15,7 @@ use Rattle.itch_table.specs.Parts.{part, part_of_shape}
 use Rattle.itch_table.specs.Projection.{event_with}
 use Rattle.day_core.specs.declared.merging.Piece.{Piece}
 use Rattle.day_core.specs.Replaying.{is_passed}
+use Rattle.day_core.proofs.Dealt.{event_stays}
 use Rattle.day_replay.specs.NoStock.{NoStockFacts, if_nowhere_refused, if_refused, is_nowhere_passed, last_event, no_stock_of}
 
 abbrev pub facts : List Piece → ℕ → Option ℕ → NoStockFacts
@@ -43,11 +44,6 @@ last_event-append [] ys = sym (option_or-none (last_event ys))
 last_event-append (x ∷ xs) ys =
     ap (λ (e : Option ℕ). option_or e (event_with (shape_of x.1) None)) (last_event-append xs ys)
     ∙ option_or-assoc (last_event ys) (last_event xs) (event_with (shape_of x.1) None)
-
--- a stock's message leaves the event
-event_stays : (shape : Shape) (locate : ℕ) → part_of_shape shape ≡ Locate locate → event_with shape None ≡ None
-event_stays (Known (System head m)) locate is = let never : ⊥ = cc in absurd never
-event_stays shape locate is = refl
 
 -- ---- further messages
 
@@ -100,7 +96,7 @@ fact_stays messages n payload locate own old was =
     let one = no_stock_of ((n, payload) ∷ []) in
     let whole : one.refused ≡ [] = append-nil (if_nowhere_refused n (part payload)) ∙ ap (if_nowhere_refused n) own in
     let tested : one.passed ≡ 0 = one_passed n payload ∙ ap (λ (p : Part). cond {A = ℕ} (is_nowhere_passed p) 1 0) own in
-    let stays : one.event ≡ None = event_stays (shape_of payload) locate own in
+    let stays : one.event ≡ None = event_stays (shape_of payload) locate None own in
     same_facts old.refused (old.refused ++ one.refused) old.passed (old.passed + one.passed) old.event (option_or one.event old.event)
     (sym (append-nil old.refused) ∙ ap (λ (ps : List Piece). old.refused ++ ps) (sym whole))
     (omega (arith, tested))

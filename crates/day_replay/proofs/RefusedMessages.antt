@@ -15,9 +15,13 @@ use Rattle.itch_table.specs.declared.outcome.Part.TheVariants.{Locate, Nowhere}
 use Rattle.itch_table.proofs.DayLocates.{range_rises}
 use Rattle.day_core.specs.declared.merging.Piece.{Piece}
 use Rattle.day_core.specs.Owners.{is_nowhere, is_own, own_of, owner, part_at, piece_of}
-use Rattle.day_core.specs.Replaying.{refused_by, refused_of}
+use Rattle.day_core.specs.Replaying.{refused_among, refused_of}
 use Rattle.day_core.proofs.Kept.{kept_none}
 use Rattle.day_core.proofs.Refusals.{refuses}
+
+-- the refused messages of a worker, or of a batch, with their outcomes, by rising number
+abbrev pub refused_by : List (List ℕ) → ℕ → ℕ → List Piece
+refused_by day workers worker = refused_among day (own_of workers worker day)
 
 -- ---- all of them, batch by batch
 

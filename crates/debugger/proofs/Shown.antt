@@ -17,8 +17,7 @@ use Rattle.itch_table.proofs.NoStock.{system_sets_event}
 use Rattle.itch_table.proofs.StockDays.{outcomes_stay_fixed}
 use Rattle.stock_machine.specs.StockRows.{StockMachine}
 use Rattle.day_core.specs.Owners.{machine_of}
-use Rattle.day_core.proofs.MachineSteps.{machine_stepped}
-use Rattle.checkpoints.proofs.Along.{steps_most}
+use Rattle.day_core.proofs.MachineSteps.{machine_stepped, steps_most}
 use Rattle.debugger.specs.Finding.{IsLatest}
 use Rattle.debugger.specs.Sessions.{is_system, outcome_at}
 
@@ -92,7 +91,7 @@ module _ (day : List (List ℕ)) where
 
       pub outcome_few : n ≤ length day → n < 2 ^ 32 → m.steps < 2 ^ 32 - 1
       outcome_few le fits =
-          omega (arith, some, fits, ap (λ (k : StockMachine). k.steps) is, steps_most day locate (n - 1) (omega (arith, le)))
+          omega (arith, some, fits, ap (λ (k : StockMachine). k.steps) is, steps_most day locate (n - 1))
 
       pub outcome_own : (then : StockMachine) (o : Outcome) → then.locate ≡ m.locate → then.steps ≡ m.steps + 1 → (o, then.world) ≡ step m.world payload → Some o ≡ outcome_at day n
       outcome_own then o code steps gives =

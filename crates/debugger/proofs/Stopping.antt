@@ -21,9 +21,9 @@ use Rattle.stock_machine.specs.StockRows.{StockMachine}
 use Rattle.day_core.specs.Owners.{machine_of}
 use Rattle.day_core.proofs.Progress.{machine_stays}
 use Rattle.day_core.proofs.Kept.{kept_more}
-use Rattle.day_core.proofs.MachineSteps.{machine_stepped}
+use Rattle.day_core.proofs.MachineSteps.{machine_stepped, steps_most}
 use Rattle.checkpoints.proofs.Reading.{IsReading, read_all, read_more, read_none, read_payload, read_within}
-use Rattle.checkpoints.proofs.Along.{first_machine, steps_most}
+use Rattle.checkpoints.proofs.Along.{first_machine}
 use Rattle.checkpoints.specs.Copies.{machine_after_own}
 use Rattle.checkpoints.proofs.Splitting.{split}
 use Rattle.debugger.specs.declared.breakpoint.Break.TheVariants.{Price, Time}
@@ -102,7 +102,7 @@ module _ (day left : List (List ℕ)) (locate : ℕ) (side : Side) (price n : �
   pub priced_few : (rest : List (List ℕ)) (payload : List ℕ) → left ≡ payload ∷ rest → length day < 2 ^ 32 → m.steps < 2 ^ 32 - 1
   priced_few rest payload goes_on few =
       let within = read_within day left rest n pricing.reading payload goes_on in
-      omega (arith, few, within, ap (λ (k : StockMachine). k.steps) pricing.stands, steps_most day locate n pricing.reading.within)
+      omega (arith, few, within, ap (λ (k : StockMachine). k.steps) pricing.stands, steps_most day locate n)
 
   module _ (rest : List (List ℕ)) (payload : List ℕ) (goes_on : left ≡ payload ∷ rest) (then : StockMachine) (stands : then ≡ machine_of day m.locate (n + 1)) (b : Bool) (test : b ≡ changes m.locate side price day (n + 1)) where
     more : filter (changes locate side price day) (range_with_len 1 (n + 1)) ≡ stops ++ cond b ((n + 1) ∷ []) []

@@ -1,15 +1,12 @@
 -- The lines of the stocks of a day: those of the locate codes that have a directory row are all.
 use Rattle.std.proofs.Common.{◌≡◌, ◌&&◌, ℕ, List, [], ◌∷◌, length, map, Option, None, Some, Bool, true, false, refl, ap, sym, ◌∙◌, arith, inl, inr}
-use Rattle.std.specs.Prelude.{T, filter}
-use Rattle.std.specs.declared.cmp.Ordering.{Ordering}
-use Rattle.std.specs.declared.cmp.Ordering.TheVariants.{Less, Equal, Greater}
-use Rattle.std.specs.Ordering.{eq_by_cmp, is_lt, nat_cmp}
+use Rattle.std.specs.Prelude.{filter}
+use Rattle.std.specs.Ordering.{eq_by_cmp, nat_cmp}
 use Rattle.std.specs.Option.{is_some}
-use Rattle.std.specs.List.{All, AllByRecursion, flat_map, list_any}
-use Rattle.std.specs.List.Sorted.{IsStrictlyIncreasing, IsStrictlySortedBy}
+use Rattle.std.specs.List.{All, flat_map, list_any}
+use Rattle.std.specs.List.Sorted.{IsStrictlyIncreasing}
 use Rattle.std.specs.Cmp.{nat_cmp_total, eq_by_cmp_equiv}
 use Rattle.std.specs.FinMap.{FinMap, contains_key, contains_key-keys, entries, entries_sorted, get-empty, keys, nat_cmp-IsAntisymmetric}
-use Rattle.std.specs.FinMap.Entries.{below_all, is_sorted}
 use Rattle.std.proofs.lemmas.Grind.{common_steps}
 use mathlib.Core.Bool.{true≢false}
 use Rattle.std.proofs.lemmas.Bool.{cases_Bool}
@@ -25,35 +22,13 @@ use Rattle.itch_table.specs.Projection.{only}
 use Rattle.itch_table.specs.Shows.{HasMessage, locates_of_day}
 use Rattle.itch_table.specs.World.{World, locates, stock_row}
 use Rattle.itch_table.proofs.DayLocates.{members, no_rows, rising}
+use Rattle.itch_table.proofs.SortedKeys.{sorted_keys}
 use Rattle.itch_table.proofs.OneStock.{orders_of-only, status-only, totals-only, stock_row-only}
 use Rattle.day_core.specs.Replaying.{last_machine}
 use Rattle.stock_text.specs.Stocks.{stock_lines}
 use Rattle.itch_engine.specs.Report.{machine_lines}
 
 -- ---- the keys of a map of numbers among other numbers
-
-first : (a b : Bool) → T (a && b) → T a
-first true b h = tt
-first false b h = h
-
-second : (a b : Bool) → T (a && b) → T b
-second true b h = h
-second false b h = absurd h
-
-less : (r : Ordering) → T (is_lt r) → r ≡ Less
-less Less h = refl
-less Equal h = absurd h
-less Greater h = absurd h
-
-module _ {X : Type 0} where
-  below : (k : ℕ) (es : List (ℕ × X)) → T (below_all nat_cmp k es) → AllByRecursion (λ y. nat_cmp k y ≡ Less) (map (λ e. e.0) es)
-  below k [] h = tt
-  below k (e ∷ es) h = (less (nat_cmp k e.0) (first _ _ h), below k es (second _ _ h))
-
-  sorted : (es : List (ℕ × X)) → T (is_sorted nat_cmp es) → IsStrictlySortedBy nat_cmp (map (λ e. e.0) es)
-  unfolding IsStrictlySortedBy
-  sorted [] h = tt
-  sorted (e ∷ es) h = (below e.0 es (first _ _ h), sorted es (second _ _ h))
 
 -- a number is among those that pass a test where it passes and is in the list
 any_picked : (p : ℕ → Bool) (q : ℕ) (ls : List ℕ) → list_any (eq_by_cmp nat_cmp q) (filter p ls) ≡ (p q && list_any (eq_by_cmp nat_cmp q) ls)
@@ -71,7 +46,7 @@ keys_picked : {X : Type 0} (m : FinMap nat_cmp X) (ls : List ℕ) → IsStrictly
 keys_picked m ls rising others =
     btree_set_from_contains nat_cmp_total (record { keys = filter (contains_key m) ls }) (record { keys = keys m })
     (sorted_from_strictly_increasing _ (IsStrictlyIncreasing-filter (contains_key m) ls rising))
-    (sorted (entries m) (entries_sorted m))
+    (sorted_keys (entries m) (entries_sorted m))
     (λ q. any_picked (contains_key m) q ls ∙ within q ∙ contains_key-keys m q)
     nat_cmp-IsAntisymmetric
   where

@@ -1,51 +1,23 @@
 -- The orders of both parts, merged into one tree.
-use Rattle.std.proofs.Common.{◌≡◌, ℕ, ◌&&◌, [], ◌∷◌, map, Option, None, Some, Bool, true, false, refl, ap, sym, ◌∙◌}
-use Rattle.std.specs.Prelude.{T}
-use Rattle.std.specs.Ordering.{eq_by_cmp, is_lt, nat_cmp}
-use Rattle.std.specs.declared.cmp.Ordering.{Ordering}
-use Rattle.std.specs.declared.cmp.Ordering.TheVariants.{Less, Equal, Greater}
+use Rattle.std.proofs.Common.{◌≡◌, ℕ, [], ◌∷◌, map, Option, None, Some, refl, ap, sym, ◌∙◌}
+use Rattle.std.specs.Ordering.{eq_by_cmp, nat_cmp}
 use Rattle.std.specs.Cmp.{eq_by_cmp_equiv, nat_cmp_total}
-use Rattle.std.specs.List.{AllByRecursion, IsDistinct}
-use Rattle.std.specs.List.Sorted.{IsStrictlySortedBy}
+use Rattle.std.specs.List.{IsDistinct}
 use Rattle.std.specs.Map.{keys_of, update_all}
 use Rattle.std.specs.Option.{option_or}
 use Rattle.std.specs.BTreeMap.{BTreeMap, InsertsAll}
 use Rattle.std.specs.BTreeMap as tree
-use Rattle.std.specs.FinMap.{empty, entries, entries_sorted, from_entries, get, get-empty, get-entries, is_sorted, same_map, nat_cmp-IsAntisymmetric}
-use Rattle.std.specs.FinMap.Entries.{below_all}
+use Rattle.std.specs.FinMap.{empty, entries, entries_sorted, from_entries, get, get-empty, get-entries, same_map, nat_cmp-IsAntisymmetric}
 use Rattle.std.proofs.lemmas.Map.Keys.{IsDistinct-from_sorted}
 use Rattle.std.proofs.lemmas.Map.Made.{update_all_distinct}
 use Rattle.itch_table.specs.declared.order.OrderRow.{OrderRow}
 use Rattle.itch_table.specs.World.{order_under}
 use Rattle.itch_table.proofs.MapViews.{find_lookup, get_view}
+use Rattle.itch_table.proofs.SortedKeys.{sorted_keys}
 use Rattle.order_book.specs.Orders.{Orders, orders_in}
 use Rattle.order_book.specs.Parts.{entry_of, joined}
 use Rattle.order_book.proofs.Joined.{get_joined}
 use Rattle.order_book.proofs.RowViews.{Rows}
-
--- ---- the keys of a map are in order
-
-first : (a b : Bool) → T (a && b) → T a
-first true b h = tt
-first false b h = h
-
-second : (a b : Bool) → T (a && b) → T b
-second true b h = h
-second false b h = absurd h
-
-less : (r : Ordering) → T (is_lt r) → r ≡ Less
-less Less h = refl
-less Equal h = absurd h
-less Greater h = absurd h
-
-keys_above : (k : ℕ) (rows : Rows) → T (below_all nat_cmp k rows) → AllByRecursion (λ other. nat_cmp k other ≡ Less) (keys_of rows)
-keys_above k [] h = tt
-keys_above k (e ∷ rows) h = (less (nat_cmp k e.0) (first _ _ h), keys_above k rows (second _ _ h))
-
-sorted_keys : (rows : Rows) → T (is_sorted nat_cmp rows) → IsStrictlySortedBy nat_cmp (keys_of rows)
-unfolding IsStrictlySortedBy
-sorted_keys [] h = tt
-sorted_keys (e ∷ rows) h = (keys_above e.0 rows (first _ _ h), sorted_keys rows (second _ _ h))
 
 -- ---- the orders of both parts
 

@@ -15,8 +15,8 @@ use Rattle.day_core.specs.Splitting.{DayParts}
 use Rattle.day_core.proofs.StocksByWorker.{own_values_map, own_values_of}
 use Rattle.day_core.specs.Owners.{locates_by, own_locates}
 use Rattle.top_cell.specs.Boards.{CellId, WriterAt, AreNew, IsOn}
-use Rattle.stock_workers.specs.declared.forking.Finished.{Finished}
-use Rattle.stock_workers.specs.declared.forking.Waiting.{Waiting}
+use Rattle.stock_workers.specs.declared.fork_join.Finished.{Finished}
+use Rattle.stock_workers.specs.declared.fork_join.Waiting.{Waiting}
 use Rattle.stock_workers.specs.Running.{AreFinished, AreGathered, AreWaiting, IsFinished, IsWaiting, at_last}
 use Rattle.stock_workers.specs.Working.{WriterState, writer_state}
 

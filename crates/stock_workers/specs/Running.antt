@@ -8,8 +8,8 @@ use Rattle.day_core.specs.Replaying.{each_worker, last_machine, own_values, piec
 use Rattle.day_core.specs.Splitting.{DayParts}
 use Rattle.top_cell.specs.Boards.{CellId, IsOn, WriterAt}
 use Rattle.stock_workers.specs.Working.{WritersAt}
-use Rattle.stock_workers.specs.declared.forking.Finished.{Finished}
-use Rattle.stock_workers.specs.declared.forking.Waiting.{Waiting}
+use Rattle.stock_workers.specs.declared.fork_join.Finished.{Finished}
+use Rattle.stock_workers.specs.declared.fork_join.Waiting.{Waiting}
 
 -- a worker of the day that hasn't started: the writers of its stocks have published nothing, and are of the board
 pub record IsWaiting (day : List (List ℕ)) (workers : ℕ) (board : List CellId) (worker : ℕ)

@@ -16,7 +16,7 @@
 //! says that memory was refused.
 #![tactic(auto)]
 
-mod forking;
+mod fork_join;
 mod gate;
 mod running;
 mod worker;

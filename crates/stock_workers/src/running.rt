@@ -9,7 +9,7 @@ ghost use Rattle.stock_workers.specs.FaultNumbers.{number_of, of_split};
 ghost use Rattle.stock_workers.specs.Running.{AreFinished, AreGathered, AreWaiting, at_last};
 ghost use Rattle.stock_workers.specs.declared.running.RunFault.TheVariants.{Memory};
 
-use crate::forking::{Finished, Waiting, finish_all};
+use crate::fork_join::{Finished, Waiting, finish_all};
 use crate::gate::Gate;
 use binaryfile::Day;
 use day_core::{MergeFault, Parts, Piece, SplitFault, by_worker, in_order, merge, split};

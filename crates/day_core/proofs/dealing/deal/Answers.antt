@@ -7,8 +7,7 @@ use Rattle.std.proofs.lemmas.List.Kept.{IsStrictlyIncreasing-filter}
 use Rattle.std.proofs.lemmas.Nat.{mod_below}
 use Rattle.itch_table.proofs.DayLocates.{range_rises}
 use Rattle.day_core.specs.Owners.{own_until}
-use Rattle.day_core.specs.Splitting.{AreDealt}
-use Rattle.day_core.proofs.Dealt.{all_dealt, dealt_fixed, dealt_none, dealt_own, seen_none}
+use Rattle.day_core.proofs.Dealt.{AreDealt, all_dealt, dealt_fixed, dealt_none, dealt_own, seen_none}
 use Rattle.day_core.proofs.dealing.deal.Goals.{in-Locate+in_ok-give-in-Locate, in-Nowhere+in_ok-push-in-Nowhere}
 use Rattle.day_core.proofs.dealing.deal.Goals as goal
 

@@ -1,5 +1,5 @@
 use Rattle.std.proofs.Common.{map}
-use Rattle.day_core.specs.Splitting.{AreDealt}
+use Rattle.day_core.proofs.Dealt.{AreDealt}
 use Rattle.day_core.proofs.dealing.deal.Given as goal
 
 abbrev pub invariant-loop-before : goal.invariant-loop-before

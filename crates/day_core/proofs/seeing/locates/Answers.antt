@@ -1,8 +1,7 @@
 use Rattle.std.proofs.Common.{◌≡◌, ℕ, Bool, false, List, length, get_or, filter, ap, subst, ◌∙◌, arith}
 use Rattle.std.specs.List.{range_with_len}
 use Rattle.std.proofs.lemmas.Result.{IfOk-weaker}
-use Rattle.day_core.specs.Splitting.{AreSeen}
-use Rattle.day_core.proofs.Dealt.{locates_are}
+use Rattle.day_core.proofs.Dealt.{AreSeen, locates_are}
 use Rattle.day_core.proofs.seeing.locates.Goals as goal
 
 pub returns : goal.returns

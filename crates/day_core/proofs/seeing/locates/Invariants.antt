@@ -1,4 +1,4 @@
-use Rattle.day_core.specs.Splitting.{AreSeen}
+use Rattle.day_core.proofs.Dealt.{AreSeen}
 use Rattle.day_core.proofs.seeing.locates.Given as goal
 
 abbrev pub invariant-loop-before : goal.invariant-loop-before

@@ -1,6 +1,6 @@
 use Rattle.std.proofs.Common.{arith}
 use Rattle.stock_workers.proofs.Joined.{all_finished, both_ok}
-use Rattle.stock_workers.proofs.forking.finish_all.Goals as goal
+use Rattle.stock_workers.proofs.fork_join.finish_all.Goals as goal
 
 pub returns : goal.returns
 returns g c =

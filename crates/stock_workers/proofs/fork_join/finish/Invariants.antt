@@ -1,7 +1,7 @@
 use Rattle.std.proofs.Common.{◌-◌, length}
 use Rattle.day_core.specs.Owners.{own_of}
 use Rattle.stock_workers.proofs.Finishing.{IsUnderWay}
-use Rattle.stock_workers.proofs.forking.finish.Given as goal
+use Rattle.stock_workers.proofs.fork_join.finish.Given as goal
 
 abbrev pub invariant-loop-worker : goal.invariant-loop-worker
 invariant-loop-worker g l = IsUnderWay l.fn.day.payloads l.fn.parts l.fn.waiting.worker l.fn.waiting.writers.items l.worker l.pieces.items
