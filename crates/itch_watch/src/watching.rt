@@ -60,6 +60,7 @@ pub fn look<A: Allocator>(
 ) -> Result<(), AllocError>
     requires { IsOn board.now screen.old.place }
     ensures place { screen.new.place ≡ screen.old.place }
+    ensures looked { screen.old.looks < screen.new.looks }
     ensures seen { AreSeen screen.old.place.day screen.old.place.locate readings.old.items
         → AreSeen screen.old.place.day screen.old.place.locate readings.new.items }
     ensures noted { last_or 0 (numbers readings.old.items) ≡ screen.old.message
