@@ -6,9 +6,11 @@
 //! ```
 #![tactic(auto)]
 
-ghost use Rattle.std.specs.Prelude.{◌≡◌, ◌≢◌};
+ghost use Rattle.std.specs.Prelude.{◌≡◌, ◌≢◌, IfSome, Some, codes};
+ghost use Rattle.clap.specs.Matches.{subcommand_name_of};
 ghost use Rattle.clap.specs.Values.{kind_of};
 ghost use Rattle.clap.specs.declared.error.kind.ErrorKind.TheVariants.{DisplayHelp, DisplayVersion};
+ghost use Rattle.itch_arguments.specs.Tasks.{command_of};
 
 use clap::{Arg, ArgAction, ArgMatches, Command, Error, value_parser};
 use day_core::WorkerCount;
@@ -248,7 +250,9 @@ pub fn parse<'a>(alloc: Global, arguments: &'a [String]) -> Result<ArgMatches<'a
 }
 
 // How a file is disassembled: whole, or between two of its messages.
-fn disassembling<'a>(dis: &ArgMatches<'a>, file: &'a str) -> Task<'a> {
+fn disassembling<'a>(dis: &ArgMatches<'a>, file: &'a str) -> Task<'a>
+    ensures { command_of result ≡ Some (codes "dis") }
+{
     let (first, last): (Option<u32>, Option<u32>) = (dis.get_one("from"), dis.get_one("to"));
     match (first, last) {
         (None, None) => Task::Disassemble { file },
@@ -261,7 +265,10 @@ fn disassembling<'a>(dis: &ArgMatches<'a>, file: &'a str) -> Task<'a> {
 }
 
 // To replay a file, where the arguments ask for it.
-fn replaying<'a>(matches: &ArgMatches<'a>) -> Option<Task<'a>> {
+fn replaying<'a>(matches: &ArgMatches<'a>) -> Option<Task<'a>>
+    ensures { IfSome result (λ task. (command_of task ≡ Some (codes "replay"))
+        × (subcommand_name_of matches.now ≡ Some (codes "replay"))) }
+{
     let replay = matches.subcommand_matches("replay")?;
     Some(Task::Replay {
         file: replay.get_str("FILE")?,
@@ -271,7 +278,10 @@ fn replaying<'a>(matches: &ArgMatches<'a>) -> Option<Task<'a>> {
 }
 
 // To write the best bid and ask of a stock, where the arguments ask for it.
-fn printing_tops<'a>(matches: &ArgMatches<'a>) -> Option<Task<'a>> {
+fn printing_tops<'a>(matches: &ArgMatches<'a>) -> Option<Task<'a>>
+    ensures { IfSome result (λ task. (command_of task ≡ Some (codes "tops"))
+        × (subcommand_name_of matches.now ≡ Some (codes "tops"))) }
+{
     let tops = matches.subcommand_matches("tops")?;
     Some(Task::Tops {
         file: tops.get_str("FILE")?,
@@ -281,7 +291,10 @@ fn printing_tops<'a>(matches: &ArgMatches<'a>) -> Option<Task<'a>> {
 }
 
 // To write what a screen of a stock sees, where the arguments ask for it.
-fn watching<'a>(matches: &ArgMatches<'a>) -> Option<Task<'a>> {
+fn watching<'a>(matches: &ArgMatches<'a>) -> Option<Task<'a>>
+    ensures { IfSome result (λ task. (command_of task ≡ Some (codes "watch"))
+        × (subcommand_name_of matches.now ≡ Some (codes "watch"))) }
+{
     let watch = matches.subcommand_matches("watch")?;
     Some(Task::Watch {
         file: watch.get_str("FILE")?,
@@ -290,8 +303,10 @@ fn watching<'a>(matches: &ArgMatches<'a>) -> Option<Task<'a>> {
     })
 }
 
-/// What the arguments ask for.
-pub fn chosen_task<'a>(matches: &ArgMatches<'a>) -> Task<'a> {
+/// What the arguments ask for: what their command asks for, where they have one.
+pub fn chosen_task<'a>(matches: &ArgMatches<'a>) -> Task<'a>
+    ensures { IfSome (command_of result) (λ command. subcommand_name_of matches.now ≡ Some command) }
+{
     if let Some(task) = replaying(matches) {
         return task;
     }
