@@ -6,8 +6,9 @@ mod WordNames
 mod DirectoryRows
 mod LongerDays
 mod Searched
-mod LinesSoFar
-mod TopsRead
+mod OwnMore
+mod TopLinesMore
 mod Found
-mod TopsAlong
-mod TopsNext
+mod TakenNext
+mod TakenAlong
+mod TakenFile

@@ -5,6 +5,8 @@ use Rattle.binaryfile.specs.Entries.{Contents, Splits}
 use Rattle.engine_rules.specs.Limits.{HasTooManyMessages}
 use Rattle.engine_rules.specs.Runs.{Engine, Runs}
 use Rattle.itch_readings.specs.Naming.{AreListed, NamesNone, NamesStock}
+use Rattle.itch_readings.specs.Noting.{Noting}
+use Rattle.itch_readings.specs.OwnMessages.{own_from}
 use Rattle.itch_readings.specs.StockLines.{listed_lines}
 use Rattle.itch_readings.specs.TopLines.{tops_text}
 use Rattle.itch_readings.specs.Tops.{tops_from}
@@ -60,6 +62,21 @@ pub record GaveNoStock (old new : Option (List ℕ)) (name : StockName) : Type 0
   pub within : length input ≤ 2 ^ 40
   pub lacks : LacksStock name input
 
+-- The reader gave a whole day file that has the stock with this name, and the stock's messages from the one on with which it
+-- begins were noted.
+pub record GaveStock {N : Type 0} (AreOf : Noting N) (first : N) (name : StockName) (old new : Option (List ℕ))
+    (notes : N) : Type 0 where
+  pub input : List ℕ
+  pub gave : GaveAll old new input
+  pub within : length input ≤ 2 ^ 40
+  pub contents : Contents
+  pub split : Splits input contents
+  pub few : length contents.payloads ≤ 2 ^ 32 - 1
+  pub message : ℕ
+  pub locate : ℕ
+  pub named : NamesStock contents.payloads name message locate
+  pub noted : AreOf first notes (own_from contents.payloads locate message)
+
 -- The reader, which hadn't failed before, gave a whole input of no more bytes than the engine takes, which lacks the
 -- stock, and nothing was sent.
 pub record FindsNoStock {A R W : Type 0} (engine : Engine A) (name : StockName) (left : R → Option (List ℕ))
@@ -83,6 +100,10 @@ RunsOnStock engine name left taken feed fed sink sent (Err (OfEngine fault)) =
     Runs engine left taken feed fed sink sent (Err fault)
 RunsOnStock engine name left taken feed fed sink sent (Err NoStock) =
     FindsNoStock engine name left feed fed sink sent
+
+-- what reading a day file may find, whatever is made of it
+abbrev pub day_reader : Engine (Unit {0})
+day_reader = record { most = 2 ^ 40; Makes = λ input output _. Unit {0}; Finds = HasTooManyMessages }
 
 -- the engine that reads a day file and writes the lines of its stocks
 abbrev pub stock_lister : Engine (Unit {0})

@@ -2,7 +2,8 @@ pub mod Naming
 pub mod Searching
 pub mod Tops
 pub mod TopLines
-pub mod TopsSoFar
+pub mod OwnMessages
+pub mod Noting
 pub mod StockLines
 pub mod StockFaults
 pub mod Engines

@@ -1,8 +1,12 @@
 -- The lines of a stock's best bid and ask along a day: comma-separated fields, numbers in decimal digits. All is of
 -- this project.
-use Rattle.std.specs.Prelude.{ℕ, ◌==◌, ◌&&◌, Bool, true, not, if◌then◌else◌, List, [], ◌∷◌, ◌++◌, codes, decimal}
+use Rattle.std.specs.Prelude.{◌≡◌, ℕ, ◌==◌, ◌&&◌, Bool, true, not, if◌then◌else◌, List, [], ◌∷◌, ◌++◌, map, codes, decimal}
 use Rattle.itch_table.specs.declared.order.Top.{Top}
+use Rattle.itch_table.specs.Levels.{top}
 use Rattle.itch_table.specs.Shows.{no_top}
+use Rattle.itch_table.specs.World.{orders_of}
+use Rattle.itch_readings.specs.OwnMessages.{OwnMessage}
+use Rattle.itch_readings.specs.Tops.{time_of}
 use Rattle.itch_readings.specs.declared.moments.Moment.{Moment}
 use Rattle.itch_readings.specs.declared.top_lines.Selection.{Selection}
 use Rattle.itch_readings.specs.declared.top_lines.Selection.TheVariants.{Changes, Every}
@@ -51,3 +55,18 @@ tops_text selection moments = field_names ++ moment_lines selection no_top momen
 abbrev pub last_top : Top → List Moment → Top
 last_top before [] = before
 last_top before (at ∷ rest) = last_top at.top rest
+
+-- the moment of a stock's message
+abbrev pub moment_of : OwnMessage → Moment
+moment_of message = record {
+  message = message.number;
+  time = time_of message.payload;
+  top = top (orders_of message.rows message.locate);
+}
+
+-- these are the lines of a stock's messages, and this is the top after them
+pub record AreLines (selection chosen : Selection) (before : Top) (text : List ℕ)
+    (messages : List OwnMessage) : Type 0 where
+  pub chosen_is : chosen ≡ selection
+  pub last : before ≡ last_top no_top (map moment_of messages)
+  pub lines : text ≡ tops_text selection (map moment_of messages)

@@ -26,12 +26,13 @@
 mod fault;
 mod moments;
 mod naming;
+mod noted_file;
+mod noting;
 mod search;
 mod stock_lines;
 mod stocks_engine;
 mod top_lines;
 mod tops_engine;
-mod tops_text;
 
 pub use fault::StockFault;
 pub use moments::{Moment, tops};

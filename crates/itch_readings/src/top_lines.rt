@@ -1,11 +1,14 @@
 //! The lines of a stock's best bid and ask along a day.
-ghost use Rattle.std.specs.Prelude.{◌≡◌, ◌++◌, OnOk};
+ghost use Rattle.std.specs.Prelude.{◌≡◌, ◌++◌, ◌∷◌, [], IfOk, List, OnOk};
 ghost use Rattle.byte_strings.specs.Extending.{Extends};
-ghost use Rattle.itch_readings.specs.TopLines.{differs, field_names, is_shown, moment_line, shown_line, side_fields};
+ghost use Rattle.itch_readings.specs.OwnMessages.{OwnMessage};
+ghost use Rattle.itch_readings.specs.TopLines.{AreLines, differs, field_names, is_shown, moment_line, shown_line, side_fields};
 
-use crate::moments::Moment;
-use itch_table::Top;
+use crate::moments::{Moment, time_in};
+use crate::noting::Notes;
+use itch_table::{Outcome, Top};
 use std::alloc::{AllocError, Allocator};
+use stock_machine::Stock;
 use text_fields::put_count;
 
 /// Which of a stock's messages have a line.
@@ -60,15 +63,15 @@ fn put_moment<A: Allocator>(text: &mut Vec<u8, A>, moment: &Moment) -> Result<()
     Ok(())
 }
 
-/// Adds the names of the fields.
-pub(crate) fn put_field_names<A: Allocator>(text: &mut Vec<u8, A>) -> Result<(), AllocError>
+// Adds the names of the fields.
+fn put_field_names<A: Allocator>(text: &mut Vec<u8, A>) -> Result<(), AllocError>
     ensures { Extends text.old text.new field_names result }
 {
     text.extend_from_slice(b"message,time,bid_price,bid_shares,ask_price,ask_shares\n")
 }
 
-/// Adds the line of a moment, where it has one, by the top before it.
-pub(crate) fn put_shown<A: Allocator>(
+// Adds the line of a moment, where it has one, by the top before it.
+fn put_shown<A: Allocator>(
     text: &mut Vec<u8, A>,
     selection: Selection,
     before: &Top,
@@ -80,4 +83,65 @@ pub(crate) fn put_shown<A: Allocator>(
         put_moment(text, moment)?;
     }
     Ok(())
+}
+
+/// The lines of a stock's best bid and ask, as far as its messages were noted.
+#[derive(Drop)]
+pub(crate) struct TopLines<A: Allocator> {
+    selection: Selection,
+    // The top after the last message.
+    before: Top,
+    text: Vec<u8, A>,
+}
+
+impl<A: Allocator> TopLines<A> {
+    /// Those of no message: the names of the fields.
+    pub fn new(alloc: A, selection: Selection) -> Result<TopLines<A>, AllocError>
+        ensures selection { IfOk result (λ lines. lines.selection ≡ selection) }
+        ensures none { IfOk result (λ lines.
+            AreLines lines.selection lines.selection lines.before lines.text.items []) }
+    {
+        let mut text = Vec::new(alloc);
+        put_field_names(&mut text)?;
+        let before = Top {
+            bid_price: 0,
+            bid_shares: 0,
+            ask_price: 0,
+            ask_shares: 0,
+        };
+        Ok(TopLines {
+            selection,
+            before,
+            text,
+        })
+    }
+
+    /// The text of all lines.
+    pub fn into_text(self) -> Vec<u8, A>
+        ensures { result.items ≡ self.text.items }
+    {
+        self.text
+    }
+}
+
+impl<A: Allocator> Notes for TopLines<A> {
+    ghost noted = { λ first now messages.
+        AreLines first.selection now.selection now.before now.text.items messages };
+
+    fn note<B: Allocator + Copy>(
+        &mut self,
+        number: u32,
+        payload: &[u8],
+        _outcome: Outcome,
+        stock: &Stock<B>,
+    ) -> Result<(), AllocError> {
+        let moment = Moment {
+            message: number,
+            time: time_in(payload),
+            top: stock.top(),
+        };
+        put_shown(&mut self.text, self.selection, &self.before, &moment)?;
+        self.before = moment.top;
+        Ok(())
+    }
 }

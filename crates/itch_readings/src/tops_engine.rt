@@ -7,17 +7,15 @@ ghost use Rattle.itch_readings.specs.Engines.{GaveNoStock, RunsOnStock, tops_pri
 
 use crate::fault::StockFault;
 use crate::naming::StockName;
-use crate::top_lines::Selection;
-use crate::tops_text::TopsText;
+use crate::noted_file::note_file;
+use crate::top_lines::{Selection, TopLines};
 use binaryfile::{Feed, Sink, send};
-use day_segments::{SEGMENT_BYTES, SegmentReader};
 use engine_rules::ProgFault;
-use engine_rules::limits::{MOST_FILE_BYTES, MOST_MESSAGES};
+use itch_table::own_rows_suffice;
 use std::alloc::Allocator;
 use std::io::{Read, Write};
 
-// The lines of the best bid and ask of a file's stock; none where the file hasn't the stock. No more of the file is in
-// memory than a segment.
+// The lines of the best bid and ask of a file's stock; none where the file hasn't the stock.
 fn tops_of_file<A: Allocator + Copy, R: Read>(
     alloc: A,
     feed: &mut Feed<R>,
@@ -36,20 +34,16 @@ fn tops_of_file<A: Allocator + Copy, R: Read>(
     ensures failed { IsErrOf result ProgFault.Read ↔ HasFailed feed.new }
     ensures for_good { HasFailed feed.old → feed.new ≡ feed.old }
 {
+    // A law that the proof cites: it does nothing.
+    own_rows_suffice();
     if feed.failed() {
         return Err(ProgFault::Read);
     }
-    let mut tops = TopsText::new(alloc, name, selection)?;
-    let mut reader = SegmentReader::new(alloc, SEGMENT_BYTES, MOST_FILE_BYTES);
-    while let Some(segment) = reader.next(alloc, feed)? {
-        if reader.messages() <= u64::from(MOST_MESSAGES) {
-            tops.take_all(alloc, &segment)?;
-        }
+    let lines = TopLines::new(alloc, selection)?;
+    match note_file(alloc, feed, name, lines)? {
+        Some(lines) => Ok(Some(lines.into_text())),
+        None => Ok(None),
     }
-    if reader.messages() > u64::from(MOST_MESSAGES) {
-        return Err(ProgFault::TooManyMessages);
-    }
-    Ok(tops.into_text())
 }
 
 /// Reads a day file and writes the best bid and ask of one of its stocks after each message of the stock that changes

@@ -1,0 +1,158 @@
+//! A stock that is named, noted message by message.
+ghost use Rattle.std.specs.Prelude.{ℕ, ◌≡◌, ◌+◌, ◌-◌, ◌<◌, ◌^◌, ◌++◌, ◌∷◌, List, [], IfOk, IfSome, MatchOption, OnOk, length};
+ghost use Rattle.itch_table.specs.After.{after};
+ghost use Rattle.itch_table.specs.Projection.{only};
+ghost use Rattle.itch_readings.specs.Naming.{NamesNone, NamesStock};
+ghost use Rattle.itch_readings.specs.Noting.{TakesNext, HasTaken};
+ghost use Rattle.itch_readings.specs.OwnMessages.{OwnMessage, own_from, own_message};
+ghost use Rattle.itch_readings.specs.Searching.{HasSearched};
+
+use crate::naming::StockName;
+use crate::search::StockSearch;
+use binaryfile::Day;
+use itch_table::{Outcome, is_of_stock, stocks_are_independent};
+use std::alloc::{AllocError, Allocator};
+use stock_machine::Stock;
+
+/// Takes note of the messages of a stock, in their order.
+pub(crate) trait Notes {
+    /// How notes come from others by these messages.
+    ghost noted: { Self → Self → List OwnMessage → Type 0 };
+
+    /// Takes note of the stock's next message, by its number in the day, its payload, its outcome, and the stock's machine
+    /// after it. After an error, which says that memory was refused, the notes are of no use.
+    fn note<B: Allocator + Copy>(
+        &mut self,
+        number: u32,
+        payload: &[u8],
+        outcome: Outcome,
+        stock: &Stock<B>,
+    ) -> Result<(), AllocError>
+        ensures { OnOk result ((first : Self) (before : List OwnMessage) → noted first self.old before
+            → noted first self.new (before ++ own_message number payload.now outcome stock.now ∷ [])) };
+}
+
+// The machine of the stock that is named, where the stock begins with the next message.
+fn begun_by<A: Allocator + Copy>(
+    alloc: A,
+    search: &mut StockSearch<A>,
+    payload: &[u8],
+) -> Option<Stock<A>>
+    ensures name { search.new.name ≡ search.old.name }
+    ensures next { (day : List (List ℕ)) → HasSearched day search.old → MatchOption result
+        (HasSearched (day ++ payload.now ∷ []) search.new)
+        (λ stock. NamesStock (day ++ payload.now ∷ []) search.old.name (length day + 1) stock.locate
+        × (stock.world ≡ only stock.locate (after day (length day))) × (stock.steps ≡ 0)) }
+{
+    let locate = search.take(payload)?;
+    Some(Stock::new(alloc, locate))
+}
+
+/// A stock that is named, noted as far as a day was read, and what was noted of it.
+#[derive(Drop)]
+pub(crate) struct Noted<A: Allocator, N: Drop> {
+    search: StockSearch<A>,
+    // How many messages were taken.
+    messages: u32,
+    // The stock's machine, from the message on with which the stock begins.
+    stock: Option<Stock<A>>,
+    notes: N,
+}
+
+impl<A: Allocator + Copy, N: Notes + Drop> Noted<A, N> {
+    /// Before the first message of a day, with these notes, which are of no message.
+    pub fn new(alloc: A, name: StockName, notes: N) -> Result<Noted<A, N>, AllocError>
+        requires { N.noted notes notes [] }
+        ensures { IfOk result (λ noted. HasTaken N.noted notes [] name noted.search
+            noted.messages noted.stock noted.notes) }
+    {
+        let search = StockSearch::new(alloc, name)?;
+        Ok(Noted {
+            search,
+            messages: 0,
+            stock: None,
+            notes,
+        })
+    }
+
+    // Counts the next message, and makes the stock's machine where the stock begins with it.
+    fn count(&mut self, alloc: A, payload: &[u8])
+        requires { self.old.messages < 2 ^ 32 - 1 }
+        ensures { (first : N) (day : List (List ℕ)) (name : StockName)
+            → HasTaken N.noted first day name self.old.search self.old.messages self.old.stock self.old.notes
+            → TakesNext N.noted first day payload.now name self.new.search
+            self.new.messages self.new.stock self.new.notes }
+    {
+        self.messages += 1;
+        if self.stock.is_none() {
+            self.stock = begun_by(alloc, &mut self.search, payload);
+        }
+    }
+
+    // Takes note of the message that was counted, where it is the stock's.
+    fn note_own(&mut self, payload: &[u8]) -> Result<(), AllocError>
+        requires { IfSome self.old.stock (λ stock. stock.steps < 2 ^ 32 - 1) }
+        ensures { OnOk result ((first : N) (day : List (List ℕ)) (name : StockName)
+            → TakesNext N.noted first day payload.now name self.old.search
+            self.old.messages self.old.stock self.old.notes
+            → HasTaken N.noted first (day ++ payload.now ∷ []) name self.new.search
+            self.new.messages self.new.stock self.new.notes) }
+    {
+        // A law that the proof cites: it does nothing.
+        stocks_are_independent();
+        let Some(stock) = &mut self.stock else {
+            return Ok(());
+        };
+        if !is_of_stock(payload, stock.locate()) {
+            return Ok(());
+        }
+        let outcome = stock.step(payload)?;
+        self.notes.note(self.messages, payload, outcome, stock)
+    }
+
+    // Takes the next message of the day.
+    fn take(&mut self, alloc: A, payload: &[u8]) -> Result<(), AllocError>
+        requires { (first : N) × (day : List (List ℕ)) × (name : StockName)
+            × HasTaken N.noted first day name self.old.search self.old.messages self.old.stock self.old.notes
+            × (length day + 1 < 2 ^ 32) }
+        ensures { OnOk result ((first : N) (day : List (List ℕ)) (name : StockName)
+            → HasTaken N.noted first day name self.old.search self.old.messages self.old.stock self.old.notes
+            → HasTaken N.noted first (day ++ payload.now ∷ []) name self.new.search
+            self.new.messages self.new.stock self.new.notes) }
+    {
+        self.count(alloc, payload);
+        self.note_own(payload)
+    }
+
+    /// Takes the messages of the next segment. With those before they are fewer than 2^32. After an error the notes are of
+    /// no use.
+    pub fn take_all(&mut self, alloc: A, segment: &Day<A>) -> Result<(), AllocError>
+        requires { (first : N) × (day : List (List ℕ)) × (name : StockName)
+            × HasTaken N.noted first day name self.old.search self.old.messages self.old.stock self.old.notes
+            × (length day + length segment.now.payloads < 2 ^ 32) }
+        ensures { OnOk result ((first : N) (day : List (List ℕ)) (name : StockName)
+            → HasTaken N.noted first day name self.old.search self.old.messages self.old.stock self.old.notes
+            → HasTaken N.noted first (day ++ segment.now.payloads) name self.new.search
+            self.new.messages self.new.stock self.new.notes) }
+    {
+        for payload in segment.payloads() {
+            self.take(alloc, payload)?;
+        }
+        Ok(())
+    }
+
+    /// The notes, or none where no stock has begun.
+    pub fn into_notes(self) -> Option<N>
+        ensures { (first : N) (day : List (List ℕ)) (name : StockName)
+            → HasTaken N.noted first day name self.search self.messages self.stock self.notes
+            → MatchOption result (NamesNone day name)
+            (λ notes. (n : ℕ) × (locate : ℕ) × NamesStock day name n locate
+            × N.noted first notes (own_from day locate n)) }
+    {
+        if self.stock.is_some() {
+            Some(self.notes)
+        } else {
+            None
+        }
+    }
+}
