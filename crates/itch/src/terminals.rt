@@ -30,7 +30,7 @@ impl Terminals {
     pub fn tell_compressed<R: Runtime>(self, rt: &R, path: &str) {
         if self.errors && is_compressed(rt, path) {
             let _ = eprintln!(rt;
-                "itch: {path} is compressed by gzip: gunzip -c '{path}' | itch replay /dev/stdin"
+                "itch: {path} is compressed by gzip: unpack it, or pipe it in: gunzip -c '{path}' | itch .. /dev/stdin"
             );
         }
     }
