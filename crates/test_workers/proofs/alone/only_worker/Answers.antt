@@ -3,7 +3,7 @@ use Rattle.std.proofs.lemmas.List.Elements.{All-map}
 use Rattle.day_core.specs.Owners.{own_locates}
 use Rattle.top_cell.specs.Boards.{IsOn}
 use Rattle.stock_workers.specs.Working.{Working, WritersAt, places_of}
-use Rattle.test_workers.proofs.turns.only_worker.Goals as goal
+use Rattle.test_workers.proofs.alone.only_worker.Goals as goal
 
 pub returns-clause-worker : goal.returns-clause-worker
 returns-clause-worker g c =

@@ -3,7 +3,7 @@ use Rattle.std.proofs.lemmas.Option.{slice_get-get_or}
 use Rattle.itch_table.specs.Shows.{locates_of_day}
 use Rattle.top_cell.specs.Boards.{AreNew}
 use Rattle.test_workers.proofs.OnlyWorker.{only_waits}
-use Rattle.test_workers.proofs.turns.prepare.Goals as goal
+use Rattle.test_workers.proofs.alone.prepare.Goals as goal
 
 pub returns-clause-waits : goal.returns-clause-waits
 returns-clause-waits g c =
