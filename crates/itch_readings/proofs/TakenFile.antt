@@ -1,4 +1,4 @@
--- A stock of a file that is read segment by segment, taken.
+-- A stock whose messages are noted while a file is read segment by segment.
 use Rattle.std.proofs.Common.{◌≡◌, ℕ, ◌+◌, ◌-◌, ◌^◌, ◌<◌, ◌≤◌, List, [], ◌++◌, length, Some, None, refl, arith}
 use Rattle.std.proofs.lemmas.List.{length-append}
 use Rattle.std.specs.Prelude.{MatchOption, Option}
@@ -14,7 +14,7 @@ use Rattle.itch_readings.specs.OwnMessages.{own_from}
 use Rattle.itch_readings.specs.Searching.{Search}
 use Rattle.itch_readings.specs.declared.naming.StockName.{StockName}
 
--- a file was read so far, and its stock was taken so far, as long as its messages are few enough
+-- a file was read so far, and its stock's messages were noted so far, as long as those of the file are few enough
 pub record HasTakenTo {N : Type 0} (AreOf : Noting N) (first : N) (start now : Option (List ℕ)) (reading : Reading) (name : StockName)
     (search : Search) (messages : ℕ) (stock : Option StockMachine) (notes : N) : Type 0 where
   pub contents : Contents

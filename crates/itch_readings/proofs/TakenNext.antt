@@ -1,4 +1,4 @@
--- A stock that is named and taken, one message on.
+-- A stock that is named, whose messages are noted, one message on.
 use Rattle.std.proofs.Common.{◌≡◌, ℕ, ◌+◌, ◌-◌, ◌^◌, ◌<◌, true, false, List, [], ◌∷◌, ◌++◌, length, Option, Some, None, refl, sym, ap, subst, ◌∙◌, arith}
 use Rattle.std.specs.Prelude.{IfSome, is_some}
 use Rattle.itch_table.specs.declared.outcome.Outcome.{Outcome}

@@ -30,7 +30,7 @@ own_at day locate n = record {
 abbrev pub is_own_message : OwnMessage → Bool
 is_own_message message = is_of_stock message.locate message.payload
 
--- the messages of the stock among so many from message n on
+-- the messages of the stock among a number of messages from message n on
 abbrev pub own_among : List (List ℕ) → ℕ → ℕ → ℕ → List OwnMessage
 own_among day locate n count = filter is_own_message (map (own_at day locate) (range_with_len n count))
 

@@ -1,4 +1,4 @@
-//! A stock that is named, noted along a file that is read segment by segment.
+//! The messages of a stock that is named, noted while a file is read segment by segment.
 ghost use Rattle.std.specs.Prelude.{[], ◌≡◌, ◌+◌, ◌↔◌, IfOk, IfErr, IsErrOf, MatchOption};
 ghost use Rattle.binaryfile.specs.Devices.{GaveUpTo, HasFailed};
 ghost use Rattle.engine_rules.specs.declared.limits.TheConstants.{MOST_FILE_BYTES};
@@ -16,7 +16,7 @@ use std::io::Read;
 
 /// Reads a day file, and takes note of the messages of one of its stocks, from the one on with which it begins: by a locate
 /// code the stock's first message, and by a symbol the first directory message that gives it and is applied. `notes` are of
-/// no message yet. It returns none, and the notes are lost, where the file hasn't the stock, and at an error.
+/// no message yet. It returns none where the file hasn't the stock; then, and at an error, the notes are lost.
 ///
 /// The file is read once, and in memory are no more than a segment of 1 MiB, a byte for each locate code, the machine of the
 /// stock, and the notes. [`ProgFault::Read`] comes exactly where the feed has failed, [`ProgFault::TooManyBytes`] above

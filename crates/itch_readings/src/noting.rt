@@ -1,4 +1,4 @@
-//! A stock that is named, noted message by message.
+//! A stock that is named, whose messages are noted one by one.
 ghost use Rattle.std.specs.Prelude.{ℕ, ◌≡◌, ◌+◌, ◌-◌, ◌<◌, ◌^◌, ◌++◌, ◌∷◌, List, [], IfOk, IfSome, MatchOption, OnOk, length};
 ghost use Rattle.itch_table.specs.After.{after};
 ghost use Rattle.itch_table.specs.Projection.{only};
@@ -48,7 +48,7 @@ fn begun_by<A: Allocator + Copy>(
     Some(Stock::new(alloc, locate))
 }
 
-/// A stock that is named, noted as far as a day was read, and what was noted of it.
+/// A stock that is named, as far as a day was read, and the notes of its messages.
 #[derive(Drop)]
 pub(crate) struct Noted<A: Allocator, N: Drop> {
     search: StockSearch<A>,
