@@ -16,3 +16,6 @@ below_other m n below = grind (arith, nat_tests)
 
 pub above_other : (m n : ℕ) → leb n m ≡ false → (n == m) ≡ false
 above_other m n above = grind (arith, nat_tests)
+
+pub between_same : (m n : ℕ) → ltb n m ≡ false → leb n m ≡ true → n ≡ m
+between_same m n low high = grind (arith, nat_tests)

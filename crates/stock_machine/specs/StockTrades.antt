@@ -15,6 +15,10 @@ abbrev pub broken_trade : ℕ → TradeRow → TradeRow
 broken_trade match_no trade =
     if is_unbroken_trade match_no trade then record trade { broken = true } else trade
 
+-- a trade has this match number
+abbrev pub IsOfNumber : ℕ → TradeRow → Type 0
+IsOfNumber match_no trade = trade.match_no ≡ match_no
+
 -- a trade has another match number
 abbrev pub IsOther : ℕ → TradeRow → Type 0
 IsOther match_no trade = (trade.match_no == match_no) ≡ false

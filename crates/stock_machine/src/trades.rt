@@ -1,8 +1,8 @@
 //! The trades of one stock, with the totals over them.
-ghost use Rattle.std.specs.Prelude.{◌≡◌, ◌-◌, ◌<◌, ◌≤◌, ◌^◌, ◌++◌, ◌∷◌, [], drop, length, map, take, IfOk, OnOk, OnErr};
-ghost use Rattle.std.specs.List.{All, list_any};
+ghost use Rattle.std.specs.Prelude.{◌≡◌, ◌-◌, ◌<◌, ◌≤◌, ◌^◌, ◌++◌, ◌∷◌, [], drop, length, map, take, IfOk, IsTrue, OnOk, OnErr};
+ghost use Rattle.std.specs.List.{All, list_any, slice_range};
 ghost use Rattle.itch_table.specs.Trades.{totals_of};
-ghost use Rattle.stock_machine.specs.StockTrades.{IsOther, IsRising, broken_trade, is_unbroken_trade};
+ghost use Rattle.stock_machine.specs.StockTrades.{IsOfNumber, IsOther, IsRising, broken_trade, is_unbroken_trade};
 
 use itch_table::{Totals, TradeRow};
 use std::alloc::{AllocError, Allocator};
@@ -128,13 +128,15 @@ fn rises_with(rows: &[TradeRow], rising: bool, trade: &TradeRow) -> bool
     }
 }
 
-// Where trades with this match number can stand: from the first index up to the second.
+// Where trades with this match number can stand: from the first index up to the second. Where match numbers never fall,
+// each trade there has it.
 fn indices_of(rows: &[TradeRow], rising: bool, match_no: u64) -> (usize, usize)
     requires { IsRising rows.now rising }
     ensures order { result.0 ≤ result.1 }
     ensures bound { result.1 ≤ length rows.now }
     ensures before { All (IsOther match_no) (take result.0 rows.now) }
     ensures after { All (IsOther match_no) (drop result.1 rows.now) }
+    ensures narrow { IsTrue rising → All (IsOfNumber match_no) (slice_range rows.now result.0 result.1) }
 {
     if !rising {
         return (0, rows.len());

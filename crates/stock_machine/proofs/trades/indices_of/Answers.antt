@@ -1,11 +1,11 @@
-use Rattle.std.proofs.Common.{◌≡◌, ℕ, ◌-◌, List, length, drop, leb, ltb, get_or, ap, sym, ◌∙◌, subst, arith, length-drop, rules}
+use Rattle.std.proofs.Common.{◌≡◌, ℕ, ◌+◌, ◌-◌, ◌<◌, List, length, drop, take, true, leb, ltb, get_or, ap, sym, ◌∙◌, subst, arith, length-drop, rules}
 use Rattle.std.specs.List.{All, slice_range}
 use Rattle.std.specs.List.Sorted.{IsNonDecreasingBy}
-use Rattle.std.proofs.lemmas.List.{drop-drop, take_all}
+use Rattle.std.proofs.lemmas.List.{drop-drop, get_or-drop, get_or-take, length-take, take_all}
 use Rattle.std.proofs.lemmas.List.Sorted.{IsNonDecreasingBy-drop, IsPartitionPoint-from_clause, IsPartitionedBy-leb, IsPartitionedBy-ltb}
 use Rattle.itch_table.specs.declared.trades.TradeRow.{TradeRow}
 use Rattle.stock_machine.specs.StockTrades.{IsOther}
-use Rattle.stock_machine.proofs.Places.{IsStart, IsEnd, above_other, below_other}
+use Rattle.stock_machine.proofs.Places.{IsStart, IsEnd, above_other, below_other, between_same}
 use Rattle.stock_machine.proofs.Ranges.{all_before, all_after}
 use Rattle.stock_machine.proofs.trades.indices_of.Goals as goal
 
@@ -46,3 +46,20 @@ returns-clause-after c =
     let rest = slice_range rows start (length rows) in
     subst (λ (ts : List TradeRow). All (IsOther m) ts) (ap (drop count) (rest_is rows start) ∙ drop-drop count start rows)
     (all_after (IsOther m) rest count (λ k d low high. above_other m (get_or rest k d).match_no ((is_end c).1 k d low high)))
+
+pub returns-clause-narrow : goal.returns-clause-narrow
+returns-clause-narrow c _ k d lt =
+    let m = c.args.match_no in
+    let rows = c.args.rows.now in
+    let start = c.partition_point-start.result in
+    let count = c.partition_point-count.result in
+    let rest = slice_range rows start (length rows) in
+    let small : start + count - start ≡ count = omega arith in
+    let within : k < count = omega (arith, ap (λ (n : ℕ). length (take n (drop start rows))) small, lt, length-take count (drop start rows)) in
+    let there : get_or (slice_range rows start (start + count)) k d ≡ get_or rows (start + k) d =
+    rw small (get_or-take count (drop start rows) k d within ∙ get_or-drop start rows k d)
+    in
+    let here : get_or rest k d ≡ get_or rows (start + k) d = ap (λ (ts : List TradeRow). get_or ts k d) (rest_is rows start) ∙ get_or-drop start rows k d in
+    let high : leb (get_or rows (start + k) d).match_no m ≡ true = rw here at ((is_end c).0 k d (omega arith) within) in
+    let low = (is_start c).1 (start + k) d (omega arith) (omega arith) in
+    ap number there ∙ between_same m (get_or rows (start + k) d).match_no low high
