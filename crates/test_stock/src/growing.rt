@@ -102,8 +102,8 @@ fn try_step<A: Allocator + Copy>(
     number: u8,
     refusal: Refusal,
 ) -> Result<Tried, Fail> {
-    let (mut stock, mut twin) = twins_before(alloc, kind, number)?;
     let payload = payload_of(alloc, &kind.message(number))?;
+    let (mut stock, mut twin) = twins_before(alloc, kind, number)?;
     take_under(heap, alloc, &mut stock, &mut twin, &payload, refusal)
 }
 
@@ -166,6 +166,17 @@ fn fall_to<A: Allocator + Copy>(
     Ok(())
 }
 
+fn fallen_twins<A: Allocator + Copy>(
+    alloc: A,
+    kind: Growing,
+    reference: u64,
+) -> Result<(Stock<A>, Stock<A>), Fail> {
+    Ok((
+        fallen_to(alloc, kind, reference)?,
+        fallen_to(alloc, kind, reference)?,
+    ))
+}
+
 // Passes a message with a falling reference to a machine under a refusal.
 fn try_falling<A: Allocator + Copy>(
     heap: &Refusing<Global>,
@@ -174,11 +185,8 @@ fn try_falling<A: Allocator + Copy>(
     reference: u64,
     refusal: Refusal,
 ) -> Result<Tried, Fail> {
-    let (mut stock, mut twin) = (
-        fallen_to(alloc, kind, reference)?,
-        fallen_to(alloc, kind, reference)?,
-    );
     let payload = payload_of(alloc, &falling_message(kind, reference))?;
+    let (mut stock, mut twin) = fallen_twins(alloc, kind, reference)?;
     take_under(heap, alloc, &mut stock, &mut twin, &payload, refusal)
 }
 

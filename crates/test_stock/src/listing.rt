@@ -210,12 +210,20 @@ fn copies_in<A: Allocator + Copy>(
     same_new_copy(alloc, stock)
 }
 
+// Copies two machines in memory of `alloc`, which is that of the heap and can't grow any more, into that of another.
+fn copies_of_full<A: Allocator + Copy>(
+    heap: &Refusing<Global>,
+    alloc: A,
+    other: A,
+) -> Result<(), Fail> {
+    let stock = after(alloc, &both_sides())?;
+    heap.restart(Refusal::From(1));
+    copies_in(other, &Stock::new(alloc, 1), &stock)
+}
+
 #[test]
 fn lists_and_a_copy_take_memory_of_their_allocator(rt: HostRuntime) -> Result<(), Fail> {
     let heap = Refusing::new(rt.alloc(), Refusal::Never);
     let other = Refusing::new(rt.alloc(), Refusal::Never);
-    let empty = Stock::new(&heap, 1);
-    let stock = after(&heap, &both_sides())?;
-    heap.restart(Refusal::From(1));
-    copies_in(&other, &empty, &stock)
+    copies_of_full(&heap, &heap, &other)
 }
