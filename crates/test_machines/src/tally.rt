@@ -51,16 +51,24 @@ impl Tally {
         }
     }
 
-    /// The messages of a day.
-    pub fn add_day<A: Allocator + Copy>(&mut self, alloc: A, day: &Day<A>) -> Result<(), Fail> {
-        let mut plain = Plain::new(alloc);
+    // The messages of a day, which the machine takes.
+    fn add_all<A: Allocator + Copy>(
+        &mut self,
+        plain: &mut Plain<A>,
+        day: &Day<A>,
+    ) -> Result<(), Fail> {
         for payload in day.payloads() {
-            let outcome = step(&mut plain, payload)?;
+            let outcome = step(plain, payload)?;
             if let Some(kind) = payload.first() {
                 self.add(*kind, outcome);
             }
         }
         Ok(())
+    }
+
+    /// The messages of a day.
+    pub fn add_day<A: Allocator + Copy>(&mut self, alloc: A, day: &Day<A>) -> Result<(), Fail> {
+        self.add_all(&mut Plain::new(alloc), day)
     }
 
     /// A failure where a type is applied too seldom, or a fault or a message that passes occurs too seldom.
@@ -86,15 +94,24 @@ impl Tally {
     }
 }
 
+// A line of how often a type was applied.
+fn put_applied<W: Write>(f: &mut Formatter<W>, kind: u8, count: u64) -> fmt::Result {
+    writeln!(f, "applied {} {count}", char::from(kind))
+}
+
+// A line of how often a fault occurs.
+fn put_refused<W: Write>(f: &mut Formatter<W>, number: usize, count: u64) -> fmt::Result {
+    writeln!(f, "refused F{number} {count}")
+}
+
 impl Display for Tally {
     /// A line for each type, one for each fault, and one for messages that pass.
     fn fmt<W: Write>(&self, f: &mut Formatter<W>) -> fmt::Result {
         for kind in KINDS {
-            let count = self.applied[usize::from(kind)];
-            writeln!(f, "applied {} {count}", char::from(kind))?;
+            put_applied(f, kind, self.applied[usize::from(kind)])?;
         }
         for (number, count) in self.refused.iter().enumerate().skip(1) {
-            writeln!(f, "refused F{number} {count}")?;
+            put_refused(f, number, *count)?;
         }
         write!(f, "passed {}", self.passed)
     }

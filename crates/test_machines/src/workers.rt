@@ -37,22 +37,26 @@ struct Wanted<A: Allocator> {
     messages: u64,
 }
 
-// Leads the plain machine through a day.
-fn follow<A: Allocator + Copy>(alloc: A, day: &Day<A>) -> Result<Wanted<A>, Fail> {
-    let mut plain = Plain::new(alloc);
-    let mut outcomes = Vec::new(alloc);
-    let mut messages = 0u64;
+// Leads the plain machine along a day, whose messages are those that are wanted then.
+fn lead<A: Allocator + Copy>(wanted: &mut Wanted<A>, day: &Day<A>) -> Result<(), Fail> {
     for payload in day.payloads() {
-        outcomes.push(step(&mut plain, payload)?)?;
+        wanted.outcomes.push(step(&mut wanted.plain, payload)?)?;
         if let Part::Locate(_) = part(payload) {
-            messages = messages.saturating_add(1);
+            wanted.messages = wanted.messages.saturating_add(1);
         }
     }
-    Ok(Wanted {
-        plain,
-        outcomes,
-        messages,
-    })
+    Ok(())
+}
+
+// What the plain machine says of a day.
+fn follow<A: Allocator + Copy>(alloc: A, day: &Day<A>) -> Result<Wanted<A>, Fail> {
+    let mut wanted = Wanted {
+        plain: Plain::new(alloc),
+        outcomes: Vec::new(alloc),
+        messages: 0,
+    };
+    lead(&mut wanted, day)?;
+    Ok(wanted)
 }
 
 // Compares the outcomes, the event and all stocks of a day with those of the plain machine.
@@ -82,17 +86,28 @@ fn own_pieces<A: Allocator + Copy>(
     Ok(own)
 }
 
-// What became of all messages: those of no stock, and those of each worker, whose turns are taken one after another.
+// Adds what became of all messages: of those of no stock, and of each worker's, whose turns are taken one after another.
+fn add_pieces<A: Allocator + Copy>(
+    alloc: A,
+    parts: &Parts<A>,
+    turns: &mut Turns<'_, A>,
+    pieces: &mut Vec<Vec<Piece, A>, A>,
+) -> Result<(), Fail> {
+    pieces.push(parts.fixed().to_vec(alloc)?)?;
+    for worker in 0..parts.workers() {
+        pieces.push(own_pieces(alloc, turns, worker, parts.own(worker).len())?)?;
+    }
+    Ok(())
+}
+
+// What became of all messages.
 fn all_pieces<A: Allocator + Copy>(
     alloc: A,
     parts: &Parts<A>,
     turns: &mut Turns<'_, A>,
 ) -> Result<Vec<Vec<Piece, A>, A>, Fail> {
     let mut pieces = Vec::new(alloc);
-    pieces.push(parts.fixed().to_vec(alloc)?)?;
-    for worker in 0..parts.workers() {
-        pieces.push(own_pieces(alloc, turns, worker, parts.own(worker).len())?)?;
-    }
+    add_pieces(alloc, parts, turns, &mut pieces)?;
     Ok(pieces)
 }
 
