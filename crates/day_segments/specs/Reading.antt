@@ -2,8 +2,10 @@
 use Rattle.std.specs.Prelude.{◌≡◌, ◌+◌, ◌<◌, ◌≤◌, ◌^◌, ◌++◌, ℕ, Bool, true, false, List, [], length, Option}
 use Rattle.std.specs.Io.KnownBytes.{Consumes}
 use Rattle.byte_strings.specs.Bytes.{AreBytes}
-use Rattle.binaryfile.specs.Devices.{GaveAll}
+use Rattle.binaryfile.specs.Devices.{GaveAll, GaveMore}
 use Rattle.binaryfile.specs.Entries.{Contents, Splits}
+use Rattle.binaryfile.specs.declared.load.LoadFault.{LoadFault}
+use Rattle.binaryfile.specs.declared.load.LoadFault.TheVariants.{Memory, Read, TooManyBytes, TooManyMessages}
 use Rattle.day_segments.specs.Segments.{carry_after}
 
 -- how far a file was read: what is carried over to the next segment, how many bytes and messages were read, how many bytes
@@ -65,3 +67,11 @@ pub record IsWholeFile (start now : Option (List ℕ)) (most : ℕ) (contents : 
   pub are : AreBytes input
   pub within : length input ≤ most
   pub split : Splits input contents
+
+-- why a file that may have so many bytes and messages isn't read to its end
+abbrev pub Stops : Option (List ℕ) → Option (List ℕ) → ℕ → ℕ → LoadFault → Type 0
+Stops start now bytes messages Memory = Unit {0}
+Stops start now bytes messages Read = Unit {0}
+Stops start now bytes messages TooManyBytes = GaveMore start now bytes
+Stops start now bytes messages TooManyMessages =
+    (contents : Contents) × IsWholeFile start now bytes contents × (messages < length contents.payloads)

@@ -6,9 +6,10 @@ use Rattle.binaryfile.specs.Entries.{Contents}
 use Rattle.binaryfile.specs.declared.load.LoadFault.{LoadFault}
 use Rattle.binaryfile.specs.declared.load.LoadFault.TheVariants.{Read}
 use Rattle.std.specs.declared.alloc.AllocError.{AllocError}
+use Rattle.day_segments.specs.Reading.{Stops}
 use Rattle.day_replay.specs.Dealing.{Dealt, IsDealt}
 use Rattle.day_replay.specs.Replays.{HasReplayed, ReplayState}
-use Rattle.file_replay.specs.Files.{DealsNext, FileReading, IsFurther, IsSoFar, Next, ReadsOn, ReplaysDealt, Stops}
+use Rattle.file_replay.specs.Files.{DealsNext, FileReading, IsFurther, IsSoFar, Next, ReadsOn, ReplaysDealt}
 use Rattle.file_replay.proofs.Replayed.{is_dealt}
 
 module _ {R : Type 0} (left : R → Option (List ℕ)) (feed fed : Device R) (old new : FileReading) (result : Result Bool LoadFault) (reads : ReadsOn left feed fed old new result) where

@@ -1,17 +1,8 @@
 -- Why a file isn't replayed.
-use Rattle.std.proofs.Common.{◌≡◌, ◌≢◌, ℕ, Err, List, refl, sym, ap, ◌∙◌}
-use Rattle.std.specs.Prelude.{Option, Result}
-use Rattle.binaryfile.specs.Devices.{GaveMore}
+use Rattle.std.proofs.Common.{◌≡◌, Err, sym, ap, ◌∙◌}
+use Rattle.std.specs.Prelude.{Result}
 use Rattle.binaryfile.specs.declared.load.LoadFault.{LoadFault}
-use Rattle.binaryfile.specs.declared.load.LoadFault.TheVariants.{Memory, Read, TooManyBytes, TooManyMessages}
-use Rattle.file_replay.specs.Files.{Stops}
-
--- the fault of a segment
-pub stops : (start now : Option (List ℕ)) (bytes messages : ℕ) (fault : LoadFault) → (fault ≡ TooManyBytes → GaveMore start now bytes) → fault ≢ TooManyMessages → Stops start now bytes messages fault
-stops start now bytes messages Memory more few = tt
-stops start now bytes messages Read more few = tt
-stops start now bytes messages TooManyBytes more few = more refl
-stops start now bytes messages TooManyMessages more few = absurd (few refl)
+use Rattle.binaryfile.specs.declared.load.LoadFault.TheVariants.{Read}
 
 -- a fault that is passed on is Read exactly where the other was
 pub failed_as : {T : Type 0} (F : Type 0) (r : Result T LoadFault) (passed fault : LoadFault) → r ≡ Err passed → passed ≡ fault → ((fault ≡ Read → F) × (F → fault ≡ Read))

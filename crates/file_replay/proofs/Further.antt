@@ -6,11 +6,11 @@ use Rattle.binaryfile.specs.Devices.{Device, GaveUpTo, HasFailed}
 use Rattle.binaryfile.specs.Entries.{Contents}
 use Rattle.binaryfile.specs.declared.load.LoadFault.{LoadFault}
 use Rattle.binaryfile.specs.declared.load.LoadFault.TheVariants.{Read}
-use Rattle.day_segments.specs.Reading.{HasRead, Reading, followed_by}
+use Rattle.day_segments.specs.Reading.{HasRead, Reading, Stops, followed_by}
 use Rattle.day_replay.specs.Dealing.{Dealt, IsDealt}
 use Rattle.file_replay.specs.FileEnds.{end_after}
 use Rattle.file_replay.specs.declared.file_end.FileEnd.{FileEnd}
-use Rattle.file_replay.specs.Files.{FileReading, IsFurther, IsSoFar, ReadsOn, Stops}
+use Rattle.file_replay.specs.Files.{FileReading, IsFurther, IsSoFar, ReadsOn}
 use Rattle.file_replay.proofs.Tails.{so_far_after}
 
 -- nothing is dealt yet

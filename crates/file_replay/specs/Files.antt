@@ -1,11 +1,11 @@
 -- A day file that is replayed while it is read. All is of this project.
 use Rattle.std.specs.Prelude.{◌≡◌, ◌↔◌, ◌+◌, ◌<◌, ◌≤◌, ◌++◌, ℕ, Bool, true, false, IfErr, IfOk, IsErrOf, List, OnOk, Option, Result, count_by, length}
 use Rattle.std.specs.declared.alloc.AllocError.{AllocError}
-use Rattle.binaryfile.specs.Devices.{Device, GaveMore, GaveUpTo, HasFailed}
+use Rattle.binaryfile.specs.Devices.{Device, GaveUpTo, HasFailed}
 use Rattle.binaryfile.specs.Entries.{Contents}
 use Rattle.binaryfile.specs.declared.load.LoadFault.{LoadFault}
-use Rattle.binaryfile.specs.declared.load.LoadFault.TheVariants.{Memory, Read, TooManyBytes, TooManyMessages}
-use Rattle.day_segments.specs.Reading.{HasRead, IsWholeFile, Reading}
+use Rattle.binaryfile.specs.declared.load.LoadFault.TheVariants.{Read}
+use Rattle.day_segments.specs.Reading.{HasRead, IsWholeFile, Reading, Stops}
 use Rattle.itch_table.specs.After.{outcomes}
 use Rattle.day_core.specs.Replaying.{IsSummary, is_passed}
 use Rattle.day_replay.specs.Dealing.{Dealt, IsDealt}
@@ -40,14 +40,6 @@ abbrev pub Next : Option (List ℕ) → Option (List ℕ) → Contents → FileR
 Next start now before file dealt true = IsFurther start now before file dealt
 Next start now before file dealt false =
     IsSoFar start now before file × IsWholeFile start now file.reading.most before
-
--- why a file that may have so many bytes and messages isn't replayed
-abbrev pub Stops : Option (List ℕ) → Option (List ℕ) → ℕ → ℕ → LoadFault → Type 0
-Stops start now bytes messages Memory = Unit {0}
-Stops start now bytes messages Read = Unit {0}
-Stops start now bytes messages TooManyBytes = GaveMore start now bytes
-Stops start now bytes messages TooManyMessages =
-    (contents : Contents) × IsWholeFile start now bytes contents × (messages < length contents.payloads)
 
 -- a file that was read so far is read further, or was read whole, or it stops: what the feed and the file were before,
 -- and are then

@@ -2,8 +2,8 @@
 ghost use Rattle.std.specs.Prelude.{◌≡◌, ◌+◌, ◌<◌, ◌≤◌, ◌^◌, ◌↔◌, ℕ, IfErr, IfOk, IsErrOf, List, OnOk, Option, false, length};
 ghost use Rattle.binaryfile.specs.Devices.{GaveUpTo, HasFailed};
 ghost use Rattle.binaryfile.specs.Entries.{Contents};
-ghost use Rattle.day_segments.specs.Reading.{HasRead, IsWholeFile, nothing_read};
-ghost use Rattle.file_replay.specs.Files.{DealsNext, DealsSegment, IsFurther, IsSoFar, Next, ReadsOn, Stops};
+ghost use Rattle.day_segments.specs.Reading.{HasRead, IsWholeFile, Stops, nothing_read};
+ghost use Rattle.file_replay.specs.Files.{DealsNext, DealsSegment, IsFurther, IsSoFar, Next, ReadsOn};
 
 use crate::file_end::FileEnd;
 use binaryfile::{Feed, Limits, LoadFault};

@@ -4,9 +4,10 @@ ghost use Rattle.std.specs.Thread.{IsSend, IsSync};
 ghost use denote.Param.Send.{Frees};
 ghost use Rattle.binaryfile.specs.Devices.{GaveUpTo, HasFailed};
 ghost use Rattle.binaryfile.specs.Entries.{Contents};
+ghost use Rattle.day_segments.specs.Reading.{Stops};
 ghost use Rattle.day_replay.specs.Dealing.{IsDealt};
 ghost use Rattle.day_replay.specs.Replays.{HasReplayed};
-ghost use Rattle.file_replay.specs.Files.{DealsNext, IsReplayedFile, IsSoFar, ReplaysDealt, Stops};
+ghost use Rattle.file_replay.specs.Files.{DealsNext, IsReplayedFile, IsSoFar, ReplaysDealt};
 
 use crate::file_reader::FileReader;
 use crate::progress::Progress;

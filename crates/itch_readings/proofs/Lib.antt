@@ -1,7 +1,7 @@
 mod GoesOn
+mod OwnNumbers
 mod NextMoment
 mod Listing
-mod Segmented
 mod WordNames
 mod DirectoryRows
 mod LongerDays
@@ -11,4 +11,4 @@ mod TopLinesMore
 mod Found
 mod TakenNext
 mod TakenAlong
-mod TakenFile
+mod FileTaken

@@ -1,7 +1,6 @@
 -- The moments of a stock, one message on.
 use Rattle.std.proofs.Common.{◌≡◌, ◌≢◌, ℕ, ◌+◌, Bool, true, false, cond, List, [], ◌∷◌, ◌++◌, drop, get_or, ap, sym, ◌∙◌, arith}
 use Rattle.std.proofs.lemmas.List.{append-nil}
-use Rattle.std.proofs.lemmas.List.FromFn.{filter_of_map_range_with_len_more}
 use Rattle.itch_table.specs.declared.outcome.Outcome.{Outcome}
 use Rattle.itch_table.specs.declared.outcome.Part.TheVariants.{Locate}
 use Rattle.itch_table.specs.declared.order.Order.{Order}
@@ -15,7 +14,8 @@ use Rattle.itch_table.specs.Table.{step}
 use Rattle.itch_table.specs.World.{World, orders_of}
 use Rattle.itch_table.proofs.Days.{after-next}
 use Rattle.itch_readings.proofs.GoesOn.{here, payload-is}
-use Rattle.itch_readings.specs.Tops.{is_own, moment, time_of, tops_until}
+use Rattle.itch_readings.proofs.OwnNumbers.{own_more}
+use Rattle.itch_readings.specs.Tops.{moment, time_of, tops_until}
 
 -- where a day goes on with a payload after n messages
 module _ (day rest : List (List ℕ)) (n : ℕ) (payload : List ℕ) (goes_on : drop n day ≡ payload ∷ rest) where
@@ -27,8 +27,8 @@ module _ (day rest : List (List ℕ)) (n : ℕ) (payload : List ℕ) (goes_on : 
       → tops_until day locate (n + 1) ≡ tops_until day locate n ++ cond own (moment day locate (n + 1) ∷ []) []
   next-moment locate own is =
       let seam : 1 + n ≡ n + 1 = omega arith in
-      filter_of_map_range_with_len_more (is_own day locate) (moment day locate) 1 n (n + 1) seam
-      ∙ ap (λ (b : Bool). tops_until day locate n ++ cond b (moment day locate (n + 1) ∷ []) []) (ap (λ (p : List ℕ). is_of_stock locate p) (payload-is day rest n payload goes_on) ∙ is)
+      own_more (moment day locate) day locate 1 n (n + 1) seam
+      ∙ ap (λ (b : Bool). tops_until day locate n ++ cond b (moment day locate (n + 1) ∷ []) []) (ap (is_of_stock locate) (payload-is day rest n payload goes_on) ∙ is)
 
   pub next-is : (locate : ℕ) → is_of_stock locate payload ≡ true
       → tops_until day locate (n + 1) ≡ tops_until day locate n ++ moment day locate (n + 1) ∷ []

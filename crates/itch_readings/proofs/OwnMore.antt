@@ -1,6 +1,5 @@
 -- The messages of a stock, one message on.
-use Rattle.std.proofs.Common.{◌≡◌, ◌≢◌, ℕ, zero, suc, ◌+◌, ◌-◌, ◌<◌, ◌≤◌, Bool, true, false, cond, List, [], ◌∷◌, ◌++◌, length, refl, sym, ap, subst, ◌∙◌, arith, append-nil}
-use Rattle.std.proofs.lemmas.List.FromFn.{filter_of_map_range_with_len_more}
+use Rattle.std.proofs.Common.{◌≡◌, ◌≢◌, ℕ, zero, suc, ◌+◌, ◌-◌, ◌<◌, ◌≤◌, Bool, true, false, cond, List, [], ◌∷◌, ◌++◌, length, map, refl, sym, ap, subst, ◌∙◌, arith, append-nil}
 use Rattle.itch_table.specs.declared.outcome.Outcome.{Outcome}
 use Rattle.itch_table.specs.declared.outcome.Part.TheVariants.{Locate as OfStock}
 use Rattle.itch_table.specs.After.{after, outcome}
@@ -10,7 +9,8 @@ use Rattle.itch_table.specs.Table.{step}
 use Rattle.itch_table.specs.World.{World}
 use Rattle.stock_machine.specs.StockRows.{StockMachine}
 use Rattle.itch_readings.specs.Noting.{HasNoted, Noting}
-use Rattle.itch_readings.specs.OwnMessages.{OwnMessage, is_own_message, own_among, own_at, own_from, own_message}
+use Rattle.itch_readings.specs.OwnMessages.{OwnMessage, own_at, own_from, own_message, own_numbers}
+use Rattle.itch_readings.proofs.OwnNumbers.{own_more}
 use Rattle.itch_readings.proofs.LongerDays.{after_last, after_more, after_whole, longer, outcome_last, outcome_more, payload_last, payload_more}
 
 own_at_more : (day more : List (List ℕ)) (locate n : ℕ) → 0 < n → n ≤ length day → own_at (day ++ more) locate n ≡ own_at day locate n
@@ -22,16 +22,18 @@ own_at_more day more locate n some within = λ i. record {
   rows = only locate (after_more day more n within i);
 }
 
-own_among_more : (day more : List (List ℕ)) (locate n count : ℕ) → 0 < n → n + count ≤ length day + 1 → own_among (day ++ more) locate n count ≡ own_among day locate n count
-own_among_more day more locate n zero some within = refl
-own_among_more day more locate n (suc count) some within =
+own_before : (day more : List (List ℕ)) (locate n count : ℕ) → 0 < n → n + count ≤ length day + 1
+    → map (own_at (day ++ more) locate) (own_numbers (day ++ more) locate n count) ≡ map (own_at day locate) (own_numbers day locate n count)
+own_before day more locate n zero some within = refl
+own_before day more locate n (suc count) some within =
     let one : count + 1 ≡ suc count = omega arith in
     let low : 0 < n + count = omega (arith, some) in
     let high : n + count ≤ length day = omega (arith, within) in
-    let next : (d : List (List ℕ)) → own_among d locate n (suc count) ≡ own_among d locate n count ++ cond (is_of_stock locate (payload_at d (n + count))) (own_at d locate (n + count) ∷ []) []
-    = λ d. ap (own_among d locate n) (sym one) ∙ filter_of_map_range_with_len_more is_own_message (own_at d locate) n count (n + count) refl in
+    let next : (d : List (List ℕ)) → map (own_at d locate) (own_numbers d locate n (suc count))
+    ≡ map (own_at d locate) (own_numbers d locate n count) ++ cond (is_of_stock locate (payload_at d (n + count))) (own_at d locate (n + count) ∷ []) []
+    = λ d. ap (λ (k : ℕ). map (own_at d locate) (own_numbers d locate n k)) (sym one) ∙ own_more (own_at d locate) d locate n count (n + count) refl in
     next (day ++ more)
-    ∙ (λ i. own_among_more day more locate n count some (omega (arith, within)) i
+    ∙ (λ i. own_before day more locate n count some (omega (arith, within)) i
     ++ cond (is_of_stock locate (payload_more day more (n + count) low high i)) (own_at_more day more locate (n + count) low high i ∷ []) [])
     ∙ sym (next day)
 
@@ -39,15 +41,14 @@ module _ (day : List (List ℕ)) (payload : List ℕ) (locate n : ℕ) (some : 0
   pub own_next : (own : Bool) → is_of_stock locate payload ≡ own
       → own_from (day ++ payload ∷ []) locate n ≡ own_from day locate n ++ cond own (own_at (day ++ payload ∷ []) locate (length day + 1) ∷ []) []
   own_next own is =
+      let whole = day ++ payload ∷ [] in
       let count : ℕ = length day + 1 - n in
-      let all : length (day ++ payload ∷ []) + 1 - n ≡ count + 1 = omega (arith, longer day payload, within) in
+      let all : length whole + 1 - n ≡ count + 1 = omega (arith, longer day payload, within) in
       let seam : n + count ≡ length day + 1 = omega (arith, within) in
-      ap (own_among (day ++ payload ∷ []) locate n) all
-      ∙ filter_of_map_range_with_len_more is_own_message (own_at (day ++ payload ∷ []) locate) n count (length day + 1) seam
-      ∙ ap (λ (b : Bool). own_among (day ++ payload ∷ []) locate n count ++ cond b (own_at (day ++ payload ∷ []) locate (length day + 1) ∷ []) [])
-      (ap (is_of_stock locate) (payload_last day payload) ∙ is)
-      ∙ ap (λ (l : List OwnMessage). l ++ cond own (own_at (day ++ payload ∷ []) locate (length day + 1) ∷ []) [])
-      (own_among_more day (payload ∷ []) locate n count some (omega (arith, seam)))
+      ap (λ (k : ℕ). map (own_at whole locate) (own_numbers whole locate n k)) all
+      ∙ own_more (own_at whole locate) whole locate n count (length day + 1) seam
+      ∙ (λ i. own_before day (payload ∷ []) locate n count some (omega (arith, seam)) i
+      ++ cond ((ap (is_of_stock locate) (payload_last day payload) ∙ is) i) (own_at whole locate (length day + 1) ∷ []) [])
 
 module _ {N : Type 0} (AreOf : Noting N) (first : N) (day : List (List ℕ)) (payload : List ℕ) (n : ℕ) (stock : StockMachine) (notes : N)
     (some : 0 < n) (within : n ≤ length day + 1) (before : HasNoted AreOf first day n stock notes) where

@@ -1,23 +1,20 @@
 -- The lines of a stock's best bid and ask, by its messages.
-use Rattle.std.proofs.Common.{◌≡◌, ℕ, zero, suc, ◌+◌, ◌-◌, Bool, true, false, cond, List, [], ◌∷◌, ◌++◌, length, map, refl, sym, ap, subst, ◌∙◌, arith, append-nil}
-use Rattle.std.specs.Prelude.{MatchOption, Option, Some}
+use Rattle.std.proofs.Common.{◌≡◌, ℕ, ◌+◌, ◌-◌, List, [], ◌∷◌, ◌++◌, length, map, refl, sym, ap, subst, ◌∙◌, append-nil}
 use Rattle.std.proofs.lemmas.List.{append_assoc, map-append}
-use Rattle.std.proofs.lemmas.List.FromFn.{filter_of_map_range_with_len_more}
-use Rattle.engine_rules.specs.Runs.{HasMade}
 use Rattle.itch_table.specs.declared.order.Top.{Top}
 use Rattle.itch_table.specs.declared.order.Order.{Order}
 use Rattle.itch_table.specs.declared.outcome.Outcome.{Outcome}
 use Rattle.itch_table.specs.After.{after}
 use Rattle.itch_table.specs.Levels.{top}
-use Rattle.itch_table.specs.Projection.{is_of_stock, only, payload_at}
+use Rattle.itch_table.specs.Projection.{only, payload_at}
 use Rattle.itch_table.specs.Shows.{no_top, top_after}
 use Rattle.itch_table.specs.World.{World, orders_of}
 use Rattle.stock_machine.specs.StockRows.{StockMachine}
-use Rattle.itch_readings.specs.Engines.{GaveNoStock, GaveStock, tops_printer}
-use Rattle.itch_readings.specs.Noting.{Noting}
-use Rattle.itch_readings.specs.OwnMessages.{OwnMessage, is_own_message, own_among, own_at, own_from, own_message}
+use Rattle.itch_readings.specs.Engines.{PrintsTops}
+use Rattle.itch_readings.specs.Naming.{NamesStock}
+use Rattle.itch_readings.specs.OwnMessages.{OwnMessage, own_at, own_from, own_message, own_numbers}
 use Rattle.itch_readings.specs.TopLines.{AreLines, field_names, last_top, moment_lines, moment_of, shown_line, tops_text}
-use Rattle.itch_readings.specs.Tops.{is_own, moment, time_of, tops_among, tops_from}
+use Rattle.itch_readings.specs.Tops.{moment, time_of}
 use Rattle.itch_readings.specs.declared.moments.Moment.{Moment}
 use Rattle.itch_readings.specs.declared.naming.StockName.{StockName}
 use Rattle.itch_readings.specs.declared.top_lines.Selection.{Selection}
@@ -66,44 +63,18 @@ module _ (suffice : (w : World) (l : ℕ) → orders_of (only l w) l ≡ orders_
   own_moment day locate n =
       ap (λ (orders : List Order). record { message = n; time = time_of (payload_at day n); top = top orders }) (suffice (after day n) locate)
 
-  moments_among : (day : List (List ℕ)) (locate n count : ℕ) → map moment_of (own_among day locate n count) ≡ tops_among day locate n count
-  moments_among day locate n zero = refl
-  moments_among day locate n (suc count) =
-      let one : count + 1 ≡ suc count = omega arith in
-      let here = own_moment day locate (n + count) in
-      ap (λ (k : ℕ). map moment_of (own_among day locate n k)) (sym one)
-      ∙ ap (map moment_of) (filter_of_map_range_with_len_more is_own_message (own_at day locate) n count (n + count) refl)
-      ∙ map-append moment_of (own_among day locate n count) (cond (is_of_stock locate (payload_at day (n + count))) (own_at day locate (n + count) ∷ []) [])
-      ∙ (λ i. moments_among day locate n count i ++ one_or_none (is_of_stock locate (payload_at day (n + count))) (own_at day locate (n + count)) i)
-      ∙ ap (λ (m : Moment). tops_among day locate n count ++ cond (is_of_stock locate (payload_at day (n + count))) (m ∷ []) []) here
-      ∙ sym (filter_of_map_range_with_len_more (is_own day locate) (moment day locate) n count (n + count) refl)
-      ∙ ap (tops_among day locate n) one
-    where
-      one_or_none : (b : Bool) (m : OwnMessage) → map moment_of (cond b (m ∷ []) []) ≡ cond b (moment_of m ∷ []) []
-      one_or_none true m = refl
-      one_or_none false m = refl
+  moments_at : (day : List (List ℕ)) (locate : ℕ) (numbers : List ℕ) → map moment_of (map (own_at day locate) numbers) ≡ map (moment day locate) numbers
+  moments_at day locate [] = refl
+  moments_at day locate (n ∷ rest) = λ i. own_moment day locate n i ∷ moments_at day locate rest i
 
-  pub moments_from : (day : List (List ℕ)) (locate n : ℕ) → map moment_of (own_from day locate n) ≡ tops_from day locate n
-  moments_from day locate n = moments_among day locate n (length day + 1 - n)
-
-  -- what was noted of a file's stock are its lines
-  pub tops_made : {N : Type 0} (AreOf : Noting N) (first made : N) (name : StockName) (selection chosen wanted : Selection) (before : Top) (text : List ℕ) (start next : Option (List ℕ))
-      → selection ≡ wanted → ((messages : List OwnMessage) → AreOf first made messages → AreLines selection chosen before text messages)
-      → (found : Option N) → found ≡ Some made → MatchOption found (GaveNoStock start next name) (GaveStock AreOf first name start next)
-      → (text' : List ℕ) → text' ≡ text → HasMade (tops_printer name wanted) start next text' tt
-  tops_made {N = N} AreOf first made name selection chosen wanted before text start next same lines found is gives text' text_is =
-      let gave = subst (λ (o : Option N). MatchOption o (GaveNoStock start next name) (GaveStock AreOf first name start next)) is gives in
-      record {
-        input = gave.input;
-        gave = gave.gave;
-        within = gave.within;
-        makes = record {
-          contents = gave.contents;
-          split = gave.split;
-          few = gave.few;
-          message = gave.message;
-          locate = gave.locate;
-          named = gave.named;
-          printed = text_is ∙ (lines _ gave.noted).lines ∙ (λ i. tops_text (same i) (moments_from gave.contents.payloads gave.locate gave.message i));
-        };
-      }
+  -- what was noted of a stock are its lines
+  pub tops_printed : (day : List (List ℕ)) (name named : StockName) (selection selected chosen : Selection) (before : Top) (text printed : List ℕ)
+      → named ≡ name → selected ≡ selection → printed ≡ text
+      → (n : ℕ) × (locate : ℕ) × NamesStock day named n locate × AreLines selected chosen before text (own_from day locate n)
+      → PrintsTops name selection printed day
+  tops_printed day name named selection selected chosen before text printed same chose text_is of = record {
+    message = of.0;
+    locate = of.1;
+    named = subst (λ (s : StockName). NamesStock day s of.0 of.1) same of.2;
+    printed = text_is ∙ of.3.lines ∙ (λ i. tops_text (chose i) (moments_at day of.1 (own_numbers day of.1 of.0 (length day + 1 - of.0)) i));
+  }

@@ -1,9 +1,10 @@
 pub mod Naming
 pub mod Searching
+pub mod OwnMessages
 pub mod Tops
 pub mod TopLines
-pub mod OwnMessages
 pub mod Noting
 pub mod StockLines
 pub mod StockFaults
+pub mod Files
 pub mod Engines

@@ -1,5 +1,5 @@
 -- The messages of one stock in a day, with what became of each. All is of this project.
-use Rattle.std.specs.Prelude.{ℕ, ◌+◌, ◌-◌, Bool, List, length, map, filter}
+use Rattle.std.specs.Prelude.{ℕ, ◌+◌, ◌-◌, List, length, map, filter}
 use Rattle.std.specs.List.{range_with_len}
 use Rattle.itch_table.specs.declared.outcome.Outcome.{Outcome}
 use Rattle.itch_table.specs.After.{after, outcome}
@@ -26,17 +26,14 @@ own_at day locate n = record {
   rows = only locate (after day n);
 }
 
--- whether it is the stock's
-abbrev pub is_own_message : OwnMessage → Bool
-is_own_message message = is_of_stock message.locate message.payload
+-- the numbers of the stock's messages among so many from message n on
+abbrev pub own_numbers : List (List ℕ) → ℕ → ℕ → ℕ → List ℕ
+own_numbers day locate n count =
+    filter (λ k. is_of_stock locate (payload_at day k)) (range_with_len n count)
 
--- the messages of the stock among a number of messages from message n on
-abbrev pub own_among : List (List ℕ) → ℕ → ℕ → ℕ → List OwnMessage
-own_among day locate n count = filter is_own_message (map (own_at day locate) (range_with_len n count))
-
--- from message n on
+-- the stock's messages from message n on
 abbrev pub own_from : List (List ℕ) → ℕ → ℕ → List OwnMessage
-own_from day locate n = own_among day locate n (length day + 1 - n)
+own_from day locate n = map (own_at day locate) (own_numbers day locate n (length day + 1 - n))
 
 -- a message that a stock's machine has taken
 abbrev pub own_message : ℕ → List ℕ → Outcome → StockMachine → OwnMessage

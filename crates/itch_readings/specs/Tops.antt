@@ -1,12 +1,12 @@
 -- The top of one stock after each of its messages.
-use Rattle.std.specs.Prelude.{ℕ, ◌+◌, ◌-◌, Bool, List, length, map, filter}
-use Rattle.std.specs.List.{range_with_len}
+use Rattle.std.specs.Prelude.{ℕ, ◌+◌, ◌-◌, List, length, map}
 use Rattle.itch_layouts.specs.Means.{fields_of}
 use Rattle.itch_layouts.specs.Shapes.{shape_of}
 use Rattle.itch_layouts.specs.declared.shape.Shape.{Shape}
 use Rattle.itch_layouts.specs.declared.shape.Shape.TheVariants.{Known}
-use Rattle.itch_table.specs.Projection.{is_of_stock, payload_at}
+use Rattle.itch_table.specs.Projection.{payload_at}
 use Rattle.itch_table.specs.Shows.{top_after}
+use Rattle.itch_readings.specs.OwnMessages.{own_numbers}
 use Rattle.itch_readings.specs.declared.moments.Moment.{Moment}
 
 -- when a message was made, in nanoseconds since midnight; 0 where a payload is no message
@@ -21,17 +21,9 @@ time_of payload = time_of_shape (shape_of payload)
 abbrev pub moment : List (List ℕ) → ℕ → ℕ → Moment
 moment day locate n = record { message = n; time = time_of (payload_at day n); top = top_after day locate n }
 
--- whether the message of a moment is of the stock
-abbrev pub is_own : List (List ℕ) → ℕ → Moment → Bool
-is_own day locate at = is_of_stock locate (payload_at day at.message)
-
--- the moments of the stock among so many messages from message n on
-abbrev pub tops_among : List (List ℕ) → ℕ → ℕ → ℕ → List Moment
-tops_among day locate n count = filter (is_own day locate) (map (moment day locate) (range_with_len n count))
-
--- among the first n messages
+-- the moments of the stock among the first n messages
 abbrev pub tops_until : List (List ℕ) → ℕ → ℕ → List Moment
-tops_until day locate n = tops_among day locate 1 n
+tops_until day locate n = map (moment day locate) (own_numbers day locate 1 n)
 
 -- in the whole day
 abbrev pub tops_of : List (List ℕ) → ℕ → List Moment
@@ -39,4 +31,4 @@ tops_of day locate = tops_until day locate (length day)
 
 -- from message n on
 abbrev pub tops_from : List (List ℕ) → ℕ → ℕ → List Moment
-tops_from day locate n = tops_among day locate n (length day + 1 - n)
+tops_from day locate n = map (moment day locate) (own_numbers day locate n (length day + 1 - n))

@@ -6,7 +6,8 @@
 //! | [`tops_run`] | a day file | a stock's best bid and ask after each of its messages, or each that changes them |
 //!
 //! They meet the contract of engines, `Runs` of `engine_rules`, but that [`tops_run`] may find that the day hasn't the
-//! stock ([`StockFault`]).
+//! stock ([`StockFault`]). [`stocks_of_file`] and [`tops_of_file`] make their texts, within limits and by segments that a
+//! caller chooses.
 //!
 //! [`tops`] is the best bid and ask of a stock after each of its messages. [`StockName::of_word`] reads the name of a
 //! stock, and [`find_stock`] finds the stock of a day that it names.
@@ -26,9 +27,9 @@
 mod fault;
 mod moments;
 mod naming;
-mod noted_file;
 mod noting;
 mod search;
+mod segments;
 mod stock_lines;
 mod stocks_engine;
 mod top_lines;
@@ -38,6 +39,6 @@ pub use fault::StockFault;
 pub use moments::{Moment, tops};
 pub use naming::StockName;
 pub use search::find_stock;
-pub use stocks_engine::stocks_run;
+pub use stocks_engine::{stocks_of_file, stocks_run};
 pub use top_lines::Selection;
-pub use tops_engine::tops_run;
+pub use tops_engine::{tops_of_file, tops_run};

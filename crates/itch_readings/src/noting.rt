@@ -9,6 +9,7 @@ ghost use Rattle.itch_readings.specs.Searching.{HasSearched};
 
 use crate::naming::StockName;
 use crate::search::StockSearch;
+use crate::segments::TakesSegments;
 use binaryfile::Day;
 use itch_table::{Outcome, is_of_stock, stocks_are_independent};
 use std::alloc::{AllocError, Allocator};
@@ -63,8 +64,10 @@ impl<A: Allocator + Copy, N: Notes + Drop> Noted<A, N> {
     /// Before the first message of a day, with these notes, which are of no message.
     pub fn new(alloc: A, name: StockName, notes: N) -> Result<Noted<A, N>, AllocError>
         requires { N.noted notes notes [] }
-        ensures { IfOk result (λ noted. HasTaken N.noted notes [] name noted.search
-            noted.messages noted.stock noted.notes) }
+        ensures notes { IfOk result (λ noted. noted.notes ≡ notes) }
+        ensures name { IfOk result (λ noted. noted.search.name ≡ name) }
+        ensures none { IfOk result (λ noted. HasTaken N.noted noted.notes [] noted.search.name
+            noted.search noted.messages noted.stock noted.notes) }
     {
         let search = StockSearch::new(alloc, name)?;
         Ok(Noted {
@@ -124,23 +127,6 @@ impl<A: Allocator + Copy, N: Notes + Drop> Noted<A, N> {
         self.note_own(payload)
     }
 
-    /// Takes the messages of the next segment. With those before they are fewer than 2^32. After an error the notes are of
-    /// no use.
-    pub fn take_all(&mut self, alloc: A, segment: &Day<A>) -> Result<(), AllocError>
-        requires { (first : N) × (day : List (List ℕ)) × (name : StockName)
-            × HasTaken N.noted first day name self.old.search self.old.messages self.old.stock self.old.notes
-            × (length day + length segment.now.payloads < 2 ^ 32) }
-        ensures { OnOk result ((first : N) (day : List (List ℕ)) (name : StockName)
-            → HasTaken N.noted first day name self.old.search self.old.messages self.old.stock self.old.notes
-            → HasTaken N.noted first (day ++ segment.now.payloads) name self.new.search
-            self.new.messages self.new.stock self.new.notes) }
-    {
-        for payload in segment.payloads() {
-            self.take(alloc, payload)?;
-        }
-        Ok(())
-    }
-
     /// The notes, or none where no stock has begun.
     pub fn into_notes(self) -> Option<N>
         ensures { (first : N) (day : List (List ℕ)) (name : StockName)
@@ -154,5 +140,17 @@ impl<A: Allocator + Copy, N: Notes + Drop> Noted<A, N> {
         } else {
             None
         }
+    }
+}
+
+impl<A: Allocator + Copy, N: Notes + Drop> TakesSegments<A> for Noted<A, N> {
+    ghost has_taken = { λ first now day. HasTaken N.noted first.notes day first.search.name
+        now.search now.messages now.stock now.notes };
+
+    fn take_segment(&mut self, alloc: A, segment: &Day<A>) -> Result<(), AllocError> {
+        for payload in segment.payloads() {
+            self.take(alloc, payload)?;
+        }
+        Ok(())
     }
 }

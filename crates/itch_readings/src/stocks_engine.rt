@@ -1,48 +1,61 @@
 //! The engine that lists the stocks of a day file.
-ghost use Rattle.std.specs.Prelude.{◌≡◌, ◌+◌, ◌↔◌, IfOk, IfErr, IsErrOf};
+ghost use Rattle.std.specs.Prelude.{◌≡◌, ◌+◌, ◌<◌, ◌≤◌, ◌^◌, ◌↔◌, IfErr, IfOk, IsErrOf, length};
 ghost use Rattle.binaryfile.specs.Devices.{GaveUpTo, HasFailed};
-ghost use Rattle.engine_rules.specs.declared.limits.TheConstants.{MOST_FILE_BYTES};
-ghost use Rattle.engine_rules.specs.Runs.{Runs, StopsReading};
-ghost use Rattle.itch_readings.specs.Engines.{GaveStocks, stock_lister};
+ghost use Rattle.day_segments.specs.Reading.{Stops};
+ghost use Rattle.engine_rules.specs.Runs.{Runs};
+ghost use Rattle.itch_readings.specs.Engines.{ListsStocks, stock_lister};
+ghost use Rattle.itch_readings.specs.Files.{GaveFile};
+ghost use Rattle.itch_readings.specs.Naming.{AreListed};
 
 use crate::naming::{Listed, list_more, unlisted};
+use crate::segments::{FILE_LIMITS, TakesSegments, read_segments};
 use crate::stock_lines::put_stocks;
-use binaryfile::{Feed, Sink, send};
-use day_segments::{SEGMENT_BYTES, SegmentReader};
+use binaryfile::{Day, Feed, Limits, LoadFault, Sink, send};
+use day_segments::SEGMENT_BYTES;
 use engine_rules::ProgFault;
-use engine_rules::limits::{MOST_FILE_BYTES, MOST_MESSAGES};
-use std::alloc::Allocator;
+use std::alloc::{AllocError, Allocator};
 use std::io::{Read, Write};
 
-// What a file says of each of its stocks. No more of it is in memory than a segment.
-fn listed_of_file<A: Allocator + Copy, R: Read>(
+impl<A: Allocator + Copy> TakesSegments<A> for Vec<Listed, A> {
+    ghost has_taken = { λ _ now day. AreListed day (length day) now.items };
+
+    fn take_segment(&mut self, _alloc: A, segment: &Day<A>) -> Result<(), AllocError> {
+        list_more(self, segment);
+        Ok(())
+    }
+}
+
+/// The text that [`stocks_run`] writes, of a file within the limits. `segment` is how many bytes a segment takes, 1 to 2^30.
+///
+/// In the course of reading the first of these is returned: [`LoadFault::Read`] where the feed fails (at once, and with no
+/// memory, where it had failed before), [`LoadFault::Memory`] where memory is refused, [`LoadFault::TooManyBytes`] where
+/// the reader gave more than `limits.bytes` bytes, which are no more than 2^40, and [`LoadFault::TooManyMessages`], once
+/// the whole input was read, where it has more than `limits.messages` messages. Whatever the result, at most
+/// `limits.bytes + 1` bytes are taken from the reader.
+pub fn stocks_of_file<A: Allocator + Copy, R: Read>(
     alloc: A,
     feed: &mut Feed<R>,
-) -> Result<Vec<Listed, A>, ProgFault>
-    ensures listed { IfOk result (λ listed.
-        GaveStocks (R.remaining feed.old.device) (R.remaining feed.new.device) listed.items) }
+    limits: Limits,
+    segment: u32,
+) -> Result<Vec<u8, A>, LoadFault>
+    requires bytes { limits.bytes ≤ 2 ^ 40 }
+    requires segment { (0 < segment) × (segment ≤ 2 ^ 30) }
+    ensures text { IfOk result (λ text. GaveFile
+        (R.remaining feed.old.device) (R.remaining feed.new.device) limits (ListsStocks text.items)) }
     ensures fault { IfErr result (
-        StopsReading stock_lister (R.remaining feed.old.device) (R.remaining feed.new.device)) }
-    // Whatever the result, no more is taken from the reader than the limit and one byte.
-    ensures taken { GaveUpTo (R.remaining feed.old.device) (R.remaining feed.new.device)
-        (MOST_FILE_BYTES + 1) }
-    ensures failed { IsErrOf result ProgFault.Read ↔ HasFailed feed.new }
+        Stops (R.remaining feed.old.device) (R.remaining feed.new.device) limits.bytes limits.messages) }
+    ensures failed { IsErrOf result LoadFault.Read ↔ HasFailed feed.new }
     ensures for_good { HasFailed feed.old → feed.new ≡ feed.old }
+    ensures taken { GaveUpTo (R.remaining feed.old.device) (R.remaining feed.new.device) (limits.bytes + 1) }
 {
     if feed.failed() {
-        return Err(ProgFault::Read);
+        return Err(LoadFault::Read);
     }
     let mut listed = unlisted(alloc)?;
-    let mut reader = SegmentReader::new(alloc, SEGMENT_BYTES, MOST_FILE_BYTES);
-    while let Some(segment) = reader.next(alloc, feed)? {
-        if reader.messages() <= u64::from(MOST_MESSAGES) {
-            list_more(&mut listed, &segment);
-        }
-    }
-    if reader.messages() > u64::from(MOST_MESSAGES) {
-        return Err(ProgFault::TooManyMessages);
-    }
-    Ok(listed)
+    read_segments(alloc, feed, limits, segment, &mut listed)?;
+    let mut text = Vec::new(alloc);
+    put_stocks(&mut text, &listed)?;
+    Ok(text)
 }
 
 /// Reads a day file and writes a line for each stock that has messages, by rising locate code: the code, the symbol
@@ -53,6 +66,9 @@ fn listed_of_file<A: Allocator + Copy, R: Read>(
 /// text; after another fault none was sent. [`ProgFault::Read`] comes exactly where the feed has failed,
 /// [`ProgFault::TooManyBytes`] above [`MOST_FILE_BYTES`] bytes, and [`ProgFault::TooManyMessages`] above
 /// [`MOST_MESSAGES`] messages.
+///
+/// [`MOST_FILE_BYTES`]: engine_rules::limits::MOST_FILE_BYTES
+/// [`MOST_MESSAGES`]: engine_rules::limits::MOST_MESSAGES
 pub fn stocks_run<A: Allocator + Copy, R: Read, W: Write>(
     alloc: A,
     feed: &mut Feed<R>,
@@ -60,9 +76,7 @@ pub fn stocks_run<A: Allocator + Copy, R: Read, W: Write>(
 ) -> Result<(), ProgFault>
     ensures { Runs stock_lister R.remaining W.contents feed.old feed.new sink.old sink.new result }
 {
-    let listed = listed_of_file(alloc, feed)?;
-    let mut text = Vec::new(alloc);
-    put_stocks(&mut text, &listed)?;
+    let text = stocks_of_file(alloc, feed, FILE_LIMITS, SEGMENT_BYTES)?;
     send(sink, &text)?;
     Ok(())
 }

@@ -1,46 +1,55 @@
 //! The engine that writes the best bid and ask of one stock of a day file.
-ghost use Rattle.std.specs.Prelude.{◌≡◌, ◌+◌, ◌↔◌, IfOk, IfErr, IsErrOf, MatchOption};
+ghost use Rattle.std.specs.Prelude.{◌≡◌, ◌+◌, ◌<◌, ◌≤◌, ◌^◌, ◌↔◌, IfErr, IfOk, IsErrOf, MatchOption};
 ghost use Rattle.binaryfile.specs.Devices.{GaveUpTo, HasFailed};
-ghost use Rattle.engine_rules.specs.declared.limits.TheConstants.{MOST_FILE_BYTES};
-ghost use Rattle.engine_rules.specs.Runs.{HasMade, StopsReading};
-ghost use Rattle.itch_readings.specs.Engines.{GaveNoStock, RunsOnStock, tops_printer};
+ghost use Rattle.day_segments.specs.Reading.{Stops};
+ghost use Rattle.itch_readings.specs.Engines.{PrintsTops, RunsOnStock, tops_printer};
+ghost use Rattle.itch_readings.specs.Files.{GaveFile};
+ghost use Rattle.itch_readings.specs.Naming.{NamesNone};
 
 use crate::fault::StockFault;
 use crate::naming::StockName;
-use crate::noted_file::note_file;
+use crate::noting::Noted;
+use crate::segments::{FILE_LIMITS, read_segments};
 use crate::top_lines::{Selection, TopLines};
-use binaryfile::{Feed, Sink, send};
-use engine_rules::ProgFault;
+use binaryfile::{Feed, Limits, LoadFault, Sink, send};
+use day_segments::SEGMENT_BYTES;
 use itch_table::own_rows_suffice;
 use std::alloc::Allocator;
 use std::io::{Read, Write};
 
-// The lines of the best bid and ask of a file's stock; none where the file hasn't the stock.
-fn tops_of_file<A: Allocator + Copy, R: Read>(
+/// The text that [`tops_run`] writes, of a file within the limits, or none where the file hasn't the stock. `segment` is how
+/// many bytes a segment takes, 1 to 2^30. Its faults are those of [`stocks_of_file`], and at most `limits.bytes + 1` bytes
+/// are taken from the reader.
+///
+/// [`stocks_of_file`]: crate::stocks_of_file
+pub fn tops_of_file<A: Allocator + Copy, R: Read>(
     alloc: A,
     feed: &mut Feed<R>,
+    limits: Limits,
+    segment: u32,
     name: StockName,
     selection: Selection,
-) -> Result<Option<Vec<u8, A>>, ProgFault>
-    ensures found { IfOk result (λ found. MatchOption found
-        (GaveNoStock (R.remaining feed.old.device) (R.remaining feed.new.device) name)
-        (λ text. HasMade (tops_printer name selection)
-        (R.remaining feed.old.device) (R.remaining feed.new.device) text.items tt)) }
-    ensures fault { IfErr result (StopsReading (tops_printer name selection)
-        (R.remaining feed.old.device) (R.remaining feed.new.device)) }
-    // Whatever the result, no more is taken from the reader than the limit and one byte.
-    ensures taken { GaveUpTo (R.remaining feed.old.device) (R.remaining feed.new.device)
-        (MOST_FILE_BYTES + 1) }
-    ensures failed { IsErrOf result ProgFault.Read ↔ HasFailed feed.new }
+) -> Result<Option<Vec<u8, A>>, LoadFault>
+    requires bytes { limits.bytes ≤ 2 ^ 40 }
+    requires segment { (0 < segment) × (segment ≤ 2 ^ 30) }
+    ensures text { IfOk result (λ found. GaveFile (R.remaining feed.old.device) (R.remaining feed.new.device)
+        limits (λ day. MatchOption found
+        (NamesNone day name) (λ text. PrintsTops name selection text.items day))) }
+    ensures fault { IfErr result (
+        Stops (R.remaining feed.old.device) (R.remaining feed.new.device) limits.bytes limits.messages) }
+    ensures failed { IsErrOf result LoadFault.Read ↔ HasFailed feed.new }
     ensures for_good { HasFailed feed.old → feed.new ≡ feed.old }
+    ensures taken { GaveUpTo (R.remaining feed.old.device) (R.remaining feed.new.device) (limits.bytes + 1) }
 {
     // A law that the proof cites: it does nothing.
     own_rows_suffice();
     if feed.failed() {
-        return Err(ProgFault::Read);
+        return Err(LoadFault::Read);
     }
     let lines = TopLines::new(alloc, selection)?;
-    match note_file(alloc, feed, name, lines)? {
+    let mut noted = Noted::new(alloc, name, lines)?;
+    read_segments(alloc, feed, limits, segment, &mut noted)?;
+    match noted.into_notes() {
         Some(lines) => Ok(Some(lines.into_text())),
         None => Ok(None),
     }
@@ -69,7 +78,8 @@ pub fn tops_run<A: Allocator + Copy, R: Read, W: Write>(
     ensures { RunsOnStock (tops_printer name selection) name
         R.remaining W.contents feed.old feed.new sink.old sink.new result }
 {
-    let Some(text) = tops_of_file(alloc, feed, name, selection)? else {
+    let found = tops_of_file(alloc, feed, FILE_LIMITS, SEGMENT_BYTES, name, selection)?;
+    let Some(text) = found else {
         return Err(StockFault::NoStock);
     };
     send(sink, &text)?;

@@ -3,10 +3,8 @@ use Rattle.std.proofs.lemmas.Result.{err_from_is_err_and}
 use Rattle.std.proofs.lemmas.List.{length-append}
 use Rattle.binaryfile.specs.Devices.{GaveMore, HasFailed}
 use Rattle.binaryfile.specs.Entries.{Contents}
-use Rattle.day_segments.specs.Reading.{IsWholeFile, followed_by}
-use Rattle.day_segments.proofs.SegmentCases.{all_of_it, one_more, took_within}
-use Rattle.file_replay.specs.Files.{Stops}
-use Rattle.file_replay.proofs.Faults.{stops}
+use Rattle.day_segments.specs.Reading.{IsWholeFile, Stops, followed_by}
+use Rattle.day_segments.proofs.SegmentCases.{all_of_it, one_more, stops, took_within}
 use Rattle.file_replay.proofs.file_reader.read_rest.Goals as goal
 
 pub returns-in_err-_segment-clause-fault : goal.returns-in_err-_segment-clause-fault

@@ -4,10 +4,10 @@ use Rattle.binaryfile.specs.Devices.{HasFailed}
 use Rattle.binaryfile.specs.declared.load.LoadFault.TheVariants.{Memory}
 use Rattle.day_replay.specs.Dealing.{Dealt}
 use Rattle.day_replay.specs.Replays.{HasReplayed}
-use Rattle.day_segments.specs.Reading.{IsWholeFile, nothing_read}
+use Rattle.day_segments.specs.Reading.{IsWholeFile, Stops, nothing_read}
 use Rattle.day_segments.proofs.SegmentCases.{took_within}
 use Rattle.file_replay.specs.declared.file_end.FileEnd.{FileEnd}
-use Rattle.file_replay.specs.Files.{Next, Stops}
+use Rattle.file_replay.specs.Files.{Next}
 use Rattle.file_replay.proofs.Faults.{failed_as, failed_by}
 use Rattle.file_replay.proofs.Replayed.{further_of, whole_of}
 use Rattle.file_replay.proofs.Dealt.{dealt_next, gone, less_left, stopped, works}

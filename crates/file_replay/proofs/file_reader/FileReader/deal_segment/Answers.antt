@@ -4,11 +4,11 @@ use Rattle.std.proofs.lemmas.List.{length-append}
 use Rattle.binaryfile.specs.Devices.{HasFailed}
 use Rattle.binaryfile.specs.Entries.{Contents}
 use Rattle.binaryfile.specs.declared.load.LoadFault.TheVariants.{TooManyMessages}
-use Rattle.day_segments.specs.Reading.{IsWholeFile, Reading, followed_by, nothing_read}
-use Rattle.day_segments.proofs.SegmentCases.{all_of_it, none_more, one_more, took_within}
+use Rattle.day_segments.specs.Reading.{IsWholeFile, Reading, Stops, followed_by, nothing_read}
+use Rattle.day_segments.proofs.SegmentCases.{all_of_it, none_more, one_more, stops, took_within}
 use Rattle.day_replay.specs.Dealing.{IsDealt}
-use Rattle.file_replay.specs.Files.{FileReading, IsFurther, IsSoFar, Stops}
-use Rattle.file_replay.proofs.Faults.{failed_by, stops}
+use Rattle.file_replay.specs.Files.{FileReading, IsFurther, IsSoFar}
+use Rattle.file_replay.proofs.Faults.{failed_by}
 use Rattle.file_replay.proofs.Further.{file_of, one_further, reads_not, reads_so, some_more}
 use Rattle.file_replay.proofs.Tails.{tail_fits}
 use Rattle.file_replay.proofs.file_reader.FileReader.deal_segment.Goals as goal

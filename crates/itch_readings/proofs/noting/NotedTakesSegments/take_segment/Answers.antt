@@ -1,7 +1,7 @@
 use Rattle.std.proofs.Common.{◌∙◌, ◌++◌, List, ℕ, sym, subst, arith}
 use Rattle.std.proofs.lemmas.List.{length-append}
 use Rattle.itch_readings.proofs.TakenAlong.{HasTakenAlong, along_all, along_first, along_fits, along_next}
-use Rattle.itch_readings.proofs.noting.Noted.take_all.Goals as goal
+use Rattle.itch_readings.proofs.noting.NotedTakesSegments.take_segment.Goals as goal
 
 pub loop-payload-init : goal.loop-payload-init
 loop-payload-init g c = λ first day name taken.
@@ -13,9 +13,11 @@ loop-payload-init g c = λ first day name taken.
 pub take-requires : goal.take-requires
 take-requires g c =
     let asked = c.requires in
-    let along = c.loop-payload.invariant asked.0 asked.1 asked.2 asked.3 in
-    let fits = along_fits g.N.Notes.noted asked.0 (asked.1 ++ c.args.segment.now.payloads) c.loop-payload.payload-iterator asked.2 _ _ _ _ along c.in-Some.payload.now _ ((c.in-Some.ensures {u = tt}).steps) in
-    (asked.0, along.so_far, asked.2, along.taken, omega (arith, fits, asked.4, length-append asked.1 c.args.segment.now.payloads))
+    let first = asked.0.notes in
+    let name = asked.0.search.name in
+    let along = c.loop-payload.invariant first asked.1 name asked.2 in
+    let fits = along_fits g.N.Notes.noted first (asked.1 ++ c.args.segment.now.payloads) c.loop-payload.payload-iterator name _ _ _ _ along c.in-Some.payload.now _ ((c.in-Some.ensures {u = tt}).steps) in
+    (first, along.so_far, name, along.taken, omega (arith, fits, asked.3, length-append asked.1 c.args.segment.now.payloads))
 
 pub loop-payload-preserved : goal.loop-payload-preserved
 loop-payload-preserved g c = λ first day name taken.
@@ -24,5 +26,5 @@ loop-payload-preserved g c = λ first day name taken.
     (c.in_ok-take.ensures {u = tt} first along.so_far name along.taken)
 
 pub returns : goal.returns
-returns g c = λ first day name taken.
-    along_all g.N.Notes.noted first (day ++ c.args.segment.now.payloads) c.loop-payload.payload-iterator name _ _ _ _ (c.loop-payload.invariant first day name taken) ((c.in-None.ensures {u = tt}).steps.0)
+returns g c = λ first day taken.
+    along_all g.N.Notes.noted first.notes (day ++ c.args.segment.now.payloads) c.loop-payload.payload-iterator first.search.name _ _ _ _ (c.loop-payload.invariant first.notes day first.search.name taken) ((c.in-None.ensures {u = tt}).steps.0)

@@ -2,7 +2,7 @@ use Rattle.std.proofs.Common.{ℕ, List, ◌++◌}
 use Rattle.itch_readings.specs.Noting.{HasTaken}
 use Rattle.itch_readings.specs.declared.naming.StockName.{StockName}
 use Rattle.itch_readings.proofs.TakenAlong.{HasTakenAlong}
-use Rattle.itch_readings.proofs.noting.Noted.take_all.Given as goal
+use Rattle.itch_readings.proofs.noting.NotedTakesSegments.take_segment.Given as goal
 
 abbrev pub invariant-loop-payload : goal.invariant-loop-payload
 invariant-loop-payload g l =
