@@ -48,8 +48,8 @@ pub(crate) const ENGINES: [Engine; 8] = [
 // How many bytes a segment takes: less than a directory message has.
 const SEGMENT: u32 = 20;
 
-// The bytes of examples/two-stocks.itch: two stocks with a bid each, and three deletes, two of which are refused.
-const TWO_STOCKS: &[u8] =
+/// The bytes of examples/two-stocks.itch: two stocks with a bid each, and three deletes, two of which are refused.
+pub(crate) const TWO_STOCKS: &[u8] =
     b"\x00\x27R\x00\x01\x00\x00\x00\x00\x00\x00\x00\x00AAPL    QN\x00\x00\x00dNCZ PNN1N\x00\x00\x00\x00N\
       \x00\x27R\x00\x02\x00\x00\x00\x00\x00\x00\x00\x01MSFT    QN\x00\x00\x00dNCZ PNN1N\x00\x00\x00\x00N\
       \x00\x24A\x00\x01\x00\x00\x00\x00\x00\x00\x00\x02\x00\x00\x00\x00\x00\x00\x00\x07B\x00\x00\x00\x0aAAPL    \x00\x00\x00d\
@@ -71,8 +71,8 @@ const TWO_STOCKS_REPORT: &[u8] = b"message 6 refused F2\n\
 // The lines of the worked file's stocks.
 const STOCKS: &[u8] = b"stock 1 \"AAPL\" messages 2\n";
 
-// The lines of their best bids and asks: message 2 is the only bid.
-const TOPS: &[u8] = b"message,time,bid_price,bid_shares,ask_price,ask_shares\n\
+/// The lines of their best bids and asks: message 2 is the only bid.
+pub(crate) const TOPS: &[u8] = b"message,time,bid_price,bid_shares,ask_price,ask_shares\n\
       2,1,1010000,100,,\n";
 
 // What a screen sees of the stock that is deleted from without a directory message.

@@ -15,4 +15,6 @@ mod names;
 #[cfg(test)]
 mod runs;
 #[cfg(test)]
+mod segments;
+#[cfg(test)]
 mod watching;
