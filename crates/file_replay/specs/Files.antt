@@ -83,6 +83,17 @@ ReplaysDealt old new dealt result =
     OnOk result ((day payloads : List (List ℕ)) → HasReplayed day old → IsDealt (length day) payloads dealt
     → HasReplayed (day ++ payloads) new)
 
+-- the reader gave a whole file, of no more than so many bytes and messages, which ends so, and its messages are replayed
+pub record HasReplayedWhole (start now : Option (List ℕ)) (bytes messages : ℕ) (end : FileEnd)
+    (replay : ReplayState) : Type 0
+  where
+    pub contents : Contents
+    pub whole : IsWholeFile start now bytes contents
+    pub few : length contents.payloads ≤ messages
+    pub marked_is : end.marked ≡ contents.marked
+    pub tail_is : end.tail ≡ length contents.tail
+    pub replayed : HasReplayed contents.payloads replay
+
 -- what a file with these contents makes: the numbers of its messages and of those that were passed over, the refused
 -- ones, the machines of its stocks, the last event, and how it ends
 pub record IsFileSummary {A : Type 0} (contents : Contents) (made : FileSummary A) : Type 0 where

@@ -1,13 +1,13 @@
 //! Replaying a file while it is read.
-ghost use Rattle.std.specs.Prelude.{◌≡◌, ◌+◌, ◌<◌, ◌≤◌, ◌^◌, ◌↔◌, IfErr, IfOk, IsErrOf, List, Option, ℕ, length};
+ghost use Rattle.std.specs.Prelude.{◌≡◌, ◌+◌, ◌<◌, ◌≤◌, ◌^◌, ◌↔◌, [], IfErr, IfOk, IsErrOf, List, OnOk, Option, ℕ, length};
 ghost use Rattle.std.specs.Thread.{IsSend, IsSync};
 ghost use denote.Param.Send.{Frees};
 ghost use Rattle.binaryfile.specs.Devices.{GaveUpTo, HasFailed};
 ghost use Rattle.binaryfile.specs.Entries.{Contents};
-ghost use Rattle.day_segments.specs.Reading.{Stops};
+ghost use Rattle.day_segments.specs.Reading.{Stops, nothing_read};
 ghost use Rattle.day_replay.specs.Dealing.{IsDealt};
 ghost use Rattle.day_replay.specs.Replays.{HasReplayed};
-ghost use Rattle.file_replay.specs.Files.{DealsNext, IsReplayedFile, IsSoFar, ReplaysDealt};
+ghost use Rattle.file_replay.specs.Files.{DealsNext, HasReplayedWhole, IsReplayedFile, IsSoFar, ReplaysDealt};
 
 use crate::file_reader::FileReader;
 use crate::progress::Progress;
@@ -64,6 +64,45 @@ fn go_on<T: Threads + Sync, A: Allocator + Copy + Send + Sync, R: Read + Send>(
     join_mut(rt, &mut work, &mut read)
 }
 
+// Replays a file from its first byte to its end: what was dealt, while the next messages are read and dealt.
+fn replay_whole<T, A, R, P>(
+    rt: &T,
+    alloc: A,
+    feed: &mut Feed<R>,
+    file: &mut FileReader<A>,
+    replay: &mut Replay<A>,
+    threads: WorkerCount,
+    progress: &P,
+) -> Result<(), LoadFault>
+where
+    T: Threads + Sync,
+    A: Allocator + Copy + Send + Sync,
+    R: Read + Send,
+    P: Progress,
+    requires file { IsSoFar (R.remaining feed.old.device) (R.remaining feed.old.device) nothing_read file.old }
+    requires replay { HasReplayed [] replay.old }
+    requires works { ¬ HasFailed feed.old }
+    ensures replayed { OnOk result (HasReplayedWhole (R.remaining feed.old.device) (R.remaining feed.new.device)
+        file.old.reading.most file.old.limit file.new.end replay.new) }
+    ensures fault { IfErr result (Stops (R.remaining feed.old.device) (R.remaining feed.new.device)
+        file.old.reading.most file.old.limit) }
+    ensures failed { IsErrOf result LoadFault.Read ↔ HasFailed feed.new }
+    ensures taken { GaveUpTo (R.remaining feed.old.device) (R.remaining feed.new.device)
+        (file.old.reading.most + 1) }
+{
+    let mut dealt = DealtMessages::new(alloc)?;
+    let mut next = DealtMessages::new(alloc)?;
+    let mut more = file.deal_next(alloc, feed, &mut dealt)?;
+    while more {
+        let (worked, read) = go_on(rt, alloc, feed, file, &dealt, &mut next, replay, threads);
+        more = read?;
+        worked?;
+        mem::swap(&mut dealt, &mut next);
+        progress.at(replay.len(), file.bytes());
+    }
+    Ok(())
+}
+
 /// Replays a day file by at most so many threads, while one more reads it. `segment` is how many bytes a segment takes, 1
 /// to 2^30; threads replay up to 16 segments together, and each time `progress` is told how far it is.
 ///
@@ -102,25 +141,7 @@ where
     }
     let mut file = FileReader::new(alloc, segment, limits);
     let mut replay = Replay::new(alloc)?;
-    let mut dealt = DealtMessages::new(alloc)?;
-    let mut next = DealtMessages::new(alloc)?;
-    let mut more = file.deal_next(alloc, feed, &mut dealt)?;
-    while more {
-        let (worked, read) = go_on(
-            rt,
-            alloc,
-            feed,
-            &mut file,
-            &dealt,
-            &mut next,
-            &mut replay,
-            threads,
-        );
-        more = read?;
-        worked?;
-        mem::swap(&mut dealt, &mut next);
-        progress.at(replay.len(), file.bytes());
-    }
+    replay_whole(rt, alloc, feed, &mut file, &mut replay, threads, progress)?;
     let end = file.end();
     Ok(FileSummary {
         summary: replay.end(alloc)?,
