@@ -17,7 +17,7 @@ mod tracks;
 mod workers;
 
 use binaryfile::{Day, Feed, Limits};
-use std::alloc::Allocator;
+use std::alloc::{Allocator, Global};
 use std::fs;
 use std::rt::Runtime;
 use std::sync::Wait;
@@ -43,22 +43,33 @@ fn compare_day<R: Threads + Wait + Sync, A: Allocator + Copy + Send + Sync>(
     Ok(stocks)
 }
 
+// The day of a file.
+fn load<R: Runtime + AllocGlobal>(rt: &R, path: &str) -> Result<Day<Global>, Fail> {
+    let Ok(file) = fs::open(rt, path) else {
+        return Err(Fail::new("the file can't be opened"));
+    };
+    match Day::load(rt.alloc(), &mut Feed::new(file), LIMITS) {
+        Ok(day) => Ok(day),
+        Err(_) => Err(Fail::new("the file can't be loaded")),
+    }
+}
+
+// Prints how many messages and stocks a file has.
+fn print_file<R: Runtime>(rt: &R, path: &str, messages: u32, stocks: usize) -> Result<(), Fail> {
+    match println!(rt; "{path}: {messages} messages, {stocks} stocks") {
+        Ok(()) => Ok(()),
+        Err(_) => Err(Fail::new("a line can't be printed")),
+    }
+}
+
 /// Compares the machines over one file, and prints how many messages and stocks it has.
 pub fn compare_file<R: Runtime + AllocGlobal + Threads + Wait + Sync>(
     rt: &R,
     path: &str,
 ) -> Result<(), Fail> {
-    let Ok(file) = fs::open(rt, path) else {
-        return Err(Fail::new("the file can't be opened"));
-    };
-    let Ok(day) = Day::load(rt.alloc(), &mut Feed::new(file), LIMITS) else {
-        return Err(Fail::new("the file can't be loaded"));
-    };
+    let day = load(rt, path)?;
     let stocks = compare_day(rt, rt.alloc(), &day)?;
-    match println!(rt; "{path}: {} messages, {stocks} stocks", day.len()) {
-        Ok(()) => Ok(()),
-        Err(_) => Err(Fail::new("a line can't be printed")),
-    }
+    print_file(rt, path, day.len(), stocks)
 }
 
 /// Compares the machines over days at random, and prints how many there are, how often each outcome occurs, how many

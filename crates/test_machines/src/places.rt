@@ -54,7 +54,19 @@ fn steps_at<A: Allocator + Copy>(
     Ok(steps)
 }
 
-// Compares the stocks at a debugger's position with those of the plain machine.
+// Compares a stock at a debugger's position with that of the plain machine: its locate code, and how many messages it has
+// taken.
+fn same_stock_at<A: Allocator + Copy>(
+    alloc: A,
+    plain: &Plain<A>,
+    debugger: &mut Debugger<'_, A>,
+    wanted: (u16, u32),
+) -> Result<(), Fail> {
+    let stock = debugger.stock(alloc, wanted.0)?;
+    same_steps(alloc, plain, &stock, wanted)
+}
+
+// The same of all stocks.
 fn same_stocks_at<A: Allocator + Copy>(
     alloc: A,
     plain: &Plain<A>,
@@ -63,8 +75,7 @@ fn same_stocks_at<A: Allocator + Copy>(
     steps: &[u32],
 ) -> Result<(), Fail> {
     for (locate, steps) in locates.iter().zip(steps) {
-        let wanted = (*locate, *steps);
-        same_steps(alloc, plain, &debugger.stock(alloc, *locate)?, wanted)?;
+        same_stock_at(alloc, plain, debugger, (*locate, *steps))?;
     }
     Ok(())
 }

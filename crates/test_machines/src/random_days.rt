@@ -78,6 +78,22 @@ pub fn compare_wide_day<R: Threads + Wait + Sync, A: Allocator + Copy + Send + S
     Ok(stocks)
 }
 
+// Compares the machines, the debugger and the texts over the day of a seed, and counts its outcomes. Returns how many of its
+// changed texts denote a file.
+fn compare_random_day<R: Threads + Wait + Sync, A: Allocator + Copy + Send + Sync>(
+    rt: &R,
+    alloc: A,
+    seed: u64,
+    day: &Day<A>,
+    tally: &mut Tally,
+) -> Result<u64, Fail> {
+    compare_day(rt, alloc, day)?;
+    compare_moves(alloc, day)?;
+    tally.add_day(alloc, day)?;
+    let mut random = SmallRng::seed_from_u64(seed.wrapping_add(DAYS));
+    compare_texts(alloc, day, &mut random, CHANGED_TEXTS)
+}
+
 /// Compares the machines, the debugger and the texts over days at random, and fails too where an outcome is rare.
 /// Returns how often each outcome occurs, and how many changed texts denote a file.
 pub fn compare_random_days<R: Threads + Wait + Sync, A: Allocator + Copy + Send + Sync>(
@@ -88,12 +104,8 @@ pub fn compare_random_days<R: Threads + Wait + Sync, A: Allocator + Copy + Send 
     let mut assembled = 0u64;
     for seed in 0..DAYS {
         let day = random_day(alloc, seed, MESSAGES)?;
-        compare_day(rt, alloc, &day)?;
-        compare_moves(alloc, &day)?;
-        let mut random = SmallRng::seed_from_u64(seed.wrapping_add(DAYS));
-        let texts = compare_texts(alloc, &day, &mut random, CHANGED_TEXTS)?;
+        let texts = compare_random_day(rt, alloc, seed, &day, &mut tally)?;
         assembled = assembled.saturating_add(texts);
-        tally.add_day(alloc, &day)?;
     }
     if assembled < ASSEMBLED_TEXTS {
         return Err(Fail::new(format_args!("{assembled} changed texts denote a file")));
