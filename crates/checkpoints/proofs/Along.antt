@@ -16,7 +16,7 @@ use Rattle.itch_table.proofs.Days.{after-none}
 use Rattle.itch_table.proofs.StockDays.{only-empty, own_part, steps-none}
 use Rattle.stock_machine.specs.StockRows.{StockMachine}
 use Rattle.day_core.specs.Owners.{last_or, machine_of, of_stock, part_at}
-use Rattle.day_core.proofs.Kept.{kept_before, kept_within}
+use Rattle.day_core.proofs.FilteredRanges.{kept_before, kept_within}
 use Rattle.day_core.proofs.Progress.{last_push, machine_until}
 use Rattle.day_core.proofs.MachineSteps.{machine_stepped, payload_is, steps_most}
 use Rattle.checkpoints.specs.Copies.{IsTrack, copies_of, machine_after_own, numbers_of}

@@ -9,7 +9,7 @@ use Rattle.itch_table.specs.declared.outcome.Part.TheVariants.{Locate, Nowhere}
 use Rattle.itch_table.specs.Parts.{part}
 use Rattle.itch_table.specs.Projection.{is_locate}
 use Rattle.day_core.specs.Owners.{of_stock, part_at}
-use Rattle.day_core.proofs.Kept.{kept_more}
+use Rattle.day_core.proofs.FilteredRanges.{kept_more}
 use Rattle.checkpoints.specs.Copies.{IsIndex, listed, numbers_of}
 use Rattle.checkpoints.proofs.Reading.{IsReading, read_all, read_more, read_payload}
 

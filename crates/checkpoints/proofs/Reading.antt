@@ -3,7 +3,7 @@ use Rattle.std.proofs.Common.{◌≡◌, ℕ, ◌+◌, ◌-◌, ◌<◌, ◌≤�
 use Rattle.std.specs.List.{range_with_len}
 use Rattle.std.proofs.lemmas.List.{drop_more, length-drop}
 use Rattle.itch_table.specs.Projection.{payload_at}
-use Rattle.day_core.proofs.Kept.{kept_more}
+use Rattle.day_core.proofs.FilteredRanges.{kept_more}
 use Rattle.checkpoints.specs.Filtering.{numbers_where}
 
 -- the first n payloads were read, and these are left

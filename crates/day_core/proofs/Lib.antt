@@ -1,10 +1,10 @@
-pub mod Kept
-pub mod Dealt
+pub mod FilteredRanges
+pub mod SeenStocks
+pub mod DealtDay
 pub mod Progress
 pub mod MachineSteps
-pub mod Codes
-pub mod Refusals
+pub mod LocateCodes
 pub mod StocksByWorker
-pub mod Turning
-mod Scheduled
+pub mod TurnInvariant
+mod LooksNeverGoBack
 pub mod MergedDay

@@ -21,10 +21,10 @@ use Rattle.itch_table.proofs.StockDays.{is_own_part, only-empty, own_next, steps
 use Rattle.itch_table.proofs.Tops.{top_after-only}
 use Rattle.stock_machine.specs.StockRows.{StockMachine}
 use Rattle.day_core.specs.Owners.{IsDue, MayAddRow, machine_of, new_machine, part_at, IsNext, is_own, own_of, owner, progress}
-use Rattle.day_core.proofs.Codes.{same_code, code_there, own_code}
+use Rattle.day_core.proofs.LocateCodes.{same_code, code_there, own_code}
 use Rattle.day_core.specs.declared.parts.Next.{Next}
 use Rattle.day_core.specs.Splitting.{ArePartsOf, DayParts}
-use Rattle.day_core.proofs.Dealt.{own_is}
+use Rattle.day_core.proofs.DealtDay.{own_is}
 use Rattle.day_core.proofs.Progress.{machine_next, own_passes, own_within, progress_next}
 
 -- a message of the day

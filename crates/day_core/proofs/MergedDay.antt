@@ -1,15 +1,17 @@
 -- Pieces put together, and those of a day: each message has one.
-use Rattle.std.proofs.Common.{◌≡◌, ◌≢◌, ℕ, zero, suc, ◌+◌, ◌<◌, ◌≤◌, List, [], ◌∷◌, ◌++◌, length, Bool, true, false, cond, eqb, get_or, filter, map, take, drop, refl, sym, ap, ap₂, subst, ◌∙◌, arith, inl, inr, ◌-◌, append_assoc, set, Option, Some, None, MatchOption}
+use Rattle.std.proofs.Common.{◌≡◌, ◌≢◌, ℕ, zero, suc, ◌+◌, ◌<◌, ◌≤◌, List, [], ◌∷◌, ◌++◌, length, Bool, true, false, cond, eqb, get_or, filter, map, take, drop, refl, sym, ap, ap₂, subst, ◌∙◌, arith, inl, inr, ◌-◌, set, Option, Some, None, MatchOption}
 use Rattle.std.specs.List.{All, Contains, range_with_len, sum_by}
 use Rattle.std.proofs.lemmas.Bool.{cases_eq, eq-eqb, ne_eqb, cases_lt}
 use Rattle.std.proofs.lemmas.Grind.{flat_map-append}
-use Rattle.std.proofs.lemmas.List.{append-nil, get_or-map, length-map, take-append-drop, take_more, drop_more, get_or-append-add, get_or-set_same, get_or-set_other, get_or_append_left, get_or_default, get_or_push, length-append, length-set, map-append, take-append-le, take_all, take_at}
-use Rattle.std.proofs.lemmas.List.Elements.{All-append, Contains-append_left, Contains-push}
+use Rattle.std.proofs.lemmas.Iterator.{YieldsList}
+use Rattle.std.proofs.lemmas.Iterator.Consumers.{YieldsList-end, YieldsList-so_far, YieldsList-turn}
+use Rattle.std.proofs.lemmas.List.{append-nil, take-append-drop, take_more, get_or-set_same, get_or-set_other, get_or_append_left, get_or_default, get_or_push, length-append, length-set, map-id, take-append-le, take_at}
+use Rattle.std.proofs.lemmas.List.Elements.{All-append, All-map, Contains-append_left, Contains-push}
 use Rattle.std.proofs.lemmas.List.FromFn.{get_or-range_with_len, length-range_with_len}
 use Rattle.std.proofs.lemmas.List.Sums.{sum_by-cons, sum_by-append}
 use Rattle.std.proofs.lemmas.Nat.{mod_below}
+use Rattle.std.specs.Iterator.{Yields}
 use Rattle.std.specs.Prelude.{IsSome, is_some}
-use Rattle.std.proofs.Math.Seq.{take-append-add}
 use Rattle.itch_table.specs.declared.outcome.Outcome.{Outcome}
 use Rattle.itch_table.specs.declared.outcome.Outcome.TheVariants.{Passed}
 use Rattle.itch_table.specs.declared.outcome.Part.{Part}
@@ -18,11 +20,10 @@ use Rattle.itch_table.specs.After.{outcome, outcomes}
 use Rattle.day_core.specs.declared.merging.MergeFault.{MergeFault}
 use Rattle.day_core.specs.declared.merging.MergeFault.TheVariants.{Double, Memory, Missing, Stranger}
 use Rattle.day_core.specs.declared.merging.Piece.{Piece}
-use Rattle.day_core.specs.Merging.{IsMerged, IsMergeFault, joined, named, AreFilled, AreSound, Found, HasMessage, Holds, IsEmptyAt, IsFaulty, IsFirstFault}
+use Rattle.day_core.specs.Merging.{IsMerged, IsMergeFault, joined, named, AreFilled, AreSound, HasMessage, Holds, IsEmptyAt, IsFaulty, IsFirstFault}
 use Rattle.day_core.specs.Owners.{fixed_pieces, is_nowhere, is_own, own_of, owner, part_at, piece_of}
 use Rattle.day_core.specs.Replaying.{each_worker, pieces_by}
-use Rattle.day_core.proofs.Kept.{kept_within, map_by_all}
-use Rattle.day_core.proofs.Progress.{own_within}
+use Rattle.day_core.proofs.FilteredRanges.{kept_within, map_by_all}
 
 -- a piece is a message of a day with its outcome
 pub record IsPieceOf (day : List (List ℕ)) (piece : Piece) : Type 0 where
@@ -89,60 +90,34 @@ none_from (Some x) e = cc
 pub empty_from : (slots : List (Option Outcome)) (i : ℕ) (d : Option Outcome) → i < length slots → false ≡ is_some (get_or slots i d) → get_or slots i None ≡ None
 empty_from slots i d lt tested = none_from (get_or slots i None) (tested ∙ ap is_some (get_or_default slots i d None lt))
 
--- ---- a list more
+-- ---- all pieces
 
-pub holds_more : (before list : List Piece) (i : ℕ) (d : Piece) (slots : List (Option Outcome)) → i < length list
-    → Holds ((before ++ take i list) ++ get_or list i d ∷ []) slots → Holds (before ++ take (i + 1) list) slots
-holds_more before list i d slots lt holds = rw (take_more list i d lt, ← append_assoc) holds
+-- in the order in which an iterator gives them
+module _ {S : Type 0} {steps : S → Option Piece → S → Type 0} {s : S} {pieces : List Piece} (gives : YieldsList steps (λ p. p) s pieces) (before : List Piece) (t : S) (so_far : Yields steps s before t)
+    (slots : List (Option Outcome)) (holds : Holds before slots) (r : Option Piece) (u : S) (next : steps t r u) where
+  -- a fault is that of the piece that comes next
+  pub next_fault : (piece : Piece) (fault : MergeFault) → r ≡ Some piece → IsFaulty (length slots) before piece fault → IsMergeFault (length slots) pieces fault
+  next_fault piece fault is faulty = by fault faulty
+    where
+      first : (one : MergeFault) → IsFaulty (length slots) before piece one → IsFirstFault (length slots) pieces one
+      first one so =
+          let here = YieldsList-turn gives before t so_far r u piece is next in
+          let prefix : before ≡ take (length before) pieces = sym (map-id before) ∙ YieldsList-so_far gives before t so_far in
+          record {
+            index = length before;
+            within = here.0;
+            sound = subst (AreSound (length slots)) prefix holds.sound;
+            faulty = λ d. subst (λ (p : Piece). IsFaulty (length slots) (take (length before) pieces) p one) (here.1 ∙ get_or_default pieces (length before) piece d here.0) (subst (λ (ps : List Piece). IsFaulty (length slots) ps piece one) prefix so);
+          }
 
-pub holds_all : (before list : List Piece) (i : ℕ) (slots : List (Option Outcome)) → length list ≤ i → Holds (before ++ take i list) slots → Holds (before ++ list) slots
-holds_all before list i slots le holds = rw (take_all i list le) at holds
+      by : (one : MergeFault) → IsFaulty (length slots) before piece one → IsMergeFault (length slots) pieces one
+      by Memory so = tt
+      by (Missing message) so = absurd so
+      by (Double message) so = first (Double message) so
+      by (Stranger message) so = first (Stranger message) so
 
--- a fault of the piece at an index of a list
-pub found_at : (count : ℕ) (before list : List Piece) (i : ℕ) (d : Piece) (slots : List (Option Outcome)) (fault : MergeFault) → length slots ≡ count → i < length list
-    → Holds (before ++ take i list) slots → IsFaulty (length slots) (before ++ take i list) (get_or list i d) fault → Found count before list fault
-found_at count before list i d slots fault long lt holds faulty =
-    (i, lt, rw long at holds.sound, λ e. rw (get_or_default list i e d lt, ← long) faulty)
-
--- it is the first of all pieces
-first_of : (count : ℕ) (before list rest : List Piece) (fault : MergeFault) → Found count before list fault → IsFirstFault count (before ++ (list ++ rest)) fault
-first_of count before list rest fault found =
-    let le : found.0 ≤ length list = omega (arith, found.1) in
-    let prefix = take-append-add before (list ++ rest) found.0 ∙ ap (λ (ps : List Piece). before ++ ps) (take-append-le found.0 list rest le) in
-    record {
-      index = length before + found.0;
-      within = omega (arith, found.1, length-append before (list ++ rest), length-append list rest);
-      sound = rw prefix found.2;
-      faulty = λ d. rw (prefix, get_or-append-add before (list ++ rest) found.0 d, get_or_append_left list rest d found.0 found.1) (found.3 d);
-    }
-
-merge_fault : (count : ℕ) (before list rest : List Piece) (fault : MergeFault) → Found count before list fault → IsMergeFault count (before ++ (list ++ rest)) fault
-merge_fault count before list rest Memory found = tt
-merge_fault count before list rest (Missing message) found = absurd (found.3 (record { message = 0; outcome = Passed }))
-merge_fault count before list rest (Double message) found = first_of count before list rest (Double message) found
-merge_fault count before list rest (Stranger message) found = first_of count before list rest (Stranger message) found
-
-module _ {V : Type 0} (items : V → List Piece) (lists : List V) (i : ℕ) (d : V) (lt : i < length lists) where
-  pub joined_more : joined (map items (take (i + 1) lists)) ≡ joined (map items (take i lists)) ++ items (get_or lists i d)
-  joined_more =
-      ap (λ (l : List V). joined (map items l)) (take_more lists i d lt)
-      ∙ ap joined (map-append items (take i lists) (get_or lists i d ∷ []))
-      ∙ flat_map-append (λ (l : List Piece). l) (map items (take i lists)) (items (get_or lists i d) ∷ [])
-      ∙ ap (λ (ps : List Piece). joined (map items (take i lists)) ++ ps) (append-nil _)
-
-  joined_whole : joined (map items lists) ≡ joined (map items (take i lists)) ++ (items (get_or lists i d) ++ joined (map items (drop (i + 1) lists)))
-  joined_whole =
-      ap (λ (l : List V). joined (map items l)) (sym (take-append-drop i lists) ∙ ap (λ (l : List V). take i lists ++ l) (drop_more lists i d lt))
-      ∙ ap joined (map-append items (take i lists) (get_or lists i d ∷ drop (i + 1) lists))
-      ∙ flat_map-append (λ (l : List Piece). l) (map items (take i lists)) (map items (get_or lists i d ∷ drop (i + 1) lists))
-
-  pub first_fault : (count : ℕ) (list : List Piece) (fault : MergeFault) → list ≡ items (get_or lists i d)
-      → Found count (joined (map items (take i lists))) list fault → IsMergeFault count (joined (map items lists)) fault
-  first_fault count list fault is found =
-      subst (λ (ps : List Piece). IsMergeFault count ps fault) (sym joined_whole)
-      (merge_fault count (joined (map items (take i lists))) (items (get_or lists i d)) _ fault (subst (λ (l : List Piece). Found count (joined (map items (take i lists))) l fault) is found))
-
--- ---- all lists
+  pub all_held : r ≡ None → Holds pieces slots
+  all_held is = subst (λ (ps : List Piece). Holds ps slots) (sym (map-id before) ∙ (YieldsList-end gives before t so_far r u is next).0) holds
 
 pub is_some-some : (slot : Option Outcome) (x : Outcome) → slot ≡ Some x → IsSome slot
 is_some-some slot x e = rw e refl
@@ -176,8 +151,6 @@ least_missing pieces slots (Missing message) holds empty =
           ap (λ (k : ℕ). named k pieces) (sym e) ∙ one_named (get_or slots (n - 1) None) (n - 1 + 1) pieces (empty.4 (n - 1) None (omega (arith, empty.1))) (holds.slot (n - 1) None (omega (arith, empty.1, empty.2)));
     }
 
--- ---- the pieces of a day
-
 -- ---- sums that have one term
 
 sum_before : (g : ℕ → ℕ) (n a count : ℕ) → ((m : ℕ) → m ≢ n → g m ≡ 0) → n < a → sum_by g (range_with_len a count) ≡ 0
@@ -194,34 +167,26 @@ sum_of_one g n a (suc count) none le lt =
       | inr differ ↦ omega (arith, first, none a differ, sum_of_one g n (a + 1) count none (omega (arith, le, differ)) (omega (arith, lt)))
     ]
 
-sum_of_kept : (p : ℕ → Bool) (g : ℕ → ℕ) (xs : List ℕ) → sum_by g (filter p xs) ≡ sum_by (λ m. cond (p m) (g m) 0) xs
-sum_of_kept p g [] = refl
-sum_of_kept p g (x ∷ xs) = one (p x) ∙ ap (λ (k : ℕ). cond (p x) (g x) 0 + k) (sum_of_kept p g xs) ∙ sym (sum_by-cons (λ m. cond (p m) (g m) 0) x xs)
-  where
-    one : (b : Bool) → sum_by g (cond b (x ∷ filter p xs) (filter p xs)) ≡ cond b (g x) 0 + sum_by g (filter p xs)
-    one true = sum_by-cons g x (filter p xs)
-    one false = omega arith
-
 -- ---- how often a message is named
 
-named_among : (day : List (List ℕ)) (n : ℕ) (xs : List ℕ) → named n (map (piece_of day) xs) ≡ sum_by (λ m. cond (eqb m n) 1 0) xs
-named_among day n [] = refl
-named_among day n (x ∷ xs) =
-    sum_by-cons (λ (p : Piece). cond (eqb p.message n) 1 0) (piece_of day x) (map (piece_of day) xs)
-    ∙ ap (λ (k : ℕ). cond (eqb x n) 1 0 + k) (named_among day n xs) ∙ sym (sum_by-cons (λ m. cond (eqb m n) 1 0) x xs)
+named_among : (day : List (List ℕ)) (p : ℕ → Bool) (n : ℕ) (xs : List ℕ) → named n (map (piece_of day) (filter p xs)) ≡ sum_by (λ m. cond (p m) (cond (eqb m n) 1 0) 0) xs
+named_among day p n [] = refl
+named_among day p n (x ∷ xs) =
+    one (p x) ∙ ap (λ (k : ℕ). cond (p x) (cond (eqb x n) 1 0) 0 + k) (named_among day p n xs) ∙ sym (sum_by-cons (λ m. cond (p m) (cond (eqb m n) 1 0) 0) x xs)
+  where
+    one : (b : Bool) → named n (map (piece_of day) (cond b (x ∷ filter p xs) (filter p xs))) ≡ cond b (cond (eqb x n) 1 0) 0 + named n (map (piece_of day) (filter p xs))
+    one true = sum_by-cons (λ (p : Piece). cond (eqb p.message n) 1 0) (piece_of day x) (map (piece_of day) (filter p xs))
+    one false = omega arith
 
 named_kept : (day : List (List ℕ)) (p : ℕ → Bool) (n : ℕ) → 1 ≤ n → n ≤ length day → ◌≡◌ {A = ℕ} (named n (map (piece_of day) (filter p (range_with_len 1 (length day))))) (cond (p n) 1 0)
 named_kept day p n some within =
-    named_among day n (filter p (range_with_len 1 (length day))) ∙ sum_of_kept p (λ m. cond (eqb m n) 1 0) (range_with_len 1 (length day))
-    ∙ sum_of_one (λ m. cond (p m) (cond (eqb m n) 1 0) 0) n 1 (length day) other some (omega (arith, within))
+    named_among day p n (range_with_len 1 (length day))
+    ∙ sum_of_one (λ m. cond (p m) (cond (eqb m n) 1 0) 0) n 1 (length day) (λ m differ. rw (ne_eqb m n differ) (nothing (p m))) some (omega (arith, within))
     ∙ ap {B = ℕ} (λ (b : Bool). cond (p n) (cond b 1 0) 0) (eq-eqb n n refl)
   where
     nothing : (b : Bool) → cond {A = ℕ} b 0 0 ≡ 0
     nothing true = refl
     nothing false = refl
-
-    other : (m : ℕ) → m ≢ n → ◌≡◌ {A = ℕ} (cond (p m) (cond (eqb m n) 1 0) 0) 0
-    other m differ = ap {B = ℕ} (λ (b : Bool). cond (p m) (cond b 1 0) 0) (ne_eqb m n differ) ∙ nothing (p m)
 
 named_by_all : (f : ℕ → List Piece) (g : ℕ → ℕ) (n : ℕ) → ((k : ℕ) → named n (f k) ≡ g k) → (a count : ℕ) → named n (joined (map f (range_with_len a count))) ≡ sum_by g (range_with_len a count)
 named_by_all f g n are a zero = refl
@@ -260,26 +225,19 @@ module _ (day : List (List ℕ)) (workers : ℕ) (some : 0 < workers) where
       ∙ one_owner (part_at day n)
 
   -- each is of the day
-  of_day : (xs : List ℕ) → ((i : ℕ) → i < length xs → (1 ≤ get_or xs i 0) × (get_or xs i 0 ≤ length day)) → All (IsPieceOf day) (map (piece_of day) xs)
-  of_day xs within i d lt =
-      let room : i < length xs = omega (arith, lt, length-map xs (piece_of day)) in
-      rw (get_or-map (piece_of day) xs i 0 d room) (record { some = (within i room).0; within = (within i room).1; has = refl })
-
-  own_of_day : (worker : ℕ) → All (IsPieceOf day) (pieces_by day workers worker)
-  own_of_day worker = of_day (own_of workers worker day) (λ i lt. own_within workers worker day i 0 lt)
-
-  fixed_of_day : All (IsPieceOf day) (fixed_pieces day)
-  unfolding fixed_pieces
-  fixed_of_day = of_day _ (λ i lt. let in_range = kept_within (λ n. is_nowhere (part_at day n)) 1 (length day) i 0 lt in (omega (arith, in_range), omega (arith, in_range)))
+  of_day : (p : ℕ → Bool) → All (IsPieceOf day) (map (piece_of day) (filter p (range_with_len 1 (length day))))
+  of_day p = All-map (IsPieceOf day) (piece_of day) _ (λ i d lt. let within = kept_within p 1 (length day) i d lt in record { some = within.0; within = omega (arith, within); has = refl })
 
   by_workers : (a count : ℕ) → All (IsPieceOf day) (joined (map (pieces_by day workers) (range_with_len a count)))
+  unfolding own_of
   by_workers a zero = λ i d lt. absurd (omega (arith, lt))
-  by_workers a (suc count) = All-append (IsPieceOf day) (pieces_by day workers a) _ (own_of_day a) (by_workers (a + 1) count)
+  by_workers a (suc count) = All-append (IsPieceOf day) (pieces_by day workers a) _ (of_day (λ n. is_own workers a (part_at day n))) (by_workers (a + 1) count)
 
   all_of_day : All (IsPieceOf day) (joined all_pieces)
+  unfolding fixed_pieces
   all_of_day =
       subst (All (IsPieceOf day)) (sym (flat_map-append (λ list. list) (each_worker (pieces_by day workers) workers) (fixed_pieces day ∷ [])))
-      (All-append (IsPieceOf day) _ _ (by_workers 0 workers) (subst (All (IsPieceOf day)) (sym (append-nil (fixed_pieces day))) fixed_of_day))
+      (All-append (IsPieceOf day) _ _ (by_workers 0 workers) (subst (All (IsPieceOf day)) (sym (append-nil (fixed_pieces day))) (of_day (λ n. is_nowhere (part_at day n)))))
 
   contained : (p : Piece) → Contains (joined all_pieces) p → IsPieceOf day p
   contained p has = subst (IsPieceOf day) has.2 (all_of_day has.0 p has.1)

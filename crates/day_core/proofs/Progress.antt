@@ -13,7 +13,7 @@ use Rattle.itch_table.specs.After.{after}
 use Rattle.itch_table.specs.Projection.{is_locate, is_of_stock, only, steps_of}
 use Rattle.itch_table.proofs.StockDays.{other_next, other_part, own_part, steps-next}
 use Rattle.day_core.specs.Owners.{is_own, last_message, last_or, last_until, machine_of, of_stock, own_of, owner, part_at, progress}
-use Rattle.day_core.proofs.Kept.{kept_before, kept_more, kept_narrower, kept_none, kept_within}
+use Rattle.day_core.proofs.FilteredRanges.{kept_before, kept_more, kept_narrower, kept_none, kept_within}
 
 -- a number of a worker's list is that of a message of one of its stocks
 pub own_within : (workers worker : ℕ) (day : List (List ℕ)) (i d : ℕ) → i < length (own_of workers worker day)

@@ -9,7 +9,7 @@ use Rattle.std.proofs.lemmas.List.FromFn.{get_or-map-range_with_len, get_or-rang
 use Rattle.std.proofs.lemmas.Nat.{mod_below}
 use Rattle.day_core.specs.Owners.{locates_by, owner}
 use Rattle.day_core.specs.Replaying.{each_worker, values_by}
-use Rattle.day_core.proofs.Kept.{all_same, map_set}
+use Rattle.day_core.proofs.FilteredRanges.{all_same, map_set}
 
 -- one worker's more
 pub one_more : {V X : Type 0} (items : V → X) (f : ℕ → X) (before after : List V) (v : V) (count : ℕ) → map items before ≡ map f (range_with_len 0 count) → after ≡ before ++ v ∷ [] → items v ≡ f count

@@ -1,5 +1,5 @@
 -- What pieces make of a day, each of which names a message and what became of it. All is of this project.
-use Rattle.std.specs.Prelude.{◌≡◌, ℕ, List, ◌++◌, ◌==◌, ◌+◌, ◌<◌, ◌≤◌, length, take, count_by, Option, Some, None, MatchOption, IsSome, slice_index_or}
+use Rattle.std.specs.Prelude.{◌≡◌, ℕ, List, ◌==◌, ◌+◌, ◌<◌, ◌≤◌, length, take, count_by, Option, Some, None, MatchOption, IsSome, slice_index_or}
 use Rattle.std.specs.List.{Contains, flat_map}
 use Rattle.itch_table.specs.declared.outcome.Outcome.{Outcome}
 use Rattle.day_core.specs.declared.merging.Piece.{Piece}
@@ -72,12 +72,6 @@ pub record Holds (pieces : List Piece) (slots : List (Option Outcome)) : Type 0 
       (named (before + 1) pieces ≡ 0)
       (λ outcome. (named (before + 1) pieces ≡ 1)
       × Contains pieces (record { message = before + 1; outcome = outcome }))
-
--- the fault is that of a piece of a list, after other pieces and those before it there, which are all sound
-abbrev pub Found : ℕ → List Piece → List Piece → MergeFault → Type 0
-Found messages others list fault =
-    (index : ℕ) × (index < length list) × AreSound messages (others ++ take index list)
-    × ((d : Piece) → IsFaulty messages (others ++ take index list) (slice_index_or list index d) fault)
 
 -- each slot has the outcome at its index
 abbrev pub AreFilled : List (Option Outcome) → List Outcome → Type 0

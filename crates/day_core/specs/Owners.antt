@@ -10,7 +10,6 @@ use Rattle.itch_table.specs.After.{after, outcome}
 use Rattle.itch_table.specs.Machine.{shape_adds_row}
 use Rattle.itch_table.specs.Parts.{part}
 use Rattle.itch_table.specs.Projection.{is_locate, only, payload_at, steps_of}
-use Rattle.itch_table.specs.Shows.{locates_of_day}
 use Rattle.itch_table.specs.World.{empty_world}
 use Rattle.stock_machine.specs.StockRows.{StockMachine}
 use Rattle.day_core.specs.declared.merging.Piece.{Piece}
@@ -41,10 +40,6 @@ own_of workers worker day = own_until workers worker day (length day)
 -- those of some locate codes that belong to a worker
 abbrev pub locates_by : ℕ → ℕ → List ℕ → List ℕ
 locates_by workers worker locates = filter (λ locate. owner workers locate == worker) locates
-
--- the locate codes of a worker's stocks, rising
-unfoldable pub own_locates : ℕ → ℕ → List (List ℕ) → List ℕ
-own_locates workers worker day = locates_by workers worker (locates_of_day day)
 
 -- a message of a day with its outcome
 abbrev pub piece_of : List (List ℕ) → ℕ → Piece

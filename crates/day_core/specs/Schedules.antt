@@ -1,5 +1,5 @@
 -- Schedules: turns of a day's workers and looks of screens, in any order. All is of this project.
-use Rattle.std.specs.Prelude.{◌≡◌, ◌≤◌, ◌==◌, ℕ, Bool, false, List, [], ◌∷◌, Option, Some, None, count_by, length, map, min, slice_get, slice_index, take}
+use Rattle.std.specs.Prelude.{◌≡◌, ◌≤◌, ◌==◌, ℕ, Bool, false, List, [], ◌∷◌, Option, Some, None, count_by, length, min, slice_get, slice_index, take}
 use Rattle.std.specs.List.{AllPairs, flat_map, range_with_len}
 use Rattle.day_core.specs.declared.merging.Piece.{Piece}
 use Rattle.day_core.specs.declared.playing.Event.{Event}

@@ -1,9 +1,7 @@
 -- A day in parts, one for each worker. Of this project.
-use Rattle.std.specs.Prelude.{◌≡◌, ◌<◌, ◌^◌, ℕ, List, [], Option, length, map, slice_index_or}
+use Rattle.std.specs.Prelude.{◌≡◌, ◌<◌, ◌^◌, ℕ, List, Option, length, map}
 use Rattle.std.specs.List.{range_with_len}
-use Rattle.itch_table.specs.declared.outcome.Part.{Part}
 use Rattle.itch_table.specs.After.{after}
-use Rattle.itch_table.specs.Parts.{part}
 use Rattle.itch_table.specs.Shows.{locates_of_day}
 use Rattle.day_core.specs.Owners.{fixed_pieces, own_of}
 use Rattle.day_core.specs.declared.merging.Piece.{Piece}
@@ -25,11 +23,3 @@ pub record ArePartsOf (day : List (List ℕ)) (parts : DayParts) : Type 0 where
   pub own_are : parts.own ≡ map (λ worker. own_of parts.workers worker day) (range_with_len 0 parts.workers)
   pub fixed_are : parts.fixed ≡ fixed_pieces day
   pub event_is : parts.event ≡ (after day (length day)).event
-
--- ---- how a day is split
-
--- whose each message of a day is
-pub record AreWhose (day : List (List ℕ)) (whose : List Part) : Type 0 where
-  pub long : length whose ≡ length day
-  pub each : (before : ℕ) (d : Part) → before < length day
-      → slice_index_or whose before d ≡ part (slice_index_or day before [])

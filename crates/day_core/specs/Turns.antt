@@ -1,6 +1,6 @@
 -- All workers of a day, and how far each has come. Of this project.
 use Rattle.std.specs.Prelude.{◌≡◌, ◌+◌, ◌<◌, ◌≤◌, ℕ, List, Option, Some, None, length, map, slice_index, slice_set}
-use Rattle.itch_table.specs.Shows.{locates_of_day, top_after, words_of}
+use Rattle.itch_table.specs.Shows.{top_after, words_of}
 use Rattle.stock_machine.specs.StockRows.{StockMachine}
 use Rattle.day_core.specs.declared.merging.Piece.{Piece}
 use Rattle.day_core.specs.Owners.{MayAddRow, machine_of, own_of, owner, piece_of, progress}
@@ -46,10 +46,8 @@ pub record AreTurns (turns : TurnsState) (parts : DayParts) (stocks : List Stock
   pub long : workers_of turns ≡ parts.workers
   pub within : (worker : ℕ) → worker < workers_of turns
       → slice_index turns.done worker ≤ length (messages_of turns worker)
-  pub stocks_are : stocks ≡ map (λ locate. machine_of turns.day locate (progress_in turns locate))
-      (locates_of_day turns.day)
-  pub cells_are : cells ≡ map (λ locate. words_at turns.day locate (progress_in turns locate))
-      (locates_of_day turns.day)
+  pub stocks_are : stocks ≡ map (λ locate. machine_of turns.day locate (progress_in turns locate)) parts.locates
+  pub cells_are : cells ≡ map (λ locate. words_at turns.day locate (progress_in turns locate)) parts.locates
 
 -- a worker has done all of its messages, or isn't one
 abbrev pub HasNone : TurnsState → ℕ → Type 0

@@ -1,21 +1,21 @@
 //! The messages of a day, dealt to the workers of its stocks.
-ghost use Rattle.std.specs.Prelude.{◌≡◌, ◌<◌, ◌^◌, [], IfOk, length, slice_index_or};
+ghost use Rattle.std.specs.Prelude.{◌≡◌, ◌<◌, ◌^◌, [], IfOk, length, map, slice_index_or};
 ghost use Rattle.itch_layouts.specs.Shapes.{shape_of};
 ghost use Rattle.itch_table.specs.Parts.{part};
 ghost use Rattle.itch_table.specs.Projection.{event_with};
-ghost use Rattle.day_core.specs.Splitting.{ArePartsOf, AreWhose};
+ghost use Rattle.day_core.specs.Splitting.{ArePartsOf};
 
 use crate::merging::Piece;
 use crate::ordering::{empty_lists, give};
 use crate::parts::Parts;
-use crate::seeing::{locates_seen, none_seen};
-use crate::worker_count::WorkerCount;
+use crate::seeing::locates;
 use binaryfile::Day;
 use itch_layouts::{Msg, Shape, read_msg};
-use itch_table::{LOCATES, Part, part};
+use itch_table::{Part, part};
 use rayon::prelude::*;
 use std::alloc::{AllocError, Allocator};
 use std::thread::Threads;
+use worker_count::WorkerCount;
 
 // How many messages one thread looks at in a row, at least.
 const MANY: usize = 1 << 12;
@@ -36,7 +36,7 @@ pub(crate) fn whose_messages<R: Threads + Sync, A: Allocator + Copy + Send + Syn
     alloc: A,
     day: &Day<A>,
 ) -> Result<Vec<Part, A>, AllocError>
-    ensures { IfOk result (λ whose. AreWhose day.now.payloads whose.items) }
+    ensures { IfOk result (λ whose. whose.items ≡ map part day.now.payloads) }
 {
     (0..day.len())
         .into_par_iter()
@@ -57,12 +57,11 @@ pub(crate) fn deal<A: Allocator + Copy>(
     whose: &[Part],
     workers: WorkerCount,
 ) -> Result<Parts<A>, AllocError>
-    requires { AreWhose day.now.payloads whose.now }
+    requires { whose.now ≡ map part day.now.payloads }
     ensures parts { IfOk result (ArePartsOf day.now.payloads) }
     ensures workers { IfOk result (λ parts. parts.workers ≡ workers) }
 {
     let count = workers.get();
-    let mut seen = none_seen(alloc, LOCATES)?;
     let mut own = empty_lists(alloc, count)?;
     let mut fixed = Vec::new(alloc);
     let mut event = None;
@@ -70,7 +69,6 @@ pub(crate) fn deal<A: Allocator + Copy>(
         let message = before + 1;
         match whose[before as usize] {
             Part::Locate(locate) => {
-                seen[usize::from(locate)] = true;
                 give(&mut own, u32::from(locate) % count, message)?;
             }
             Part::Nowhere(outcome) => {
@@ -81,7 +79,7 @@ pub(crate) fn deal<A: Allocator + Copy>(
     }
     Ok(Parts {
         workers,
-        locates: locates_seen(alloc, &seen)?,
+        locates: locates(alloc, day)?,
         own,
         fixed,
         event,

@@ -29,12 +29,9 @@ mod playing;
 mod seeing;
 mod splitting;
 mod turns;
-mod worker_count;
 
 pub use dealing::event_after;
-pub use laws::{
-    days_come_to_their_end, looks_never_go_back, looks_show_their_stock, others_are_applied,
-};
+pub use laws::{days_come_to_their_end, looks_never_go_back, looks_show_their_stock};
 pub use machines::{do_message, new_stocks};
 pub use merging::{MergeFault, Piece, merge};
 pub use ordering::{by_worker, in_order};

@@ -2,7 +2,7 @@
 ghost use Rattle.std.specs.Prelude.{◌≡◌, ◌++◌, ◌∷◌, ◌<◌, ◌≤◌, ◌^◌, List, [], IfErr, IfOk, MatchResult, length, map};
 ghost use Rattle.std.specs.Vec.{vec_capacity};
 ghost use Rattle.day_core.specs.FaultNumbers.{merge_number};
-ghost use Rattle.day_core.specs.Merging.{AreFilled, Found, Holds, IsEmptyAt, IsFaulty, IsMergeFault, IsMerged, joined};
+ghost use Rattle.day_core.specs.Merging.{AreFilled, Holds, IsEmptyAt, IsFaulty, IsMergeFault, IsMerged, joined};
 ghost use Rattle.day_core.specs.declared.merging.MergeFault.TheVariants.{Memory};
 ghost use Rattle.day_core.specs.declared.merging.Piece.{Piece};
 
@@ -74,22 +74,6 @@ fn place<A: Allocator + Copy>(
     Ok(())
 }
 
-// Puts the pieces of a list where the outcomes of their messages belong, up to the first that is faulty.
-fn place_all<A: Allocator + Copy>(
-    slots: &mut Vec<Option<Outcome>, A>,
-    list: &[Piece],
-) -> Result<(), MergeFault>
-    ensures long { length slots.new.items ≡ length slots.old.items }
-    ensures placed { (before : List Piece) → Holds before slots.old.items → MatchResult result
-        (λ _. Holds (before ++ list.now) slots.new.items)
-        (λ fault. Found (length slots.old.items) before list.now fault) }
-{
-    for piece in list {
-        place(slots, *piece)?;
-    }
-    Ok(())
-}
-
 // The outcomes in the slots, where each has one. There is room for them.
 fn gathered<A: Allocator + Copy>(
     room: Vec<Outcome, A>,
@@ -127,8 +111,8 @@ pub fn merge<A: Allocator + Copy>(
 {
     let mut slots = vec![in alloc; None; messages as usize]?;
     let outcomes = Vec::with_capacity(alloc, messages as usize)?;
-    for list in &pieces {
-        place_all(&mut slots, list)?;
+    for piece in pieces.into_iter().flatten() {
+        place(&mut slots, piece)?;
     }
     gathered(outcomes, &slots)
 }

@@ -6,11 +6,11 @@ ghost use Rattle.day_core.specs.Owners.{IsNext, own_of};
 ghost use Rattle.day_core.specs.Splitting.{ArePartsOf};
 
 use crate::merging::Piece;
-use crate::worker_count::WorkerCount;
 use binaryfile::Day;
 use itch_table::locate_in;
 use std::alloc::Allocator;
 use std::marker::Model;
+use worker_count::WorkerCount;
 
 /// The parts of a day, one for each worker, and what belongs to none.
 ///

@@ -6,10 +6,10 @@ ghost use Rattle.day_core.specs.declared.splitting.SplitFault.TheVariants.{Memor
 
 use crate::dealing::{deal, whose_messages};
 use crate::parts::Parts;
-use crate::worker_count::WorkerCount;
 use binaryfile::Day;
 use std::alloc::{AllocError, Allocator};
 use std::thread::Threads;
+use worker_count::WorkerCount;
 
 /// Why a day isn't split.
 #[derive(Debug, Clone, Copy, PartialEq, Eq)]

@@ -13,7 +13,7 @@ use Rattle.itch_table.proofs.AnyWorld.{days_are_lists, lists_split}
 use Rattle.itch_table.proofs.StockDays.{only-empty, own_part}
 use Rattle.stock_machine.specs.StockRows.{StockMachine}
 use Rattle.itch_table.specs.Shows.{locates_of_day}
-use Rattle.day_core.proofs.Kept.{kept_more}
+use Rattle.day_core.proofs.FilteredRanges.{kept_more}
 use Rattle.day_core.specs.Owners.{is_own}
 use Rattle.day_core.specs.Replaying.{last_machine}
 use Rattle.day_replay.specs.Messages.{numbered_after, of_batch, payloads_in}

@@ -1,3 +1,4 @@
+pub mod AppliedOrRefused
 pub mod Entries
 pub mod BatchSteps
 pub mod NoStockMessages

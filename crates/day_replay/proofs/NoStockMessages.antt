@@ -11,11 +11,11 @@ use Rattle.itch_layouts.specs.declared.shape.Shape.TheVariants.{Known}
 use Rattle.itch_table.specs.declared.outcome.Outcome.{Outcome}
 use Rattle.itch_table.specs.declared.outcome.Part.{Part}
 use Rattle.itch_table.specs.declared.outcome.Part.TheVariants.{Locate, Nowhere}
-use Rattle.itch_table.specs.Parts.{part, part_of_shape}
+use Rattle.itch_table.specs.Parts.{part}
 use Rattle.itch_table.specs.Projection.{event_with}
 use Rattle.day_core.specs.declared.merging.Piece.{Piece}
-use Rattle.day_core.specs.Replaying.{is_passed}
-use Rattle.day_core.proofs.Dealt.{event_stays}
+use Rattle.day_replay.specs.Summaries.{is_passed}
+use Rattle.day_core.proofs.DealtDay.{event_stays}
 use Rattle.day_replay.specs.NoStock.{NoStockFacts, if_nowhere_refused, if_refused, is_nowhere_passed, last_event, no_stock_of}
 
 abbrev pub facts : List Piece → ℕ → Option ℕ → NoStockFacts

@@ -15,9 +15,9 @@ use Rattle.itch_table.specs.declared.outcome.Part.TheVariants.{Locate, Nowhere}
 use Rattle.itch_table.proofs.DayLocates.{range_rises}
 use Rattle.day_core.specs.declared.merging.Piece.{Piece}
 use Rattle.day_core.specs.Owners.{is_nowhere, is_own, own_of, owner, part_at, piece_of}
-use Rattle.day_core.specs.Replaying.{refused_among, refused_of}
-use Rattle.day_core.proofs.Kept.{kept_none}
-use Rattle.day_core.proofs.Refusals.{refuses}
+use Rattle.day_replay.specs.Summaries.{refused_among, refused_of}
+use Rattle.day_core.proofs.FilteredRanges.{kept_none}
+use Rattle.day_replay.proofs.AppliedOrRefused.{numbers_back, refuses}
 
 -- the refused messages of a worker, or of a batch, with their outcomes, by rising number
 abbrev pub refused_by : List (List ℕ) → ℕ → ℕ → List Piece
@@ -181,10 +181,6 @@ module _ (day : List (List ℕ)) where
   abbrev number_of : Piece → ℕ
   number_of p = p.message
 
-  again : (numbers : List ℕ) → map number_of (map (piece_of day) numbers) ≡ numbers
-  again [] = refl
-  again (n ∷ ns) = ap₂ ◌∷◌ refl (again ns)
-
   each_is : (numbers : List ℕ) → All (λ p. piece_of day p.message ≡ p) (map (piece_of day) numbers)
   each_is numbers i d lt = rw (get_or-map (piece_of day) numbers i 0 d (omega (arith, lt, length-map numbers (piece_of day)))) refl
 
@@ -198,7 +194,7 @@ module _ (day : List (List ℕ)) where
       let numbers = filter (refuses day) (range_with_len 1 (length day)) in
       let named = map number_of pieces in
       let none : Piece = record { message = 0; outcome = Applied } in
-      let moved : IsPermutation numbers named = subst (λ (ns : List ℕ). IsPermutation ns named) (again numbers) (IsPermutation-map number_of (refused_of day) pieces has) in
+      let moved : IsPermutation numbers named = subst (λ (ns : List ℕ). IsPermutation ns named) (numbers_back day numbers) (IsPermutation-map number_of (refused_of day) pieces has) in
       let same : numbers ≡ named = same_numbers numbers named
       (no_fall numbers (IsStrictlyIncreasing-filter (refuses day) _ (range_rises 1 (length day))))
       (λ i j d le lt.

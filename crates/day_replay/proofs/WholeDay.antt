@@ -21,10 +21,10 @@ use Rattle.itch_table.proofs.OtherSteps.{others_stay}
 use Rattle.itch_table.proofs.OwnSteps.{steps_are_own}
 use Rattle.itch_table.proofs.StockDays.{other_part, outcomes_stay_fixed, own_part}
 use Rattle.day_core.specs.declared.merging.Piece.{Piece}
-use Rattle.day_core.proofs.Refusals.{stock_applied}
+use Rattle.day_replay.proofs.AppliedOrRefused.{stock_applied}
 use Rattle.day_replay.proofs.RefusedMessages.{fixed_refused, refused_by}
 use Rattle.day_core.specs.Owners.{is_nowhere, is_own, own_of, part_at, piece_of}
-use Rattle.day_core.specs.Replaying.{is_passed, is_refused, refused_among}
+use Rattle.day_replay.specs.Summaries.{is_passed, is_refused, refused_among}
 use Rattle.day_replay.specs.Messages.{numbered_after, of_batch}
 use Rattle.day_replay.specs.Batches.{refused_from}
 use Rattle.day_replay.specs.NoStock.{if_nowhere_refused, if_refused, is_nowhere_passed, last_event, no_stock_of}

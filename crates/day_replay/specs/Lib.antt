@@ -1,3 +1,4 @@
+pub mod Summaries
 pub mod Messages
 pub mod NoStock
 pub mod Dealing

@@ -9,7 +9,7 @@ use Rattle.itch_table.specs.declared.outcome.Part.TheVariants.{Locate, Nowhere}
 use Rattle.itch_table.specs.Parts.{part}
 use Rattle.itch_table.specs.Projection.{event_with}
 use Rattle.day_core.specs.declared.merging.Piece.{Piece}
-use Rattle.day_core.specs.Replaying.{is_passed, is_refused}
+use Rattle.day_replay.specs.Summaries.{is_passed, is_refused}
 
 -- the refused messages with their outcomes, how many were passed over, and the last event
 pub record NoStockFacts : Type 0 where

@@ -28,12 +28,14 @@ mod batch;
 mod batch_messages;
 mod dealt_messages;
 mod ending;
+mod laws;
 mod no_stock;
 mod refusals;
 mod replay;
 
 pub use dealt_messages::DealtMessages;
 use itch_table::LOCATES;
+pub use laws::others_are_applied;
 pub use replay::{Replay, Summary};
 
 /// How many batches the stocks of a day are in: a stock belongs to the batch whose number is the remainder of its locate

@@ -1,6 +1,6 @@
 //! The refused ones among messages.
 ghost use Rattle.std.specs.Prelude.{◌≡◌, ◌++◌, ◌∷◌, [], OnErr, OnOk, cond, true};
-ghost use Rattle.day_core.specs.Replaying.{is_refused};
+ghost use Rattle.day_replay.specs.Summaries.{is_refused};
 
 use day_core::Piece;
 use itch_table::Outcome;

@@ -3,7 +3,7 @@ ghost use Rattle.std.specs.Prelude.{◌≡◌, ◌+◌, ◌<◌, ◌^◌, ◌++�
 ghost use Rattle.std.specs.Thread.{IsSend, IsSync};
 ghost use denote.Param.Send.{Frees};
 ghost use Rattle.itch_table.specs.After.{outcomes};
-ghost use Rattle.day_core.specs.Replaying.{IsSummary, is_passed};
+ghost use Rattle.day_replay.specs.Summaries.{IsSummary, is_passed};
 ghost use Rattle.day_replay.specs.Batches.{BatchState, Does, DoesOrFails, MayDo};
 ghost use Rattle.day_replay.specs.Dealing.{IsDealt};
 ghost use Rattle.day_replay.specs.Replays.{HasReplayed};

@@ -5,7 +5,7 @@ use Rattle.std.specs.List.{range_with_len}
 use Rattle.std.proofs.lemmas.Bool.{cases_lt}
 use Rattle.std.proofs.lemmas.List.{get_or_append_left, get_or_at}
 use Rattle.std.proofs.lemmas.Option.{slice_get-get_or}
-use Rattle.day_core.proofs.Kept.{kept_more}
+use Rattle.day_core.proofs.FilteredRanges.{kept_more}
 use Rattle.checkpoints.proofs.Splitting.{split}
 use Rattle.debugger.specs.Finding.{IsLatest, IsNext}
 

@@ -4,7 +4,7 @@ use Rattle.std.specs.List.{range_with_len}
 use Rattle.std.proofs.lemmas.Bool.{cases_Bool, cases_lt}
 use Rattle.day_core.specs.Owners.{last_or}
 use Rattle.day_core.proofs.Progress.{last_push}
-use Rattle.day_core.proofs.Kept.{kept_more}
+use Rattle.day_core.proofs.FilteredRanges.{kept_more}
 use Rattle.debugger.specs.Finding.{IsOnward, IsRearward}
 use Rattle.debugger.specs.Sessions.{first_or}
 

@@ -20,7 +20,7 @@ use Rattle.itch_table.proofs.StockDays.{own_part}
 use Rattle.stock_machine.specs.StockRows.{StockMachine}
 use Rattle.day_core.specs.Owners.{machine_of}
 use Rattle.day_core.proofs.Progress.{machine_stays}
-use Rattle.day_core.proofs.Kept.{kept_more}
+use Rattle.day_core.proofs.FilteredRanges.{kept_more}
 use Rattle.day_core.proofs.MachineSteps.{machine_stepped, steps_most}
 use Rattle.checkpoints.proofs.Reading.{IsReading, read_all, read_more, read_none, read_payload, read_within}
 use Rattle.checkpoints.proofs.Along.{first_machine}

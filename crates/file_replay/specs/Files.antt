@@ -7,7 +7,7 @@ use Rattle.binaryfile.specs.declared.load.LoadFault.{LoadFault}
 use Rattle.binaryfile.specs.declared.load.LoadFault.TheVariants.{Read}
 use Rattle.day_segments.specs.Reading.{HasRead, IsWholeFile, Reading, Stops}
 use Rattle.itch_table.specs.After.{outcomes}
-use Rattle.day_core.specs.Replaying.{IsSummary, is_passed}
+use Rattle.day_replay.specs.Summaries.{IsSummary, is_passed}
 use Rattle.day_replay.specs.Dealing.{Dealt, IsDealt}
 use Rattle.day_replay.specs.Replays.{HasReplayed, ReplayState}
 use Rattle.file_replay.specs.declared.file_end.FileEnd.{FileEnd}

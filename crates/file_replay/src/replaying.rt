@@ -12,12 +12,12 @@ ghost use Rattle.file_replay.specs.Files.{DealsNext, HasReplayedWhole, IsReplaye
 use crate::file_reader::FileReader;
 use crate::progress::Progress;
 use binaryfile::{Feed, Limits, LoadFault};
-use day_core::WorkerCount;
 use day_replay::{DealtMessages, Replay, Summary};
 use std::alloc::{AllocError, Allocator};
 use std::io::Read;
 use std::mem;
 use std::thread::{Threads, join_mut};
+use worker_count::WorkerCount;
 
 /// What a whole file makes, in short.
 #[derive(Drop)]

@@ -10,7 +10,6 @@ mod terminals;
 use assembling::assemble;
 use binaryfile::{Day, Feed, Limits, Sink};
 use clap::error::ErrorKind;
-use day_core::WorkerCount;
 use day_segments::SEGMENT_BYTES;
 use engine_rules::limits::{MOST_FILE_BYTES, MOST_MESSAGES};
 use engine_rules::{ProgFault, status};
@@ -31,6 +30,7 @@ use std::thread::Threads;
 use std::{env, fs};
 use stop::Stop;
 use terminals::Terminals;
+use worker_count::WorkerCount;
 
 /// The status for invalid arguments.
 const MISUSE: u8 = 2;
@@ -102,7 +102,7 @@ fn standard_output<R: Print>(rt: &R) -> Named<'static, io::Printer<'_, R>> {
 }
 
 // The number of workers that the arguments give, which is in the range of the argument.
-fn worker_count(number: u32) -> WorkerCount {
+fn number_of_workers(number: u32) -> WorkerCount {
     WorkerCount::new(number).unwrap_or(WorkerCount::ONE)
 }
 
@@ -130,7 +130,7 @@ where
         &mut Feed::new(&mut day),
         &mut Sink::new(&mut output),
         SEGMENT_BYTES,
-        worker_count(workers),
+        number_of_workers(workers),
         &lines,
     );
     if let Some(lines) = &lines {
@@ -239,7 +239,7 @@ fn watch<'a, R: Runtime + AllocGlobal + Threads + Wait + Sync>(
         &mut Feed::new(&mut day),
         &mut Sink::new(&mut output),
         name,
-        worker_count(workers),
+        number_of_workers(workers),
     );
     ended(run.map(|()| 0), &day, &output)
 }

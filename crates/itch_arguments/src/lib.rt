@@ -13,8 +13,8 @@ ghost use Rattle.clap.specs.declared.error.kind.ErrorKind.TheVariants.{DisplayHe
 ghost use Rattle.itch_arguments.specs.Tasks.{command_of};
 
 use clap::{Arg, ArgAction, ArgMatches, Command, Error, value_parser};
-use day_core::WorkerCount;
 use std::alloc::{AllocError, Global};
+use worker_count::WorkerCount;
 
 /// What FILE is.
 const DAY_HELP: &str = "A Nasdaq TotalView-ITCH 5.0 day in Nasdaq BinaryFILE form";

@@ -9,8 +9,8 @@ use Rattle.itch_table.specs.declared.outcome.Outcome.TheVariants.{Applied, Passe
 use Rattle.itch_table.specs.After.{outcome, outcomes}
 use Rattle.day_core.specs.declared.merging.Piece.{Piece}
 use Rattle.day_core.specs.Owners.{piece_of}
-use Rattle.day_core.specs.Replaying.{is_applied, is_passed, is_refused, refused_of}
-use Rattle.day_core.proofs.Kept.{filter-map}
+use Rattle.day_replay.specs.Summaries.{is_applied, is_passed, is_refused, refused_of}
+use Rattle.day_core.proofs.FilteredRanges.{filter-map}
 use Rattle.itch_engine.specs.Report.{refused_line, refused_lines}
 
 -- ---- the lines

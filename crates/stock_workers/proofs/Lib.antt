@@ -1,3 +1,3 @@
-mod Finishing
-mod Joined
-pub mod Standing
+mod FinishedWorker
+mod WorkersTogether
+pub mod WorkerInvariant

@@ -3,18 +3,18 @@ use Rattle.std.specs.Prelude.{◌≡◌, ◌<◌, ℕ, List, All, IfOk, Result, 
 use Rattle.std.specs.declared.alloc.AllocError.{AllocError}
 use Rattle.stock_machine.specs.StockRows.{StockMachine}
 use Rattle.day_core.specs.declared.merging.Piece.{Piece}
-use Rattle.day_core.specs.Owners.{last_message, locates_by, own_locates}
+use Rattle.day_core.specs.Owners.{last_message}
 use Rattle.day_core.specs.Replaying.{each_worker, last_machine, own_values, pieces_by}
 use Rattle.day_core.specs.Splitting.{DayParts}
 use Rattle.top_cell.specs.Boards.{CellId, IsOn, WriterAt}
-use Rattle.stock_workers.specs.Working.{WritersAt}
+use Rattle.stock_workers.specs.Working.{WritersAt, codes_by}
 use Rattle.stock_workers.specs.declared.fork_join.Finished.{Finished}
 use Rattle.stock_workers.specs.declared.fork_join.Waiting.{Waiting}
 
--- a worker of the day that hasn't started: the writers of its stocks have published nothing, and are of the board
-pub record IsWaiting (day : List (List ℕ)) (workers : ℕ) (board : List CellId) (worker : ℕ)
-    (writers : List WriterAt) : Type 0 where
-  pub none_done : WritersAt day (λ _. 0) (own_locates workers worker day) writers
+-- a worker of the day, with these stocks, that hasn't started: their writers have published nothing, and are of the board
+pub record IsWaiting (day : List (List ℕ)) (locates : List ℕ) (board : List CellId) (writers : List WriterAt)
+    : Type 0 where
+  pub none_done : WritersAt day (λ _. 0) locates writers
   pub on_board : All (λ w. IsOn board w.place) writers
 
 -- all workers of a day before they start, in the order of their numbers, each with those of the writers that are its
@@ -33,7 +33,7 @@ at_last day w = record w { message = last_message day w.place.locate }
 pub record IsFinished (day : List (List ℕ)) (parts : DayParts) (worker : ℕ) (writers : List WriterAt)
     (pieces : List Piece) (stocks : List StockMachine) (after : List WriterAt) : Type 0 where
   pub pieces_are : pieces ≡ pieces_by day parts.workers worker
-  pub stocks_are : stocks ≡ map (last_machine day) (locates_by parts.workers worker parts.locates)
+  pub stocks_are : stocks ≡ map (last_machine day) (codes_by parts worker)
   pub writers_are : after ≡ map (at_last day) writers
 
 -- what all workers make, in the order of their numbers, where none was refused memory: these were the writers of the
@@ -51,6 +51,5 @@ pub record AreGathered (day : List (List ℕ)) (parts : DayParts) (writers : Lis
     (pieces : List (List Piece)) (stocks : List (List StockMachine)) (after : List (List WriterAt))
     : Type 0 where
   pub pieces_are : pieces ≡ each_worker (pieces_by day parts.workers) parts.workers
-  pub stocks_are : stocks
-      ≡ each_worker (λ w. map (last_machine day) (locates_by parts.workers w parts.locates)) parts.workers
+  pub stocks_are : stocks ≡ each_worker (λ w. map (last_machine day) (codes_by parts w)) parts.workers
   pub writers_are : after ≡ each_worker (λ w. map (at_last day) (own_values parts writers w)) parts.workers

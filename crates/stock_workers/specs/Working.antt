@@ -2,7 +2,7 @@
 use Rattle.std.specs.Prelude.{◌≡◌, ◌+◌, ◌<◌, ◌≤◌, ℕ, List, Option, Some, None, length, map, slice_index}
 use Rattle.stock_machine.specs.StockRows.{StockMachine}
 use Rattle.day_core.specs.declared.merging.Piece.{Piece}
-use Rattle.day_core.specs.Owners.{MayAddRow, locates_by, machine_of, new_machine, own_locates, own_of, piece_of, progress}
+use Rattle.day_core.specs.Owners.{MayAddRow, locates_by, machine_of, new_machine, own_of, piece_of, progress}
 use Rattle.day_core.specs.Splitting.{ArePartsOf, DayParts}
 use Rattle.top_cell.specs.Boards.{Place, WriterAt}
 
@@ -15,9 +15,12 @@ pub record Working : Type 0 where
   pub stocks : List StockMachine
   pub writers : List WriterAt
 
--- the locate codes of its stocks, rising
+-- the locate codes of a worker's stocks, rising
+abbrev pub codes_by : DayParts → ℕ → List ℕ
+codes_by parts worker = locates_by parts.workers worker parts.locates
+
 abbrev pub codes_of : Working → List ℕ
-codes_of w = locates_by w.parts.workers w.worker w.parts.locates
+codes_of w = codes_by w.parts w.worker
 
 -- the cells of its stocks
 abbrev pub places_of : Working → List Place
@@ -29,7 +32,7 @@ first_working parts worker writers = record {
   parts = parts;
   worker = worker;
   done = 0;
-  stocks = map new_machine (locates_by parts.workers worker parts.locates);
+  stocks = map new_machine (codes_by parts worker);
   writers = writers;
 }
 
@@ -52,10 +55,6 @@ WritersAt day message locates writers =
 abbrev pub messages_of : List (List ℕ) → Working → List ℕ
 messages_of day w = own_of w.parts.workers w.worker day
 
--- the locate codes of its stocks in a day, rising
-abbrev pub locates_in : List (List ℕ) → Working → List ℕ
-locates_in day w = own_locates w.parts.workers w.worker day
-
 -- its next message, where it has one left
 abbrev pub next_of : List (List ℕ) → Working → ℕ
 next_of day w = slice_index (messages_of day w) w.done
@@ -74,8 +73,8 @@ pub record IsWorkerOf (day : List (List ℕ)) (w : Working) : Type 0 where
   pub parts_are : ArePartsOf day w.parts
   pub within : w.done ≤ length (messages_of day w)
   pub stocks_are : w.stocks
-      ≡ map (λ locate. machine_of day locate (progress_in day w locate)) (locates_in day w)
-  pub writers_are : WritersAt day (progress_in day w) (locates_in day w) w.writers
+      ≡ map (λ locate. machine_of day locate (progress_in day w locate)) (codes_of w)
+  pub writers_are : WritersAt day (progress_in day w) (codes_of w) w.writers
 
 -- a turn may need memory: a message is left that may
 pub record MayGrowNext (day : List (List ℕ)) (w : Working) : Type 0 where

@@ -5,6 +5,7 @@ ghost use denote.Param.Send.{Frees};
 ghost use Rattle.day_core.specs.Splitting.{ArePartsOf};
 ghost use Rattle.top_cell.specs.Boards.{WriterAt};
 ghost use Rattle.stock_workers.specs.Running.{AreFinished, AreWaiting, IsFinished, IsWaiting};
+ghost use Rattle.stock_workers.specs.Working.{codes_by};
 
 use crate::gate::Gate;
 use crate::worker::Worker;
@@ -43,7 +44,7 @@ fn finish<R: Threads + Wait + Sync, A: Allocator + Copy, G: Gate>(
     gate: &G,
 ) -> Result<Finished<A>, AllocError>
     requires parts { ArePartsOf day.now.payloads parts.now }
-    requires waits { IsWaiting day.now.payloads parts.now.workers board.now waiting.worker
+    requires waits { IsWaiting day.now.payloads (codes_by parts.now waiting.worker) board.now
         waiting.writers.items }
     ensures { IfOk result (λ made. IsFinished day.now.payloads parts.now waiting.worker waiting.writers.items
         made.pieces.items made.stocks.items made.writers.items) }
@@ -73,7 +74,7 @@ pub(crate) fn finish_all<R: Threads + Wait + Sync, A: Allocator + Copy + Send + 
     gate: &G,
 ) -> Result<Vec<Result<Finished<A>, AllocError>, A>, AllocError>
     requires parts { ArePartsOf day.now.payloads parts.now }
-    requires wait { All (λ w. IsWaiting day.now.payloads parts.now.workers board.now w.worker w.writers.items)
+    requires wait { All (λ w. IsWaiting day.now.payloads (codes_by parts.now w.worker) board.now w.writers.items)
         all.items }
     ensures { IfOk result (λ made. (writers : List WriterAt) → AreWaiting parts.now writers all.items
         → AreFinished day.now.payloads parts.now writers made.items) }
@@ -84,7 +85,7 @@ pub(crate) fn finish_all<R: Threads + Wait + Sync, A: Allocator + Copy + Send + 
         &|waiting: Waiting<A>| -> Result<Finished<A>, AllocError>
             requires { IsSync R.row × IsSync G.row × IsSend A.row × IsSync A.row
                 × Frees A.Allocator A.dealloc_token × ArePartsOf day.now.payloads parts.now
-                × IsWaiting day.now.payloads parts.now.workers board.now waiting.worker
+                × IsWaiting day.now.payloads (codes_by parts.now waiting.worker) board.now
                 waiting.writers.items }
             ensures { IfOk result (λ made. IsFinished day.entry.now.payloads parts.entry.now waiting.worker
                 waiting.writers.items made.pieces.items made.stocks.items made.writers.items) }

@@ -1,10 +1,10 @@
 //! One worker with the writers of its stocks' cells.
 ghost use Rattle.std.specs.Prelude.{◌≡◌, ◌<◌, ℕ, All, IfOk, List, MatchOption, OnErr, length, slice_index};
 ghost use Rattle.std.specs.List.{Contains};
-ghost use Rattle.day_core.specs.Owners.{locates_by, machine_of, own_locates};
+ghost use Rattle.day_core.specs.Owners.{locates_by, machine_of};
 ghost use Rattle.day_core.specs.Splitting.{ArePartsOf};
 ghost use Rattle.top_cell.specs.Boards.{IsOn};
-ghost use Rattle.stock_workers.specs.Working.{IsWorkerOf, MayGrowNext, TakesTurn, WritersAt, codes_of, first_working, locates_in, places_of, progress_in, stands, writer_state};
+ghost use Rattle.stock_workers.specs.Working.{IsWorkerOf, MayGrowNext, TakesTurn, WritersAt, codes_by, codes_of, first_working, places_of, progress_in, stands, writer_state};
 
 use crate::gate::Gate;
 use binaryfile::Day;
@@ -36,8 +36,7 @@ impl<'p, A: Allocator> Model for Worker<'p, A> {
     ghost use Rattle.std.specs.Coded.{codes};
     ghost use Rattle.std.specs.List.Sorted.{IsStrictlyIncreasing};
     ghost use Rattle.itch_table.specs.CodedWorld.{coded_world};
-    ghost use Rattle.day_core.specs.Owners.{locates_by};
-    ghost use Rattle.stock_workers.specs.Working.{Working};
+    ghost use Rattle.stock_workers.specs.Working.{Working, codes_by};
 
     ghost Value = { Working };
 
@@ -52,7 +51,7 @@ impl<'p, A: Allocator> Model for Worker<'p, A> {
     } };
 
     ghost invariant = { λ w. IsStrictlyIncreasing w.locates.items
-        × (w.locates.items ≡ locates_by w.parts.now.workers w.worker w.parts.now.locates) };
+        × (w.locates.items ≡ codes_by w.parts.now w.worker) };
 }
 
 // Those of some locate codes whose stocks belong to a worker.
@@ -85,7 +84,7 @@ impl<'p, A: Allocator + Copy> Worker<'p, A> {
     ) -> Result<Worker<'p, A>, AllocError>
         ensures first { IfOk result (λ made. made ≡ first_working parts.now worker writers.items) }
         ensures of { IfOk result (λ made. (day : List (List ℕ)) → ArePartsOf day parts.now
-            → WritersAt day (λ _. 0) (own_locates parts.now.workers worker day) writers.items
+            → WritersAt day (λ _. 0) (codes_by parts.now worker) writers.items
             → IsWorkerOf day made) }
     {
         let locates = own_codes(alloc, parts.locates(), parts.workers(), worker)?;
@@ -150,7 +149,7 @@ impl<'p, A: Allocator> Worker<'p, A> {
     /// it isn't one of them.
     pub fn stock(&self, locate: u16) -> Option<&Stock<A>>
         ensures { (day : List (List ℕ)) → IsWorkerOf day self.now
-            → MatchOption result (¬ Contains (locates_in day self.now) locate)
+            → MatchOption result (¬ Contains (codes_of self.now) locate)
             (λ stock. stock.now ≡ machine_of day locate (progress_in day self.now locate)) }
     {
         let index = self.index_of(locate)?;
@@ -161,7 +160,7 @@ impl<'p, A: Allocator> Worker<'p, A> {
     /// worker's own cells; none where it isn't one of them.
     pub fn writer(&self, locate: u16) -> Option<&TopWriter>
         ensures { (day : List (List ℕ)) → IsWorkerOf day self.now
-            → MatchOption result (¬ Contains (locates_in day self.now) locate) (λ writer.
+            → MatchOption result (¬ Contains (codes_of self.now) locate) (λ writer.
             (writer_state writer.now ≡ stands day self.now locate) × Contains self.now.writers writer.now) }
     {
         let index = self.index_of(locate)?;

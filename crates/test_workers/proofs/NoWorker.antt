@@ -2,11 +2,9 @@
 use Rattle.std.proofs.Common.{◌≡◌, ℕ, ◌%◌, ◌<◌, ◌≤◌, List, [], eqb, arith}
 use Rattle.std.proofs.lemmas.Bool.{ne_eqb}
 use Rattle.std.proofs.lemmas.Nat.{mod_below}
-use Rattle.itch_table.specs.Shows.{locates_of_day}
-use Rattle.day_core.specs.Owners.{own_locates}
-use Rattle.day_core.proofs.Kept.{kept_none}
+use Rattle.day_core.specs.Owners.{locates_by}
+use Rattle.day_core.proofs.FilteredRanges.{kept_none}
 
-pub no_locates : (workers number : ℕ) (day : List (List ℕ)) → 0 < workers → workers ≤ number → own_locates workers number day ≡ []
-unfolding own_locates
-no_locates workers number day some past =
-    kept_none (λ l. eqb (l % workers) number) (locates_of_day day) (λ l. ne_eqb _ _ (λ same. omega (arith, same, mod_below l workers some)))
+pub no_locates : (workers number : ℕ) (locates : List ℕ) → 0 < workers → workers ≤ number → locates_by workers number locates ≡ []
+no_locates workers number locates some past =
+    kept_none (λ l. eqb (l % workers) number) locates (λ l. ne_eqb _ _ (λ same. omega (arith, same, mod_below l workers some)))

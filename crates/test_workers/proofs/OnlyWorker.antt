@@ -4,10 +4,11 @@ use Rattle.std.proofs.lemmas.Bool.{eq-eqb}
 use Rattle.std.proofs.lemmas.List.Elements.{All-map}
 use Rattle.std.proofs.lemmas.Option.{slice_get-get_or}
 use Rattle.itch_table.specs.Shows.{locates_of_day}
-use Rattle.day_core.specs.Owners.{own_locates}
+use Rattle.day_core.specs.Owners.{locates_by}
+use Rattle.day_core.specs.Splitting.{ArePartsOf, DayParts}
 use Rattle.top_cell.specs.Boards.{AreNew, CellId, IsOn, WriterAt}
 use Rattle.stock_workers.specs.Running.{IsWaiting, at_last}
-use Rattle.stock_workers.specs.Working.{WriterState, writer_state}
+use Rattle.stock_workers.specs.Working.{WriterState, codes_by, writer_state}
 
 -- all stocks are the only worker's
 all_own : (ls : List ℕ) → filter (λ l. eqb (l % 1) 0) ls ≡ ls
@@ -26,12 +27,12 @@ all_fresh day (w ∷ ws) all = ap₂ ◌∷◌ (all 0 w (omega arith)) (all_fres
 pub all_on : (day : List (List ℕ)) (board : List CellId) (ws : List WriterAt) → AreNew day (locates_of_day day) board ws → All (λ w. IsOn board w.place) ws
 all_on day board ws new = λ k d lt. (new.each k (get_or ws k d) (slice_get-get_or ws k d lt)).1
 
-pub only_waits : (day : List (List ℕ)) (board : List CellId) (ws : List WriterAt) → AreNew day (locates_of_day day) board ws → IsWaiting day 1 board 0 ws
-unfolding own_locates
+pub only_codes : (day : List (List ℕ)) (parts : DayParts) → ArePartsOf day parts → parts.workers ≡ 1 → codes_by parts 0 ≡ locates_of_day day
+only_codes day parts are one = ap (λ (n : ℕ). locates_by n 0 parts.locates) one ∙ all_own parts.locates ∙ are.locates_are
+
+pub only_waits : (day : List (List ℕ)) (board : List CellId) (ws : List WriterAt) → AreNew day (locates_of_day day) board ws → IsWaiting day (locates_of_day day) board ws
 only_waits day board ws new = record {
-  none_done =
-      all_fresh day ws (λ k d lt. ap writer_state (new.each k (get_or ws k d) (slice_get-get_or ws k d lt)).0)
-      ∙ ap (map (fresh day)) (new.stocks ∙ sym (all_own (locates_of_day day)));
+  none_done = all_fresh day ws (λ k d lt. ap writer_state (new.each k (get_or ws k d) (slice_get-get_or ws k d lt)).0) ∙ ap (map (fresh day)) new.stocks;
   on_board = all_on day board ws new;
 }
 

@@ -1,5 +1,6 @@
 //! The only worker of a day, its board, and a screen.
 ghost use Rattle.std.specs.Prelude.{◌≡◌, All, IfOk};
+ghost use Rattle.itch_table.specs.Shows.{locates_of_day};
 ghost use Rattle.top_cell.specs.Boards.{IsOn};
 ghost use Rattle.day_core.specs.Splitting.{ArePartsOf};
 ghost use Rattle.stock_workers.specs.Running.{IsWaiting};
@@ -33,7 +34,7 @@ pub fn prepare<R: Threads + Wait + Sync, A: Allocator + Copy + Send + Sync>(
     ensures parts { IfOk result (λ made. ArePartsOf day.now.payloads made.0) }
     ensures one { IfOk result (λ made. made.0.workers ≡ 1) }
     ensures waits { IfOk result (λ made.
-        IsWaiting day.now.payloads 1 made.1.board 0 made.1.writers.items) }
+        IsWaiting day.now.payloads (locates_of_day day.now.payloads) made.1.board made.1.writers.items) }
     ensures screen { IfOk result (λ made. IsOn made.1.board made.1.screen.place) }
 {
     let parts = split(rt, alloc, day, 1)?;
@@ -56,7 +57,8 @@ pub fn only_worker<'p, A: Allocator + Copy>(
 ) -> Result<(Worker<'p, A>, Board<A>, Screen), AllocError>
     requires parts { ArePartsOf day.now.payloads parts.now }
     requires one { parts.now.workers ≡ 1 }
-    requires waits { IsWaiting day.now.payloads 1 waiting.board 0 waiting.writers.items }
+    requires waits { IsWaiting day.now.payloads (locates_of_day day.now.payloads) waiting.board
+        waiting.writers.items }
     requires screen { IsOn waiting.board waiting.screen.place }
     ensures worker { IfOk result (λ made. IsWorkerOf day.now.payloads made.0) }
     ensures board { IfOk result (λ made. All (IsOn made.1) (places_of made.0)) }

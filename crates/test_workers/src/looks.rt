@@ -1,5 +1,6 @@
 //! A screen that looks after each turn of a worker, and looks that are refused memory.
 ghost use Rattle.std.specs.Prelude.{◌≡◌, All};
+ghost use Rattle.itch_table.specs.Shows.{locates_of_day};
 ghost use Rattle.top_cell.specs.Boards.{IsOn};
 ghost use Rattle.day_core.specs.Splitting.{ArePartsOf};
 ghost use Rattle.stock_workers.specs.Running.{IsWaiting};
@@ -89,7 +90,8 @@ fn follow_new<R: Threads + Wait + Sync, A: Allocator + Copy>(
 ) -> Result<(), Fail>
     requires parts { ArePartsOf day.now.payloads parts.now }
     requires one { parts.now.workers ≡ 1 }
-    requires waits { IsWaiting day.now.payloads 1 waiting.board 0 waiting.writers.items }
+    requires waits { IsWaiting day.now.payloads (locates_of_day day.now.payloads) waiting.board
+        waiting.writers.items }
     requires screen { IsOn waiting.board waiting.screen.place }
 {
     match only_worker(alloc, day, parts, waiting) {
@@ -182,7 +184,8 @@ fn look_new<R: Threads + Wait + Sync, A: Allocator + Copy>(
 ) -> Result<Tried, Fail>
     requires parts { ArePartsOf day.now.payloads parts.now }
     requires one { parts.now.workers ≡ 1 }
-    requires waits { IsWaiting day.now.payloads 1 waiting.board 0 waiting.writers.items }
+    requires waits { IsWaiting day.now.payloads (locates_of_day day.now.payloads) waiting.board
+        waiting.writers.items }
     requires screen { IsOn waiting.board waiting.screen.place }
 {
     match only_worker(alloc, day, parts, waiting) {

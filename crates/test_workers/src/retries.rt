@@ -1,5 +1,6 @@
 //! Turns that are refused memory and taken again, at a gate that notes with which messages it is called.
 ghost use Rattle.std.specs.Prelude.{◌≡◌, All};
+ghost use Rattle.itch_table.specs.Shows.{locates_of_day};
 ghost use Rattle.day_core.specs.Splitting.{ArePartsOf};
 ghost use Rattle.top_cell.specs.Boards.{IsOn};
 ghost use Rattle.stock_workers.specs.Running.{IsWaiting};
@@ -81,7 +82,8 @@ fn turns_of<R: Threads + Wait + Sync, A: Allocator + Copy + Send + Sync>(
 ) -> Result<Tried, Fail>
     requires parts { ArePartsOf day.now.payloads parts.now }
     requires one { parts.now.workers ≡ 1 }
-    requires waits { IsWaiting day.now.payloads 1 waiting.board 0 waiting.writers.items }
+    requires waits { IsWaiting day.now.payloads (locates_of_day day.now.payloads) waiting.board
+        waiting.writers.items }
     requires screen { IsOn waiting.board waiting.screen.place }
 {
     match only_worker(alloc, day, parts, waiting) {

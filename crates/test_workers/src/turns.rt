@@ -1,5 +1,6 @@
 //! One worker, turn by turn.
 ghost use Rattle.std.specs.Prelude.{◌≡◌, [], All, IfOk};
+ghost use Rattle.itch_table.specs.Shows.{locates_of_day};
 ghost use Rattle.top_cell.specs.Boards.{IsOn};
 ghost use Rattle.day_core.specs.Splitting.{ArePartsOf};
 ghost use Rattle.stock_workers.specs.Running.{IsWaiting};
@@ -326,7 +327,8 @@ fn last_of<R: Threads + Wait + Sync, A: Allocator + Copy + Send + Sync>(
 ) -> Result<Tried, Fail>
     requires parts { ArePartsOf day.now.payloads parts.now }
     requires one { parts.now.workers ≡ 1 }
-    requires waits { IsWaiting day.now.payloads 1 waiting.board 0 waiting.writers.items }
+    requires waits { IsWaiting day.now.payloads (locates_of_day day.now.payloads) waiting.board
+        waiting.writers.items }
     requires screen { IsOn waiting.board waiting.screen.place }
 {
     match only_worker(alloc, day, parts, waiting) {

@@ -1,7 +1,7 @@
-pub mod Views
-pub mod Shown
+pub mod OneViewChanges
+pub mod CellWords
 pub mod WriterSteps
 pub mod ReaderSteps
-pub mod BaseMoves
-pub mod TriesTold
-pub mod Places
+pub mod OpenSplitJoin
+pub mod TriesAndChanges
+pub mod BoardCells

@@ -7,8 +7,8 @@ use native.Mathlib.Decide.{ℕ_discrete}
 use Rattle.atomic_table.specs.Table.{Me, keeps, Allows}
 use Rattle.top_cell.specs.Rule.{IsAboveNoteOrNow, IsNotedOrNow, ShowsOf, Sees, CellRule, Turns, note_of, number_in, sight}
 use Rattle.top_cell.specs.Kinds.{ReaderBegun, ReaderEnded, ReaderTook}
-use Rattle.top_cell.proofs.Views.{open_at, unmoved, screen_turns}
-use Rattle.top_cell.proofs.Shown.{count_is, word_is, first_shown}
+use Rattle.top_cell.proofs.OneViewChanges.{open_at, unmoved, screen_turns}
+use Rattle.top_cell.proofs.CellWords.{count_is, word_is, first_shown}
 use Rattle.top_cell.specs.declared.rule.DayStock.{DayStock}
 use Rattle.top_cell.specs.declared.rule.Sight.{Sight}
 use Rattle.top_cell.specs.declared.rule.View.{View}

@@ -7,8 +7,8 @@ use lib.ListN.{get_elem?}
 use Rattle.atomic_table.specs.Table.{Me, keeps, Allows}
 use Rattle.top_cell.specs.Rule.{ShowsOf, Fits, is_writers, IsOpen, CellHolds, open_cell, CellRule, Turns, change, note_of, number_in, rest, sight_of}
 use Rattle.top_cell.specs.Kinds.{WriterBegun, WriterEnded, WriterHasPut}
-use Rattle.top_cell.proofs.Views.{Finds, open_at, set_there, all_fit, others_fit, finds_noted}
-use Rattle.top_cell.proofs.Shown.{count_is, set_count, set_word, mixed_more, mixed_all, four_shown}
+use Rattle.top_cell.proofs.OneViewChanges.{Finds, open_at, set_there, all_fit, others_fit, finds_noted}
+use Rattle.top_cell.proofs.CellWords.{count_is, set_count, set_word, mixed_more, mixed_all, four_shown}
 use Rattle.top_cell.specs.declared.rule.DayStock.{DayStock}
 use Rattle.top_cell.specs.declared.rule.Change.{Change}
 use Rattle.top_cell.specs.declared.rule.Rest.{Rest}

@@ -2,7 +2,7 @@
 ghost use Rattle.std.specs.Prelude.{◌≡◌, ◌-◌, ◌<◌, ◌≤◌, ◌^◌, ℕ, Err, IfOk, IfErr, List, count_by, length};
 ghost use Rattle.binaryfile.specs.Loading.{HasMoreMessages};
 ghost use Rattle.itch_table.specs.After.{outcomes};
-ghost use Rattle.day_core.specs.Replaying.{is_passed, refused_of};
+ghost use Rattle.day_replay.specs.Summaries.{is_passed, refused_of};
 ghost use Rattle.file_replay.specs.Files.{IsFileSummary};
 ghost use Rattle.engine_rules.specs.Runs.{Fails, Runs};
 ghost use Rattle.itch_engine.specs.ReplayEngines.{Replays, replayer};

@@ -3,7 +3,7 @@ use Rattle.std.specs.List.{range_with_len}
 use Rattle.rayon.specs.Numbers.{nat_range}
 use Rattle.rayon.proofs.ListFacts.{IfOk-then}
 use Rattle.rayon.proofs.ToStd.{nat_range-All}
-use Rattle.day_core.proofs.Dealt.{whose_from}
+use Rattle.day_core.proofs.DealtDay.{whose_from}
 use Rattle.day_core.proofs.dealing.whose_messages.Goals as goal
 
 pub collect-requires-clause-ready : goal.collect-requires-clause-ready

@@ -1,46 +1,48 @@
-use Rattle.std.proofs.Common.{◌≡◌, ap, ◌∙◌, length, map, arith, rules}
-use Rattle.std.proofs.lemmas.List.{take_all}
+use Rattle.std.proofs.Common.{◌≡◌, length, map, ap, ◌∙◌, rules}
+use Rattle.std.proofs.lemmas.Iterator.Adapters.{YieldsList-from_flatten, YieldsList-from_vec}
+use Rattle.std.proofs.lemmas.Iterator.Consumers.{YieldsList-at}
+use Rattle.std.proofs.lemmas.List.Folds.{flat_map-map}
 use Rattle.std.proofs.lemmas.Result.{err_from_is_err_and, IfErr-weaker, IfOk-weaker}
 use Rattle.day_core.specs.Merging.{AreFilled, Holds, joined}
-use Rattle.day_core.proofs.MergedDay.{first_fault, joined_more, merged_all, least_missing}
+use Rattle.day_core.proofs.MergedDay.{all_held, least_missing, merged_all, next_fault}
 use Rattle.day_core.proofs.merging.merge.Given as given
 use Rattle.day_core.proofs.merging.merge.Goals as goal
 
-pub returns-in_err-place_all-clause-fault : goal.returns-in_err-place_all-clause-fault
-returns-in_err-place_all-clause-fault g c =
-    let found = c.in_err-place_all.ensures.placed _ c.loop-list.invariant.placed in
-    let list = c.deref.ensures.value ∙ ap (λ v. v.items) c.list-item.is in
-    let fault = first_fault (λ v. v.items) _ c.loop-list.list-index _ (omega arith) _ _ _ list found in
-    let exit = err_from_is_err_and c.from_residual-in_err-place_all.result c.from_residual-in_err-place_all.ensures.1 in
-    let same : exit.0 ≡ c.in_err-place_all.field-0.0 = exit.2 in
-    rw (exit.1, same, ← c.deref-list-items.ensures.value, ← c.loop-list.invariant.long) fault
+pub loop-piece-preserved : goal.loop-piece-preserved
+loop-piece-preserved g c = record { long = search rules; placed = c.in_ok-place.ensures.placed c.loop-piece.yielded c.loop-piece.invariant.placed }
 
-pub loop-list-preserved : goal.loop-list-preserved
-loop-list-preserved g c = record {
-  long = search rules;
-  placed =
-      let list = c.deref.ensures.value ∙ ap (λ v. v.items) c.list-item.is in
-      let placed = c.in_ok-place_all.ensures.placed _ c.loop-list.invariant.placed in
-      let more = joined_more (λ v. v.items) c.deref-list-items.result.now c.loop-list.list-index c.list-item.result (omega arith) in
-      rw (more, ← list) placed;
-}
+pub returns-in_err-place-clause-fault : goal.returns-in_err-place-clause-fault
+returns-in_err-place-clause-fault g c =
+    let made = c.flatten-piece-items.ensures in
+    let lists = YieldsList-at made.source (YieldsList-from_vec {s = c.into_iter.result} c.args.pieces.items c.into_iter.ensures.rest (c.into_iter.ensures.len ∙ c.args.pieces.ok.0)) in
+    let loop = c.loop-piece in
+    let fault =
+    next_fault (YieldsList-at c.into_iter-piece-iterator.ensures.into_iter_gives (YieldsList-from_flatten _ _ (λ p. p) (λ list. list.items) (λ list rest is. YieldsList-from_vec {s = rest} list.items is.0 (is.1 ∙ list.ok.0)) lists made.front made.back made.done))
+    loop.yielded loop.piece-iterator loop.yielded_by loop.slots.items loop.invariant.placed c.next.result c.next.new.self c.next.ensures.steps c.in-Some.piece _ c.in-Some.is (c.in_err-place.ensures.placed loop.yielded loop.invariant.placed) in
+    let exit = err_from_is_err_and c.from_residual-in_err-place.result c.from_residual-in_err-place.ensures.1 in
+    let same : exit.0 ≡ c.in_err-place.field-0.0 = exit.2 in
+    rw (exit.1, same, ← loop.invariant.long, flat_map-map) fault
 
--- what the slots hold once all lists are placed
-held : (g : given.Over) (c : goal.After-drop-pieces-2 g) → Holds (joined (map (λ v. v.items) c.args.pieces.items)) c.deref-2.result.now
+-- what the slots hold once all pieces are placed
+held : (g : given.Over) (c : goal.After-drop-slots-2 g) → Holds (joined (map (λ v. v.items) c.args.pieces.items)) c.deref.result.now
 held g c =
-    let lists = ap (λ l. joined (map (λ v. v.items) l)) (take_all c.loop-list.list-index c.deref-list-items.result.now (omega arith) ∙ c.deref-list-items.ensures.value) in
-    rw (c.deref-2.ensures.value, ← lists) c.loop-list.invariant.placed
+    let made = c.flatten-piece-items.ensures in
+    let lists = YieldsList-at made.source (YieldsList-from_vec {s = c.into_iter.result} c.args.pieces.items c.into_iter.ensures.rest (c.into_iter.ensures.len ∙ c.args.pieces.ok.0)) in
+    let loop = c.loop-piece in
+    rw (c.deref.ensures.value, flat_map-map)
+    (all_held (YieldsList-at c.into_iter-piece-iterator.ensures.into_iter_gives (YieldsList-from_flatten _ _ (λ p. p) (λ list. list.items) (λ list rest is. YieldsList-from_vec {s = rest} list.items is.0 (is.1 ∙ list.ok.0)) lists made.front made.back made.done))
+    loop.yielded loop.piece-iterator loop.yielded_by loop.slots.items loop.invariant.placed c.next.result c.next.new.self c.next.ensures.steps c.in-None.is)
 
 -- one for each message
-as_many : (g : given.Over) (c : goal.After-drop-pieces-2 g) → length c.deref-2.result.now ≡ c.args.messages
-as_many g c = ap length c.deref-2.ensures.value ∙ c.loop-list.invariant.long
+as_many : (g : given.Over) (c : goal.After-drop-slots-2 g) → length c.deref.result.now ≡ c.args.messages
+as_many g c = ap length c.deref.ensures.value ∙ c.loop-piece.invariant.long
 
 pub returns-clause-merged : goal.returns-clause-merged
 returns-clause-merged g c =
-    IfOk-weaker c.gathered.result (λ outcomes. AreFilled c.deref-2.result.now outcomes.items) _
-    (λ outcomes filled. rw (← as_many g c) (merged_all _ c.deref-2.result.now outcomes.items (held g c) filled)) c.gathered.ensures.ok
+    IfOk-weaker c.gathered.result (λ outcomes. AreFilled c.deref.result.now outcomes.items) _
+    (λ outcomes filled. rw (← as_many g c) (merged_all _ c.deref.result.now outcomes.items (held g c) filled)) c.gathered.ensures.ok
 
 pub returns-clause-fault : goal.returns-clause-fault
 returns-clause-fault g c =
     IfErr-weaker c.gathered.result _ _
-    (λ fault empty. rw (← as_many g c) (least_missing _ c.deref-2.result.now fault (held g c) empty)) c.gathered.ensures.missing
+    (λ fault empty. rw (← as_many g c) (least_missing _ c.deref.result.now fault (held g c) empty)) c.gathered.ensures.missing

@@ -5,7 +5,7 @@ use Rattle.day_core.specs.declared.playing.Event.TheVariants.{Turn}
 use Rattle.day_core.specs.declared.playing.Seen.{Seen}
 use Rattle.day_core.specs.Turns.{TurnsState, workers_of}
 use Rattle.day_core.specs.Schedules.{Changes, seen_of, seen_until}
-use Rattle.day_core.proofs.Scheduled.{changed, turns_after, turns_first, seen_more, shows}
+use Rattle.day_core.proofs.LooksNeverGoBack.{changed, turns_after, turns_first, seen_more, shows}
 use Rattle.day_core.proofs.playing.watch.Goals as goal
 
 pub loop-event-init : goal.loop-event-init

@@ -1,7 +1,7 @@
 use Rattle.std.proofs.Common.{◌≡◌, take}
 use Rattle.day_core.specs.Turns.{workers_of}
 use Rattle.day_core.specs.Schedules.{seen_until}
-use Rattle.day_core.proofs.Scheduled.{turns_after}
+use Rattle.day_core.proofs.LooksNeverGoBack.{turns_after}
 use Rattle.day_core.proofs.playing.watch.Given as goal
 
 abbrev pub invariant-loop-event : goal.invariant-loop-event

@@ -2,7 +2,7 @@ use Rattle.std.proofs.Common.{◌≡◌, ◌+◌, ◌++◌, ◌<◌, ℕ, List, 
 use Rattle.std.specs.List.Sorted.{IsPermutation}
 use Rattle.std.proofs.lemmas.List.Sorted.{IsPermutation-refl}
 use Rattle.day_core.specs.declared.merging.Piece.{Piece}
-use Rattle.day_core.specs.Replaying.{refused_of}
+use Rattle.day_replay.specs.Summaries.{refused_of}
 use Rattle.day_replay.proofs.RefusedMessages.{below_all, below_more, below_none, refused_below, refused_by}
 use Rattle.day_replay.proofs.WholeDay.{refused_are, refused_is}
 use Rattle.day_replay.proofs.ending.joined.Goals as goal

@@ -1,5 +1,5 @@
 use Rattle.std.proofs.Common.{◌∙◌}
-use Rattle.stock_workers.proofs.Finishing.{finished, on_board, under_way_more}
+use Rattle.stock_workers.proofs.FinishedWorker.{finished, on_board, under_way_more}
 use Rattle.stock_workers.proofs.fork_join.finish.Goals as goal
 
 pub turn-requires-clause-board : goal.turn-requires-clause-board

@@ -1,6 +1,6 @@
 use Rattle.std.proofs.Common.{◌-◌, length}
 use Rattle.day_core.specs.Owners.{own_of}
-use Rattle.stock_workers.proofs.Finishing.{IsUnderWay}
+use Rattle.stock_workers.proofs.FinishedWorker.{IsUnderWay}
 use Rattle.stock_workers.proofs.fork_join.finish.Given as goal
 
 abbrev pub invariant-loop-worker : goal.invariant-loop-worker

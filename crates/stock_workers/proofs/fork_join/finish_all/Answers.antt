@@ -1,5 +1,5 @@
 use Rattle.std.proofs.Common.{arith}
-use Rattle.stock_workers.proofs.Joined.{all_finished, both_ok}
+use Rattle.stock_workers.proofs.WorkersTogether.{all_finished, both_ok}
 use Rattle.stock_workers.proofs.fork_join.finish_all.Goals as goal
 
 pub returns : goal.returns

@@ -4,10 +4,10 @@ use Rattle.std.proofs.lemmas.Iterator.Adapters.{YieldsList-from_vec}
 use Rattle.std.proofs.lemmas.Iterator.Consumers.{YieldsList-end, YieldsList-turn}
 use Rattle.std.proofs.lemmas.List.{length_push}
 use Rattle.std.proofs.lemmas.Result.{IfOk-at_ok}
-use Rattle.day_core.specs.Owners.{locates_by}
 use Rattle.day_core.specs.Replaying.{last_machine, own_values, pieces_by}
 use Rattle.day_core.proofs.StocksByWorker.{one_more}
 use Rattle.stock_workers.specs.Running.{IsFinished, at_last}
+use Rattle.stock_workers.specs.Working.{codes_by}
 use Rattle.stock_workers.proofs.running.gather.Goals as goal
 
 pub loop-one-init : goal.loop-one-init
@@ -31,7 +31,7 @@ loop-one-preserved g c = λ day parts writers are.
     let kept = before.invariant day parts writers are in
     rw length_push record {
       pieces = one_more (λ own. own.items) (pieces_by day parts.workers) before.pieces.items _ _ at kept.pieces c.in_ok-push.ensures.items has.pieces_are;
-      stocks = one_more (λ own. own.items) (λ w. map (last_machine day) (locates_by parts.workers w parts.locates)) before.stocks.items _ _ at kept.stocks c.in_ok-push-2.ensures.items has.stocks_are;
+      stocks = one_more (λ own. own.items) (λ w. map (last_machine day) (codes_by parts w)) before.stocks.items _ _ at kept.stocks c.in_ok-push-2.ensures.items has.stocks_are;
       writers =
           one_more (λ own. own.items) (λ w. map (at_last day) (own_values parts writers w)) before.writers.items _ _ at kept.writers c.in_ok-push-3.ensures.items has.writers_are;
     }
@@ -44,6 +44,6 @@ returns g c = λ day parts writers are.
     let kept = c.loop-one.invariant day parts writers are in
     record {
       pieces_are = kept.pieces ∙ ap (λ (n : ℕ). map (pieces_by day parts.workers) (range_with_len 0 n)) all;
-      stocks_are = kept.stocks ∙ ap (λ (n : ℕ). map (λ w. map (last_machine day) (locates_by parts.workers w parts.locates)) (range_with_len 0 n)) all;
+      stocks_are = kept.stocks ∙ ap (λ (n : ℕ). map (λ w. map (last_machine day) (codes_by parts w)) (range_with_len 0 n)) all;
       writers_are = kept.writers ∙ ap (λ (n : ℕ). map (λ w. map (at_last day) (own_values parts writers w)) (range_with_len 0 n)) all;
     }

@@ -1,6 +1,6 @@
 use Rattle.std.proofs.Common.{length, map, sym, ap, ◌∙◌}
 use Rattle.day_core.specs.Replaying.{last_machine}
-use Rattle.stock_workers.proofs.Joined.{as_many, waits, all_may_start, stocks_by_worker, writers_by_worker}
+use Rattle.stock_workers.proofs.WorkersTogether.{as_many, waits, all_may_start, stocks_by_worker, writers_by_worker}
 use Rattle.stock_workers.proofs.running.run_split.Goals as goal
 
 pub finish_all-requires-clause-wait : goal.finish_all-requires-clause-wait

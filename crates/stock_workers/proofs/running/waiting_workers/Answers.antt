@@ -9,7 +9,7 @@ use Rattle.std.proofs.lemmas.List.{length-map, map-append, map-id}
 use Rattle.std.proofs.lemmas.List.FromFn.{length-map-range_with_len, length-range_with_len}
 use Rattle.std.proofs.lemmas.Slice.Zip.{firsts-zip, seconds-zip}
 use Rattle.day_core.specs.Replaying.{own_values}
-use Rattle.stock_workers.proofs.Joined.{map_twice}
+use Rattle.stock_workers.proofs.WorkersTogether.{map_twice}
 use Rattle.stock_workers.proofs.running.waiting_workers.Goals as goal
 
 pub loop-worker-init : goal.loop-worker-init

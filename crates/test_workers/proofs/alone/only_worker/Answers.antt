@@ -1,14 +1,14 @@
 use Rattle.std.proofs.Common.{List, ℕ, All, map, sym, ap, subst, ◌∙◌}
 use Rattle.std.proofs.lemmas.List.Elements.{All-map}
-use Rattle.day_core.specs.Owners.{own_locates}
 use Rattle.top_cell.specs.Boards.{IsOn}
 use Rattle.stock_workers.specs.Working.{Working, WritersAt, places_of}
+use Rattle.test_workers.proofs.OnlyWorker.{only_codes}
 use Rattle.test_workers.proofs.alone.only_worker.Goals as goal
 
 pub returns-clause-worker : goal.returns-clause-worker
 returns-clause-worker g c =
     c.in_ok-worker.ensures.of c.args.day.now.payloads c.requires.parts
-    (subst (λ (n : ℕ). WritersAt c.args.day.now.payloads (λ k. 0) (own_locates n 0 c.args.day.now.payloads) c.args.waiting.writers.items) (sym c.requires.one) c.requires.waits.none_done)
+    (subst (λ (ls : List ℕ). WritersAt c.args.day.now.payloads (λ k. 0) ls c.args.waiting.writers.items) (sym (only_codes c.args.day.now.payloads c.args.parts.now c.requires.parts c.requires.one)) c.requires.waits.none_done)
 
 pub returns-clause-board : goal.returns-clause-board
 returns-clause-board g c =

@@ -9,7 +9,7 @@ returns-clause-worker g c =
     let day = c.args.day.now.payloads in
     let none : c.new-2.result.items ≡ [] = c.new-2.ensures.items in
     let past : c.args.parts.now.workers ≤ c.args.number = omega (arith, c.if-number-workers.false, c.workers.ensures.workers) in
-    let locates = no_locates c.args.parts.now.workers c.args.number day (omega (arith, c.requires.some)) past in
+    let locates = no_locates c.args.parts.now.workers c.args.number c.args.parts.now.locates (omega (arith, c.requires.some)) past in
     c.in_ok-new.ensures.of day c.requires
     (ap (map writer_state) none ∙ sym (ap (map (λ (locate : ℕ). let state : WriterState = record { day = day; locate = locate; message = 0 } in state)) locates))
 

@@ -1,6 +1,6 @@
 use Rattle.std.proofs.Common.{arith, refl}
 use Rattle.top_cell.specs.Rule.{new_cell}
-use Rattle.top_cell.proofs.BaseMoves.{opens_as}
+use Rattle.top_cell.proofs.OpenSplitJoin.{opens_as}
 use Rattle.top_cell.proofs.board.open.Goals as goal
 
 pub of_words-requires : goal.of_words-requires

@@ -2,8 +2,8 @@ use Rattle.std.proofs.Common.{◌≡◌, ◌<◌, ◌≤◌, length, sym, subst,
 use Rattle.itch_table.specs.Shows.{top_after}
 use Rattle.top_cell.specs.Boards.{WriterAt, IsOn}
 use Rattle.std.proofs.lemmas.Option.{slice_get_within}
-use Rattle.top_cell.proofs.Places.{seat_on}
-use Rattle.top_cell.proofs.Shown.{shows_words}
+use Rattle.top_cell.proofs.BoardCells.{seat_on}
+use Rattle.top_cell.proofs.CellWords.{shows_words}
 use Rattle.top_cell.proofs.steps.begin.Goals as goal
 
 pub cell-requires : goal.cell-requires

@@ -1,7 +1,7 @@
 use Rattle.std.proofs.Common.{rules, arith, refl, ap, ◌≡◌, ◌∙◌, ◌%◌}
 use Rattle.top_cell.specs.Rule.{sight_of}
 use Rattle.top_cell.proofs.ReaderSteps.{reader_begins_as, reader_ends_as}
-use Rattle.top_cell.proofs.TriesTold.{begun, is_screen, taken_at, won, lost, missed}
+use Rattle.top_cell.proofs.TriesAndChanges.{begun, is_screen, taken_at, won, lost, missed}
 use Rattle.top_cell.proofs.trying.try_once.Goals as goal
 
 pub load-began-requires : goal.load-began-requires

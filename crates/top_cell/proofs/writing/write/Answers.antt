@@ -1,5 +1,5 @@
 use Rattle.std.proofs.Common.{arith, ◌∙◌}
-use Rattle.top_cell.proofs.TriesTold.{writing_now, put_now}
+use Rattle.top_cell.proofs.TriesAndChanges.{writing_now, put_now}
 use Rattle.top_cell.proofs.writing.write.Goals as goal
 
 pub loop-index-init : goal.loop-index-init

@@ -2,7 +2,7 @@ use Rattle.std.proofs.Common.{◌≡◌, ◌<◌, MatchOption, ℕ, List, length
 use Rattle.std.specs.List.{Contains}
 use Rattle.std.specs.List.Sorted.{IsStrictlyIncreasing}
 use Rattle.day_core.specs.Splitting.{DayParts}
-use Rattle.day_core.proofs.Codes.{code_found}
+use Rattle.day_core.proofs.LocateCodes.{code_found}
 use Rattle.day_core.proofs.parts.Parts.index_of.Goals as goal
 
 pub returns : goal.returns

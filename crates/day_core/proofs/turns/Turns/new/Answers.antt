@@ -3,7 +3,7 @@ use Rattle.std.proofs.lemmas.Result.{err_from_is_err_and}
 use Rattle.day_core.specs.declared.splitting.SplitFault.TheVariants.{Memory, Workers}
 use Rattle.day_core.specs.Owners.{new_machine}
 use Rattle.day_core.specs.Turns.{AreTurns, TurnsState, state_of}
-use Rattle.day_core.proofs.Turning.{turns_first}
+use Rattle.day_core.proofs.TurnInvariant.{turns_first}
 use Rattle.day_core.proofs.turns.Turns.new.Goals as goal
 
 pub returns-in_err-cells-clause-workers : goal.returns-in_err-cells-clause-workers

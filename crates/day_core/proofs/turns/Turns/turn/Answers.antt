@@ -6,7 +6,7 @@ use Rattle.day_core.specs.Owners.{piece_of}
 use Rattle.day_core.specs.Turns.{AreTurns, HasNone, MayGrowAt, TurnsState, TurnsWorker, state_of, workers_of}
 use Rattle.day_core.proofs.MachineSteps.{on_err, top_is, is_there, next_listed}
 use Rattle.day_core.proofs.Progress.{own_few}
-use Rattle.day_core.proofs.Turning.{all_done, cells_long, comes, due_there, machine_then, may_grow, stocks_long, turns_then}
+use Rattle.day_core.proofs.TurnInvariant.{all_done, cells_long, comes, due_there, machine_then, may_grow, stocks_long, turns_then}
 use Rattle.day_core.proofs.turns.Turns.turn.Goals as goal
 
 pub returns-in_default-clause-turned : goal.returns-in_default-clause-turned

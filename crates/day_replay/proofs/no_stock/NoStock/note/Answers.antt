@@ -3,7 +3,7 @@ use Rattle.itch_layouts.specs.Shapes.{shape_of}
 use Rattle.itch_table.specs.declared.outcome.Outcome.{Outcome}
 use Rattle.itch_table.specs.Projection.{event_with}
 use Rattle.day_core.specs.declared.merging.Piece.{Piece}
-use Rattle.day_core.specs.Replaying.{is_passed, is_refused}
+use Rattle.day_replay.specs.Summaries.{is_passed, is_refused}
 use Rattle.day_replay.specs.NoStock.{if_refused}
 use Rattle.day_replay.proofs.NoStockMessages.{fact_more, facts}
 use Rattle.day_replay.proofs.no_stock.NoStock.note.Goals.{in-Applied, in-Passed, in-Refused+in_ok-push-in-Refused}

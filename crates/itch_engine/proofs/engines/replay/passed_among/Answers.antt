@@ -3,7 +3,7 @@ use Rattle.std.proofs.lemmas.List.{length-take-le}
 use Rattle.std.proofs.lemmas.List.Sums.{count_by-le-length, count_by_more_no, count_by_more_yes}
 use Rattle.itch_table.specs.declared.outcome.Outcome.{Outcome}
 use Rattle.itch_table.specs.declared.outcome.Outcome.TheVariants.{Applied, Passed, Refused}
-use Rattle.day_core.specs.Replaying.{is_passed}
+use Rattle.day_replay.specs.Summaries.{is_passed}
 use Rattle.itch_engine.proofs.engines.replay.passed_among.Goals as goal
 use Rattle.itch_engine.proofs.engines.replay.passed_among.Goals.{in-Passed, in_default}
 

@@ -7,8 +7,8 @@ use Rattle.itch_table.specs.declared.outcome.Outcome.TheVariants.{Applied, Passe
 use Rattle.itch_table.specs.After.{outcome, outcomes}
 use Rattle.day_core.specs.declared.merging.Piece.{Piece}
 use Rattle.day_core.specs.Owners.{piece_of}
-use Rattle.day_core.specs.Replaying.{is_refused, refused_among}
-use Rattle.day_core.proofs.Kept.{kept_more}
+use Rattle.day_replay.specs.Summaries.{is_refused, refused_among}
+use Rattle.day_core.proofs.FilteredRanges.{kept_more}
 use Rattle.itch_engine.proofs.engines.replay.refused_among.Goals as goal
 use Rattle.itch_engine.proofs.engines.replay.refused_among.Goals.{in-Refused+in_ok-push, in_default}
 

@@ -4,7 +4,7 @@ use Rattle.std.proofs.lemmas.List.Sums.{count_by-le-length}
 use Rattle.binaryfile.specs.Entries.{Contents}
 use Rattle.itch_table.specs.After.{outcomes}
 use Rattle.itch_table.proofs.Days.{length-outcomes_until}
-use Rattle.day_core.specs.Replaying.{is_refused}
+use Rattle.day_replay.specs.Summaries.{is_refused}
 use Rattle.file_replay.specs.Files.{IsFileSummary}
 use Rattle.itch_engine.proofs.Summaries.{all_counted, refused_are}
 use Rattle.itch_engine.proofs.report.messages.tally_of.Given as given

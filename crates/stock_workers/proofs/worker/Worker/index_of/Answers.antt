@@ -1,7 +1,7 @@
 use Rattle.std.proofs.Common.{◌≡◌, ◌<◌, MatchOption, ℕ, List, length, get_or, ap, sym, subst, ◌∙◌}
 use Rattle.std.specs.List.{Contains}
 use Rattle.std.specs.List.Sorted.{IsStrictlyIncreasing}
-use Rattle.day_core.proofs.Codes.{code_found}
+use Rattle.day_core.proofs.LocateCodes.{code_found}
 use Rattle.stock_workers.specs.Working.{codes_of}
 use Rattle.stock_workers.proofs.worker.Worker.index_of.Goals as goal
 

@@ -1,17 +1,16 @@
-use Rattle.std.proofs.Common.{map, ap, sym, subst, ◌∙◌}
+use Rattle.std.proofs.Common.{List, eqb, map, ap, sym, subst, ◌∙◌}
 use Rattle.std.specs.List.Sorted.{IsStrictlyIncreasing}
-use Rattle.day_core.specs.Owners.{new_machine}
+use Rattle.std.proofs.lemmas.List.Kept.{IsStrictlyIncreasing-filter}
+use Rattle.day_core.specs.Owners.{new_machine, owner}
 use Rattle.stock_machine.specs.StockRows.{StockMachine}
-use Rattle.std.proofs.Common.{List}
 use Rattle.stock_workers.specs.Working.{IsWorkerOf, Working, first_working}
-use Rattle.day_core.proofs.Codes.{own_codes_rise}
-use Rattle.stock_workers.proofs.Standing.{first_stands, own_codes_are}
+use Rattle.stock_workers.proofs.WorkerInvariant.{first_stands, own_codes_are}
 use Rattle.stock_workers.proofs.worker.Worker.new.Goals as goal
 
 pub invariant_of-result : goal.invariant_of-result
 invariant_of-result g c =
     let codes = own_codes_are c.args.parts.now c.workers.result c.args.worker c.locates.result.now c.in_ok-locates.locates.items c.workers.ensures.workers c.locates.ensures.locates c.in_ok-locates.ensures in
-    (subst IsStrictlyIncreasing (sym c.in_ok-locates.ensures) (own_codes_rise c.workers.result c.args.worker c.locates.result.now c.locates.ensures.rising), codes)
+    (subst IsStrictlyIncreasing (sym c.in_ok-locates.ensures) (IsStrictlyIncreasing-filter (λ l. eqb (owner c.workers.result l) c.args.worker) c.locates.result.now c.locates.ensures.rising), codes)
 
 pub returns-clause-of : goal.returns-clause-of
 returns-clause-of g c = λ day are fresh.

@@ -5,7 +5,7 @@ use Rattle.stock_machine.specs.StockRows.{StockMachine}
 use Rattle.day_core.proofs.MachineSteps.{on_err, is_there}
 use Rattle.top_cell.specs.Boards.{IsOn}
 use Rattle.stock_workers.specs.Working.{HasTurned, IsWorkerOf, MayGrowNext, Working, codes_of, messages_of, places_of}
-use Rattle.stock_workers.proofs.Standing.{comes, due_there, few_done, later, machine_then, may_grow, own_board, own_listed, stocks_long, through, top_there, turned, within_day, working, writers_long}
+use Rattle.stock_workers.proofs.WorkerInvariant.{comes, due_there, few_done, later, machine_then, may_grow, own_board, own_listed, stocks_long, through, top_there, turned, within_day, working, writers_long}
 use Rattle.stock_workers.proofs.worker.Worker.turn.Goals as goal
 
 pub next-requires : goal.next-requires
@@ -24,7 +24,7 @@ unwrap-place-requires g c =
 pub index_mut-stock-requires : goal.index_mut-stock-requires
 index_mut-stock-requires g c =
     let come = comes c.self.view_is c.requires.day c.in-Some.ensures (rw c.unwrap-place.ensures at c.index_of.ensures) in
-    omega (arith, stocks_long _ _ come.is c.unwrap-place.result come.listed, c.self.inside.stocks.ok.0)
+    omega (arith, stocks_long _ _ come.is c.unwrap-place.result _ come.found, c.self.inside.stocks.ok.0)
 
 pub do_message-requires : goal.do_message-requires
 do_message-requires g c =
@@ -49,7 +49,7 @@ returns-in_err-piece g c =
 pub index_mut-requires : goal.index_mut-requires
 index_mut-requires g c =
     let come = comes c.self.view_is c.requires.day c.in-Some.ensures (rw c.unwrap-place.ensures at c.index_of.ensures) in
-    omega (arith, writers_long _ _ come.is c.unwrap-place.result come.listed, c.self.inside.writers.ok.0)
+    omega (arith, writers_long _ _ come.is c.unwrap-place.result _ come.found, c.self.inside.writers.ok.0)
 
 pub publish-requires : goal.publish-requires
 publish-requires g c =

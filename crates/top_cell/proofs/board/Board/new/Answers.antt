@@ -6,7 +6,7 @@ use Rattle.itch_table.specs.Projection.{is_of_stock}
 use Rattle.itch_table.specs.Shows.{locates_of_day}
 use Rattle.std.proofs.lemmas.List.{length-map, take_more}
 use Rattle.top_cell.specs.Boards.{AreNew}
-use Rattle.top_cell.proofs.Places.{day_apart, more_new, none_new}
+use Rattle.top_cell.proofs.BoardCells.{day_apart, more_new, none_new}
 use Rattle.top_cell.proofs.board.Board.new.Goals as goal
 
 -- there are no more stocks than locate codes

@@ -2,8 +2,8 @@ use Rattle.std.proofs.Common.{◌≡◌, ◌∙◌, ℕ, List, Some, ap, arith, 
 use Rattle.std.specs.Prelude.{slice_get}
 use Rattle.top_cell.specs.Boards.{AreApart, CellId, ScreenAt, IsOn}
 use Rattle.std.proofs.lemmas.Option.{slice_get_within}
-use Rattle.top_cell.proofs.Places.{seat_on}
-use Rattle.top_cell.proofs.BaseMoves.{screens_join_as}
+use Rattle.top_cell.proofs.BoardCells.{seat_on}
+use Rattle.top_cell.proofs.OpenSplitJoin.{screens_join_as}
 use Rattle.top_cell.proofs.screen.Screen.join.Goals as goal
 
 pub cell-cell-requires : goal.cell-cell-requires

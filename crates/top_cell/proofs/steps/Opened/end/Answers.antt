@@ -1,7 +1,7 @@
 use Rattle.std.proofs.Common.{◌≡◌, ◌∙◌, sym, subst}
 use Rattle.top_cell.specs.Boards.{ChangeAt, IsOn}
 use Rattle.std.proofs.lemmas.Option.{slice_get_within}
-use Rattle.top_cell.proofs.Places.{seat_on}
+use Rattle.top_cell.proofs.BoardCells.{seat_on}
 use Rattle.top_cell.proofs.steps.Opened.end.Goals as goal
 
 pub cell-requires : goal.cell-requires

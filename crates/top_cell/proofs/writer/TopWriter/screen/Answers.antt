@@ -1,8 +1,8 @@
 use Rattle.std.proofs.Common.{arith, sym, subst}
 use Rattle.top_cell.specs.Boards.{WriterAt, IsOn}
 use Rattle.std.proofs.lemmas.Option.{slice_get_within}
-use Rattle.top_cell.proofs.Places.{seat_on}
-use Rattle.top_cell.proofs.BaseMoves.{writer_splits_as}
+use Rattle.top_cell.proofs.BoardCells.{seat_on}
+use Rattle.top_cell.proofs.OpenSplitJoin.{writer_splits_as}
 use Rattle.top_cell.proofs.writer.TopWriter.screen.Goals as goal
 
 pub cell-cell-requires : goal.cell-cell-requires

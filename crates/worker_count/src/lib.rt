@@ -1,4 +1,12 @@
-//! Numbers of workers.
+//! How many workers share a day.
+//!
+//! ```rust
+//! let workers = WorkerCount::new(4).unwrap_or(WorkerCount::ONE);
+//! ```
+//!
+//! It is of this project.
+#![tactic(auto)]
+
 ghost use Rattle.std.specs.Prelude.{◌≡◌, ◌<◌, ◌≤◌, ◌⊎◌, ◌↔◌, ℕ, IsNone, IfSome};
 
 use std::marker::Model;

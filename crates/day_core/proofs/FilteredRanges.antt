@@ -25,13 +25,13 @@ kept_within p a n i d lt =
     let here = get_or-range_with_len a n k 0 (omega (arith, length-range_with_len a n)) in
     (omega (arith, here), omega (arith, here, below, length-range_with_len a n)))) i d lt
 
--- a number of the range that passes the test is kept
-pub kept_there : (p : ℕ → Bool) (n m : ℕ) → 1 ≤ m → m ≤ n → p m ≡ true → Contains (filter p (range_with_len 1 n)) m
-kept_there p n m some within on =
-    let here : get_or (range_with_len 1 n) (m - 1) 0 ≡ m = omega (arith, get_or-range_with_len 1 n (m - 1) 0 (omega (arith, some, within)), some) in
-    Contains-from_any eqb-true m _
-    (any_picked p m (range_with_len 1 n) on
-    (list_any_at (eqb m) (range_with_len 1 n) (m - 1) 0 (omega (arith, some, within, length-range_with_len 1 n)) (rw here (eq-eqb m m refl))))
+-- a number that passes the test is kept
+pub kept_member : (p : ℕ → Bool) (xs : List ℕ) (m : ℕ) → Contains xs m → p m ≡ true → Contains (filter p xs) m
+kept_member p xs m has on = Contains-from_any eqb-true m _ (any_picked p m xs on (list_any_at (eqb m) xs has.0 m has.1 (eq-eqb m _ (sym has.2))))
+
+pub kept_there : (p : ℕ → Bool) (a n m : ℕ) → a ≤ m → m < a + n → p m ≡ true → Contains (filter p (range_with_len a n)) m
+kept_there p a n m low high on =
+    kept_member p (range_with_len a n) m (m - a, omega (arith, low, high, length-range_with_len a n), omega (arith, low, get_or-range_with_len a n (m - a) m (omega (arith, low, high)))) on
 
 -- a test that gives true nowhere keeps nothing
 pub kept_none : (p : ℕ → Bool) (xs : List ℕ) → ((x : ℕ) → p x ≡ false) → filter p xs ≡ []

@@ -8,8 +8,8 @@ use Rattle.day_core.specs.Replaying.{last_machine}
 use Rattle.day_core.specs.Splitting.{DayParts}
 use Rattle.top_cell.specs.Boards.{CellId, IsOn, Place, WriterAt}
 use Rattle.stock_workers.specs.Running.{IsFinished, at_last}
-use Rattle.stock_workers.specs.Working.{IsWorkerOf, TakesTurn, Working, WriterState, WritersAt, codes_of, first_working, locates_in, messages_of, places_of, writer_state}
-use Rattle.stock_workers.proofs.Standing.{codes_are, last_stocks, last_writers}
+use Rattle.stock_workers.specs.Working.{IsWorkerOf, TakesTurn, Working, WriterState, WritersAt, codes_of, first_working, messages_of, places_of, writer_state}
+use Rattle.stock_workers.proofs.WorkerInvariant.{last_stocks, last_writers}
 
 -- a writer at its stock's last message
 last_each : (day : List (List ℕ)) (ls : List ℕ) (ws : List WriterAt) → WritersAt day (last_message day) ls ws → ws ≡ map (at_last day) ws
@@ -65,14 +65,12 @@ module _ (day : List (List ℕ)) (parts : DayParts) (worker : ℕ) (writers : Li
   pub finished : TakesTurn day now after None → IsFinished day parts worker writers pieces after.stocks after.writers
   finished none =
       let all = none.0 in
-      let codes : locates_in day now ≡ codes_of (first_working parts worker writers) =
-      sym (codes_are day now under.stands.parts_are) ∙ ap₂ (λ (p : DayParts) (k : ℕ). codes_of (first_working p k writers)) under.same_parts under.same_worker
-      in
+      let codes : codes_of now ≡ codes_of (first_working parts worker writers) = ap₂ (λ (p : DayParts) (k : ℕ). codes_of (first_working p k writers)) under.same_parts under.same_worker in
       record {
         pieces_are = under.noted ∙ ap (map (piece_of day)) (take_all now.done (own_of parts.workers worker day) (omega (arith, all, ap length own)));
         stocks_are = ap (λ (w : Working). w.stocks) none.1 ∙ last_stocks day now under.stands all ∙ ap (map (last_machine day)) codes;
         writers_are =
-            ap (λ (w : Working). w.writers) none.1 ∙ last_each day (locates_in day now) now.writers (last_writers day now under.stands all)
+            ap (λ (w : Working). w.writers) none.1 ∙ last_each day (codes_of now) now.writers (last_writers day now under.stands all)
             ∙ same_last day now.writers writers under.same_places;
       }
 

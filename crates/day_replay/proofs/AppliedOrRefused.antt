@@ -1,5 +1,5 @@
 -- A message of a stock is applied or refused.
-use Rattle.std.proofs.Common.{◌≡◌, ℕ, ◌-◌, List, [], ◌∷◌, length, Bool, true, false, filter, map, Option, Some, None, refl, sym, ap, subst, inl, inr}
+use Rattle.std.proofs.Common.{◌≡◌, ℕ, ◌-◌, List, [], ◌∷◌, length, Bool, true, false, filter, map, Option, Some, None, refl, sym, ap, subst, arith, inl, inr}
 use Rattle.std.specs.List.{Contains, range_with_len}
 use Rattle.std.proofs.lemmas.Bool.{cases_Bool}
 use Rattle.itch_layouts.specs.Shapes.{shape_of}
@@ -15,8 +15,8 @@ use Rattle.itch_table.specs.Table.{result_of, step_shape}
 use Rattle.itch_table.specs.World.{World}
 use Rattle.day_core.specs.declared.merging.Piece.{Piece}
 use Rattle.day_core.specs.Owners.{part_at, piece_of}
-use Rattle.day_core.specs.Replaying.{OthersAreApplied, is_refused, refused_of}
-use Rattle.day_core.proofs.Kept.{kept_there}
+use Rattle.day_replay.specs.Summaries.{OthersAreApplied, is_refused, refused_of}
+use Rattle.day_core.proofs.FilteredRanges.{kept_there}
 
 applied_or_refused : (found : Option Fault) (old new : World) → is_refused (result_of found old new).0 ≡ false → (result_of found old new).0 ≡ Applied
 applied_or_refused None old new not = refl
@@ -34,7 +34,8 @@ stock_applied day n locate is not = shape_applied (after day (n - 1)) (shape_of 
 abbrev pub refuses : List (List ℕ) → ℕ → Bool
 refuses day n = is_refused (outcome day n)
 
-numbers_back : (day : List (List ℕ)) (numbers : List ℕ) → map (λ (piece : Piece). piece.message) (map (piece_of day) numbers) ≡ numbers
+-- the numbers of messages, back from what became of them
+pub numbers_back : (day : List (List ℕ)) (numbers : List ℕ) → map (λ (piece : Piece). piece.message) (map (piece_of day) numbers) ≡ numbers
 numbers_back day [] = refl
 numbers_back day (n ∷ numbers) = ap (λ (rest : List ℕ). n ∷ rest) (numbers_back day numbers)
 
@@ -42,7 +43,7 @@ pub others_are_applied : OthersAreApplied
 others_are_applied day n locate some within is absent =
     let numbers : List ℕ = filter (refuses day) (range_with_len 1 (length day)) in
     let among : refuses day n ≡ true → Contains (map (λ (piece : Piece). piece.message) (refused_of day)) n =
-    λ on. subst (λ (xs : List ℕ). Contains xs n) (sym (numbers_back day numbers)) (kept_there (refuses day) (length day) n some within on)
+    λ on. subst (λ (xs : List ℕ). Contains xs n) (sym (numbers_back day numbers)) (kept_there (refuses day) 1 (length day) n some (omega (arith, within)) on)
     in
     elim (cases_Bool (refuses day n)) [
       | inl on ↦ absurd (absent (among on))

@@ -13,12 +13,11 @@ use Rattle.day_core.specs.declared.merging.Piece.{Piece}
 use Rattle.day_core.specs.Replaying.{AreByWorker, each_worker, last_machine, own_values, values_by}
 use Rattle.day_core.specs.Splitting.{DayParts}
 use Rattle.day_core.proofs.StocksByWorker.{own_values_map, own_values_of}
-use Rattle.day_core.specs.Owners.{locates_by, own_locates}
 use Rattle.top_cell.specs.Boards.{CellId, WriterAt, AreNew, IsOn}
 use Rattle.stock_workers.specs.declared.fork_join.Finished.{Finished}
 use Rattle.stock_workers.specs.declared.fork_join.Waiting.{Waiting}
 use Rattle.stock_workers.specs.Running.{AreFinished, AreGathered, AreWaiting, IsFinished, IsWaiting, at_last}
-use Rattle.stock_workers.specs.Working.{WriterState, writer_state}
+use Rattle.stock_workers.specs.Working.{WriterState, codes_by, writer_state}
 
 pub map_twice : {W X Y : Type 0} (g : X → Y) (f : W → X) (ws : List W) → map g (map f ws) ≡ map (λ w. g (f w)) ws
 map_twice g f [] = refl
@@ -47,13 +46,12 @@ module _ (day : List (List ℕ)) (board : List CellId) (ws : List WriterAt) (new
   all_fresh = each_fresh ws (λ k d lt. ap writer_state (new.each k (get_or ws k d) (slice_get-get_or ws k d lt)).0) ∙ ap (map fresh) new.stocks
 
   -- a worker may start with those of its stocks
-  pub waits : (parts : DayParts) → parts.locates ≡ locates_of_day day → (k : ℕ) → IsWaiting day parts.workers board k (own_values parts ws k)
-  unfolding own_locates
+  pub waits : (parts : DayParts) → parts.locates ≡ locates_of_day day → (k : ℕ) → IsWaiting day (codes_by parts k) board (own_values parts ws k)
   waits parts listed k = record {
     none_done =
         own_values_map writer_state parts.workers ws parts.locates k
         ∙ ap (λ (zs : List WriterState). values_by parts.workers (zip zs parts.locates) k) (all_fresh ∙ ap (map fresh) (sym listed))
-        ∙ own_values_of fresh parts.workers parts.locates k ∙ ap (λ (ls : List ℕ). map fresh (locates_by parts.workers k ls)) listed;
+        ∙ own_values_of fresh parts.workers parts.locates k;
     on_board = own_all (λ w. IsOn board w.place) parts.workers ws parts.locates k (λ i d lt. (new.each i (get_or ws i d) (slice_get-get_or ws i d lt)).1);
   }
 
@@ -97,12 +95,12 @@ module _ {A : Type 0} (parts : DayParts) (writers : List WriterAt) (all : List (
 
 -- workers that wait may start
 pub all_may_start : {A : Type 0} (day : List (List ℕ)) (parts : DayParts) (writers : List WriterAt) (all : List (Waiting A)) (board : List CellId) → AreWaiting parts writers all
-    → ((k : ℕ) → k < parts.workers → IsWaiting day parts.workers board k (own_values parts writers k))
-    → All (λ w. IsWaiting day parts.workers board w.worker w.writers.items) all
+    → ((k : ℕ) → k < parts.workers → IsWaiting day (codes_by parts k) board (own_values parts writers k))
+    → All (λ w. IsWaiting day (codes_by parts w.worker) board w.writers.items) all
 all_may_start day parts writers all board are each = λ k d lt.
     let w = get_or all k d in
     let below : k < parts.workers = omega (arith, lt, many_wait parts writers all are) in
-    known parts writers all are k w (get_or_default all k d w lt) below (λ n ws. IsWaiting day parts.workers board n ws) (each k below)
+    known parts writers all are k w (get_or_default all k d w lt) below (λ n ws. IsWaiting day (codes_by parts n) board ws) (each k below)
 
 -- what each of them made
 pub all_finished : {A : Type 0} (day : List (List ℕ)) (parts : DayParts) (writers : List WriterAt) (all : List (Waiting A)) (made : List (Result (Finished A) AllocError)) → AreWaiting parts writers all → length made ≡ length all

@@ -8,7 +8,7 @@ use Rattle.atomic_table.proofs.Lists.{at_longer, set_again, set_else}
 use Rattle.itch_table.proofs.Tops.{zeros_at_first}
 use Rattle.top_cell.specs.Rule.{IsAboveNoteOrNow, Sees, Fits, IsOpen, CellHolds, new_cell, open_cell, CellRule, Turns, new_sight, note_of, sight, zeros}
 use Rattle.top_cell.specs.Kinds.{Opened, first_view, joined, screen_beside}
-use Rattle.top_cell.proofs.Views.{Finds, open_at, all_fit, writer_stays, with_views, screen_turns, unmoved}
+use Rattle.top_cell.proofs.OneViewChanges.{Finds, open_at, all_fit, writer_stays, with_views, screen_turns, unmoved}
 use Rattle.top_cell.specs.declared.rule.DayStock.{DayStock}
 use Rattle.top_cell.specs.declared.rule.Rest.{Rest}
 use Rattle.top_cell.specs.declared.rule.Sight.{Sight}

@@ -1,23 +1,22 @@
--- The locate codes of a day's stocks, and of a worker's.
-use Rattle.std.proofs.Common.{◌≡◌, ℕ, ◌-◌, ◌<◌, ◌≤◌, List, [], length, true, eqb, get_or, Option, Result, Ok, Err, MatchOption, MatchResult, refl, sym, ap, subst, ◌∙◌, arith, inl, inr}
-use Rattle.std.specs.List.{Contains, list_any, range_with_len}
+-- The locate codes of a day's stocks and of a worker's, and values that stand beside them.
+use Rattle.std.proofs.Common.{◌≡◌, ◌≢◌, ℕ, ◌-◌, ◌<◌, ◌≤◌, List, [], length, true, eqb, get_or, set, map, Option, Result, Ok, Err, MatchOption, MatchResult, refl, sym, ap, subst, ◌∙◌, arith, inl, inr}
+use Rattle.std.specs.List.{Contains, list_any}
 use Rattle.std.specs.List.Sorted.{IsBinarySearchResult, IsStrictlyIncreasing}
 use Rattle.std.specs.Ordering.{nat_cmp}
 use Rattle.std.specs.Result.{result_ok}
-use Rattle.std.proofs.lemmas.Bool.{cases_lt, eq-eqb, eqb-true}
-use Rattle.std.proofs.lemmas.List.{get_or_default}
+use Rattle.std.proofs.lemmas.Bool.{cases_lt, eqb-true}
+use Rattle.std.proofs.lemmas.List.{get_or_default, get_or-map, length-map}
 use Rattle.std.proofs.lemmas.List.Elements.{filter_passes}
 use Rattle.std.proofs.lemmas.List.Folds.{list_any_at}
 use Rattle.std.proofs.lemmas.List.Sorted.{searched}
-use Rattle.std.proofs.lemmas.List.Kept.{AllPairs-from_increasing, IsStrictlyIncreasing-filter}
-use Rattle.std.proofs.lemmas.Map.Views.{Contains-from_any}
+use Rattle.std.proofs.lemmas.List.Kept.{AllPairs-from_increasing}
 use Rattle.itch_table.specs.declared.outcome.Part.{Part}
 use Rattle.itch_table.specs.declared.outcome.Part.TheVariants.{Locate, Nowhere}
 use Rattle.itch_table.specs.Projection.{is_of_stock}
 use Rattle.itch_table.specs.Shows.{locates_of_day}
-use Rattle.itch_table.proofs.DayLocates.{any_picked, in_range, rising}
 use Rattle.itch_table.proofs.StockDays.{is_own_part}
-use Rattle.day_core.specs.Owners.{is_own, locates_by, own_locates, owner, part_at}
+use Rattle.day_core.specs.Owners.{is_own, locates_by, owner, part_at}
+use Rattle.day_core.proofs.FilteredRanges.{kept_there, map_set}
 
 pub same_code : {l m : ℕ} → Locate l ≡ Locate m → l ≡ m
 same_code same = cc
@@ -43,26 +42,25 @@ code_once codes i j rising li lj same =
 pub code_there : (day : List (List ℕ)) (n locate : ℕ) → 1 ≤ n → n ≤ length day → locate < 0x1_0000 → part_at day n ≡ Locate locate → Contains (locates_of_day day) locate
 unfolding locates_of_day
 code_there day n locate some within fits mine =
-    Contains-from_any eqb-true locate _
-    (any_picked (λ l. list_any (is_of_stock l) day) locate (range_with_len 0 0x1_0000)
-    (list_any_at (is_of_stock locate) day (n - 1) [] (omega (arith, some, within)) (is_own_part locate _ mine)) (in_range locate 0x1_0000 fits))
+    kept_there (λ l. list_any (is_of_stock l) day) 0 0x1_0000 locate (omega arith) (omega (arith, fits)) (list_any_at (is_of_stock locate) day (n - 1) [] (omega (arith, some, within)) (is_own_part locate _ mine))
 
--- ---- those of a worker
-
-pub own_codes_rise : (workers worker : ℕ) (codes : List ℕ) → IsStrictlyIncreasing codes → IsStrictlyIncreasing (locates_by workers worker codes)
-own_codes_rise workers worker codes rising = IsStrictlyIncreasing-filter (λ l. eqb (owner workers l) worker) codes rising
-
+-- the owner of a worker's
 pub code_owner : (workers worker : ℕ) (codes : List ℕ) (k d : ℕ) → k < length (locates_by workers worker codes) → owner workers (get_or (locates_by workers worker codes) k d) ≡ worker
 code_owner workers worker codes k d lt = eqb-true _ _ (filter_passes (λ l. eqb (owner workers l) worker) codes k d lt)
 
--- that of a message of a worker's stocks is one of the worker's
-pub own_code_there : (workers worker : ℕ) (day : List (List ℕ)) (n locate : ℕ) → 1 ≤ n → n ≤ length day → locate < 0x1_0000 → part_at day n ≡ Locate locate → owner workers locate ≡ worker
-    → Contains (own_locates workers worker day) locate
-unfolding own_locates locates_of_day
-own_code_there workers worker day n locate some within fits mine own =
-    Contains-from_any eqb-true locate _ (any_picked (λ l. eqb (owner workers l) worker) locate (locates_of_day day) (eq-eqb _ _ own)
-    (any_picked (λ l. list_any (is_of_stock l) day) locate (range_with_len 0 0x1_0000)
-    (list_any_at (is_of_stock locate) day (n - 1) [] (omega (arith, some, within)) (is_own_part locate _ mine)) (in_range locate 0x1_0000 fits)))
+-- ---- values that stand beside codes, of which one stands at a place
+
+module _ {X : Type 0} (codes : List ℕ) (f : ℕ → X) (values : List X) (are : values ≡ map f codes) (place code : ℕ) (found : (place < length codes) × (get_or codes place 0 ≡ code)) where
+  pub values_long : place < length values
+  values_long = omega (arith, found.0, ap length are, length-map codes f)
+
+  pub value_at : (d : X) → get_or values place d ≡ f code
+  value_at d = ap (λ (xs : List X). get_or xs place d) are ∙ get_or-map f codes place 0 d found.0 ∙ ap f found.1
+
+  -- its value is another, and those of the others stay
+  pub value_set : (g : ℕ → X) (v : X) → IsStrictlyIncreasing codes → v ≡ g code → ((k : ℕ) → k < length codes → get_or codes k 0 ≢ code → g (get_or codes k 0) ≡ f (get_or codes k 0)) → set values place v ≡ map g codes
+  value_set g v rising is others =
+      map_set f g codes values place v found.0 are (is ∙ ap g (sym found.1)) (λ k low differ. others k low (λ e. differ (code_once codes k place rising low found.0 (e ∙ sym found.1))))
 
 -- ---- a code is looked for
 

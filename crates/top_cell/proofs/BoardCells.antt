@@ -6,7 +6,7 @@ use Rattle.std.proofs.lemmas.Option.{get_or_from_slice_get, slice_get_within}
 use Rattle.atomic_table.specs.Seated.{TableId}
 use Rattle.itch_table.specs.Shows.{locates_of_day}
 use Rattle.itch_table.proofs.DayLocates.{rising}
-use Rattle.day_core.proofs.Codes.{code_once}
+use Rattle.day_core.proofs.LocateCodes.{code_once}
 use Rattle.top_cell.specs.Boards.{CellId, WriterAt, AreApart, AreNew, IsOn, new_writer, place}
 use Rattle.top_cell.specs.Seats.{CellSeat, IsSeatOf}
 

@@ -1,8 +1,9 @@
 -- A turn of one of a day's workers: how far each stock is after it, and what is kept.
 use Rattle.std.proofs.Common.{◌≡◌, ◌≢◌, ℕ, zero, suc, ◌+◌, ◌<◌, ◌≤◌, List, [], ◌∷◌, length, get_or, set, map, replicate, refl, sym, ap, subst, ◌∙◌, arith, inl, inr}
 use Rattle.std.proofs.lemmas.Bool.{cases_eq, cases_Bool, cases_lt}
-use Rattle.std.proofs.lemmas.List.{get_or_default, get_or-map, get_or-set_same, get_or-set_other, length-map, length-replicate, length-set}
+use Rattle.std.proofs.lemmas.List.{get_or_default, get_or-set_same, get_or-set_other, length-map, length-replicate, length-set}
 use Rattle.std.specs.List.{Contains}
+use Rattle.std.specs.List.Sorted.{IsStrictlyIncreasing}
 use Rattle.itch_table.specs.Shows.{locates_of_day, Shows}
 use Rattle.itch_table.proofs.DayLocates.{rising}
 use Rattle.itch_table.proofs.Tops.{top_after-none}
@@ -13,8 +14,8 @@ use Rattle.day_core.specs.declared.parts.Next.{Next}
 use Rattle.day_core.specs.Owners.{IsDue, IsNext, MayAddRow, machine_of, new_machine, own_of, owner, progress, part_at}
 use Rattle.day_core.specs.Splitting.{ArePartsOf, DayParts}
 use Rattle.day_core.specs.Turns.{AreTurns, MayGrowAt, TurnsState, messages_of, progress_in, state_of, words_at, workers_of, shown}
-use Rattle.day_core.proofs.Codes.{code_once, same_code, code_there}
-use Rattle.day_core.proofs.Kept.{all_same, map_same, map_set}
+use Rattle.day_core.proofs.LocateCodes.{same_code, code_there, value_at, value_set, values_long}
+use Rattle.day_core.proofs.FilteredRanges.{all_same, map_same}
 use Rattle.day_core.proofs.MachineSteps.{machine_first, due, mine, reached, stayed}
 use Rattle.day_core.proofs.Progress.{progress_first, own_within, past_end, progress_next, progress_within}
 
@@ -23,21 +24,14 @@ pub record Comes (turns : TurnsState) (parts : DayParts) (stocks : List StockMac
   pub are : AreTurns turns parts stocks cells
   pub one : worker < workers_of turns
   pub is : IsNext turns.day (workers_of turns) worker (get_or turns.done worker 0) next
-  pub listed : place < length (locates_of_day turns.day)
-  pub code : get_or (locates_of_day turns.day) place 0 ≡ next.locate
+  pub found : (place < length parts.locates) × (get_or parts.locates place 0 ≡ next.locate)
 
 pub comes : {turns : TurnsState} {parts : DayParts} {stocks : List StockMachine} {cells : List (List ℕ)} {worker place : ℕ} {next : Next} → AreTurns turns parts stocks cells → worker < workers_of turns
     → (done : ℕ) → done ≡ get_or turns.done worker done → IsNext turns.day parts.workers worker done next → (place < length parts.locates) × (get_or parts.locates place 0 ≡ next.locate)
     → Comes turns parts stocks cells worker place next
-comes {turns} {parts} {stocks} {cells} {worker} {place} {next} are one done done_is is found =
+comes {turns} {worker = worker} are one done done_is is found =
     let far : done ≡ get_or turns.done worker 0 = done_is ∙ get_or_default turns.done worker done 0 one in
-    record {
-      are = are;
-      one = one;
-      is = rw (are.long, ← far) is;
-      listed = omega (arith, found.0, ap length are.parts_are.locates_are);
-      code = ap (λ (ls : List ℕ). get_or ls place 0) (sym are.parts_are.locates_are) ∙ found.1;
-    }
+    record { are = are; one = one; is = rw (are.long, ← far) is; found = found }
 
 -- or has done all of its messages
 pub all_done : {turns : TurnsState} {parts : DayParts} {stocks : List StockMachine} {cells : List (List ℕ)} {worker : ℕ} → AreTurns turns parts stocks cells → worker < workers_of turns
@@ -58,21 +52,24 @@ module _ {turns : TurnsState} {parts : DayParts} {stocks : List StockMachine} {c
   abbrev moved : TurnsState
   moved = state_of day (set turns.done worker (done + 1))
 
+  abbrev machine : ℕ → StockMachine
+  machine l = machine_of day l (progress_in turns l)
+
+  abbrev words : ℕ → List ℕ
+  words l = words_at day l (progress_in turns l)
+
   pub stocks_long : place < length stocks
-  stocks_long = omega (arith, come.listed, ap length come.are.stocks_are, length-map (locates_of_day day) (λ l. machine_of day l (progress_in turns l)))
+  stocks_long = values_long parts.locates machine stocks come.are.stocks_are place next.locate come.found
 
   pub cells_long : place < length cells
-  cells_long = omega (arith, come.listed, ap length come.are.cells_are, length-map (locates_of_day day) (λ l. words_at day l (progress_in turns l)))
+  cells_long = values_long parts.locates words cells come.are.cells_are place next.locate come.found
 
   -- its stock is its own, and stands where its messages have left it
   stands : progress_in turns next.locate ≡ progress day workers next.locate done
   stands = ap (λ (w : ℕ). progress day workers next.locate (get_or turns.done w 0)) (mine come.is)
 
   pub due_there : (m : StockMachine) → m ≡ get_or stocks place m → IsDue day next.message m
-  due_there m at =
-      due come.is m
-      (at ∙ ap (λ (ms : List StockMachine). get_or ms place m) come.are.stocks_are ∙ get_or-map (λ l. machine_of day l (progress_in turns l)) (locates_of_day day) place 0 m come.listed
-      ∙ ap (λ (l : ℕ). machine_of day l (progress_in turns l)) come.code ∙ ap (machine_of day next.locate) stands)
+  due_there m at = due come.is m (at ∙ value_at parts.locates machine stocks come.are.stocks_are place next.locate come.found m ∙ ap (machine_of day next.locate) stands)
 
   -- which it leaves as the message says
   pub machine_then : (m after : StockMachine) → m ≡ get_or stocks place m → after ≡ machine_of day m.locate next.message → after ≡ machine_of day next.locate next.message
@@ -90,18 +87,14 @@ module _ {turns : TurnsState} {parts : DayParts} {stocks : List StockMachine} {c
   own_then l same =
       far l ∙ ap (progress day workers l) (ap (λ (w : ℕ). get_or (set turns.done worker (done + 1)) w 0) same ∙ get_or-set_same turns.done worker (done + 1) 0 come.one)
 
-  here : progress_in moved (get_or (locates_of_day day) place 0) ≡ next.message
-  here = ap (progress_in moved) come.code ∙ own_then next.locate (mine come.is) ∙ reached come.is
+  here : progress_in moved next.locate ≡ next.message
+  here = own_then next.locate (mine come.is) ∙ reached come.is
 
-  others : (k : ℕ) → k < length (locates_of_day day) → k ≢ place → progress_in moved (get_or (locates_of_day day) k 0) ≡ progress_in turns (get_or (locates_of_day day) k 0)
-  others k lt differ =
-      let other = get_or (locates_of_day day) k 0 in
-      elim (cases_eq (owner workers other) worker) [
-        | inl same ↦
-            own_then other same ∙ stayed come.is other same (λ e. differ (code_once (locates_of_day day) k place (rising day) lt come.listed (e ∙ sym come.code)))
-            ∙ sym (ap (λ (w : ℕ). progress day workers other (get_or turns.done w 0)) same)
-        | inr apart ↦ far other ∙ ap (progress day workers other) (get_or-set_other turns.done worker (owner workers other) (done + 1) 0 apart)
-      ]
+  others : (l : ℕ) → l ≢ next.locate → progress_in moved l ≡ progress_in turns l
+  others l differ = elim (cases_eq (owner workers l) worker) [
+    | inl same ↦ own_then l same ∙ stayed come.is l same differ ∙ sym (ap (λ (w : ℕ). progress day workers l (get_or turns.done w 0)) same)
+    | inr apart ↦ far l ∙ ap (progress day workers l) (get_or-set_other turns.done worker (owner workers l) (done + 1) 0 apart)
+  ]
 
   within_moved : (w : ℕ) → w < workers_of moved → get_or moved.done w 0 ≤ length (messages_of moved w)
   within_moved w lt =
@@ -113,18 +106,20 @@ module _ {turns : TurnsState} {parts : DayParts} {stocks : List StockMachine} {c
         | inr apart ↦ omega (arith, get_or-set_other turns.done worker w (done + 1) 0 apart, come.are.within w (omega (arith, lt, length-set turns.done worker (done + 1))), same)
       ]
 
-  pub turns_then : (m : StockMachine) (words : List ℕ) → m ≡ machine_of day next.locate next.message → words ≡ words_at day next.locate next.message → AreTurns moved parts (set stocks place m) (set cells place words)
-  turns_then m words now shows = record {
-    parts_are = come.are.parts_are;
-    long = length-set turns.done worker (done + 1) ∙ come.are.long;
-    within = within_moved;
-    stocks_are =
-        map_set (λ l. machine_of day l (progress_in turns l)) (λ l. machine_of day l (progress_in moved l)) (locates_of_day day) stocks place m come.listed come.are.stocks_are
-        (now ∙ (λ i. machine_of day (sym come.code i) (sym here i))) (λ k lt differ. ap (machine_of day (get_or (locates_of_day day) k 0)) (others k lt differ));
-    cells_are =
-        map_set (λ l. words_at day l (progress_in turns l)) (λ l. words_at day l (progress_in moved l)) (locates_of_day day) cells place words come.listed come.are.cells_are
-        (shows ∙ (λ i. words_at day (sym come.code i) (sym here i))) (λ k lt differ. ap (words_at day (get_or (locates_of_day day) k 0)) (others k lt differ));
-  }
+  pub turns_then : (m : StockMachine) (new : List ℕ) → m ≡ machine_of day next.locate next.message → new ≡ words_at day next.locate next.message → AreTurns moved parts (set stocks place m) (set cells place new)
+  turns_then m new now shows =
+      let rises = subst IsStrictlyIncreasing (sym come.are.parts_are.locates_are) (rising day) in
+      record {
+        parts_are = come.are.parts_are;
+        long = length-set turns.done worker (done + 1) ∙ come.are.long;
+        within = within_moved;
+        stocks_are =
+            value_set parts.locates machine stocks come.are.stocks_are place next.locate come.found (λ l. machine_of day l (progress_in moved l)) m rises (now ∙ ap (machine_of day next.locate) (sym here))
+            (λ k lt differ. ap (machine_of day (get_or parts.locates k 0)) (others _ differ));
+        cells_are =
+            value_set parts.locates words cells come.are.cells_are place next.locate come.found (λ l. words_at day l (progress_in moved l)) new rises (shows ∙ ap (words_at day next.locate) (sym here))
+            (λ k lt differ. ap (words_at day (get_or parts.locates k 0)) (others _ differ));
+      }
 
 -- ---- before the first turn
 
@@ -150,28 +145,12 @@ module _ (day : List (List ℕ)) (parts : DayParts) (stocks : List StockMachine)
     long = length-replicate parts.workers 0;
     within = λ worker lt. omega (arith, none_done parts.workers worker);
     stocks_are =
-        made ∙ ap (map new_machine) parts_are.locates_are
-        ∙ map_same new_machine (λ l. machine_of day l (progress_in first l)) (locates_of_day day)
-        (λ k lt. sym (ap (machine_of day (get_or (locates_of_day day) k 0)) (nowhere (get_or (locates_of_day day) k 0)) ∙ machine_first day (get_or (locates_of_day day) k 0)));
+        made ∙ map_same new_machine (λ l. machine_of day l (progress_in first l)) parts.locates
+        (λ k lt. let l = get_or parts.locates k 0 in sym (ap (machine_of day l) (nowhere l) ∙ machine_first day l));
     cells_are =
-        zeros ∙ ap (λ (n : ℕ). replicate n (0 ∷ 0 ∷ 0 ∷ 0 ∷ [])) (ap length made ∙ length-map parts.locates new_machine ∙ ap length parts_are.locates_are)
-        ∙ all_same (λ l. words_at day l (progress_in first l)) (0 ∷ 0 ∷ 0 ∷ 0 ∷ []) no_words (locates_of_day day);
+        zeros ∙ ap (λ (n : ℕ). replicate n (0 ∷ 0 ∷ 0 ∷ 0 ∷ [])) (ap length made ∙ length-map parts.locates new_machine)
+        ∙ all_same (λ l. words_at day l (progress_in first l)) (0 ∷ 0 ∷ 0 ∷ 0 ∷ []) no_words parts.locates;
   }
-
--- ---- a look
-
-module _ (turns : TurnsState) (parts : DayParts) (stocks : List StockMachine) (cells : List (List ℕ)) (are : AreTurns turns parts stocks cells) (locate : ℕ) where
-  pub look_there : (place : ℕ) (d words : List ℕ) → place < length parts.locates → get_or parts.locates place 0 ≡ locate → words ≡ get_or cells place d → words ≡ words_at turns.day locate (progress_in turns locate)
-  look_there place d words lt code at =
-      let listed : place < length (locates_of_day turns.day) = omega (arith, lt, ap length are.parts_are.locates_are) in
-      at ∙ ap (λ (cs : List (List ℕ)). get_or cs place d) are.cells_are ∙ get_or-map (λ l. words_at turns.day l (progress_in turns l)) (locates_of_day turns.day) place 0 d listed
-      ∙ ap (λ (l : ℕ). words_at turns.day l (progress_in turns l)) (ap (λ (ls : List ℕ). get_or ls place 0) (sym are.parts_are.locates_are) ∙ code)
-
-  pub stock_there : (place : ℕ) (m : StockMachine) → place < length parts.locates → get_or parts.locates place 0 ≡ locate → m ≡ get_or stocks place m → m ≡ machine_of turns.day locate (progress_in turns locate)
-  stock_there place m lt code at =
-      let listed : place < length (locates_of_day turns.day) = omega (arith, lt, ap length are.parts_are.locates_are) in
-      at ∙ ap (λ (ms : List StockMachine). get_or ms place m) are.stocks_are ∙ get_or-map (λ l. machine_of turns.day l (progress_in turns l)) (locates_of_day turns.day) place 0 m listed
-      ∙ ap (λ (l : ℕ). machine_of turns.day l (progress_in turns l)) (ap (λ (ls : List ℕ). get_or ls place 0) (sym are.parts_are.locates_are) ∙ code)
 
 -- ---- what a look shows of a stock
 

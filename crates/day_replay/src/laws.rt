@@ -1,0 +1,9 @@
+//! A law of the definitions alone.
+ghost use Rattle.day_replay.specs.Summaries.{OthersAreApplied};
+
+/// A day's refused messages tell what became of every message of a stock: one that isn't among them was applied. None is
+/// passed over.
+#[tactic(auto, using(crate::proofs::AppliedOrRefused::others_are_applied))]
+pub fn others_are_applied()
+    ensures { OthersAreApplied }
+{}
