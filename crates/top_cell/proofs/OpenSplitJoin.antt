@@ -83,23 +83,23 @@ screen_goes words views id s v at h =
     (all_fit (Fits o.stock o.count o.shown o.number o.writer o.noted) views id Spent tt (λ j u _ e. o.each j u e))
 
 module _ {S : Type 0} where
-  pub opens : (slots id : ℕ) (s : DayStock) (c : List (ℕ × S)) → Allows CellRule slots id (Unopened, c) 0 (λ n. n) (λ _ m. Turns (Opened s) (Unopened, c) m)
-  opens slots id s c st h _ at _ = (first_view s, keeps, tt, unmoved st id c (first_view s) 0 (opens_at st.words st.views id s h at), (refl, refl))
+  pub opens : (slots id : ℕ) (me : Me S View) (s : DayStock) → me ≡ (Unopened, []) → Allows CellRule slots id me 0 (λ n. n) (λ _ m. Turns (Opened s) me m)
+  opens slots id me s is st h _ there _ = (first_view s, keeps, tt, unmoved st id me.1 (first_view s) 0 (opens_at st.words st.views id s h (there ∙ ap (λ (z : Me S View). some z.0) is)), (refl, refl))
 
-  pub writer_splits : (id : ℕ) (s : DayStock) (own : Rest) → Splits {S = S} CellRule id (WriterOf s own) (WriterOf s own) (ScreenOf s (new_sight own.number))
-  writer_splits id s own st h at =
+  pub writer_splits : (id : ℕ) (v : View) (s : DayStock) (own : Rest) → v ≡ WriterOf s own → Splits {S = S} CellRule id v v (screen_beside v)
+  writer_splits id v s own is = subst (λ u. Splits {S = S} CellRule id u u (screen_beside u)) (sym is) (λ st h at.
       let o = open_at st.words st.views id (WriterOf s own) refl h at in
       let mine = o.each id (WriterOf s own) at in
-      one_more st.words st.views id (WriterOf s own) s own.number at o mine.1 (omega (arith, mine.2))
+      one_more st.words st.views id (WriterOf s own) s own.number at o mine.1 (omega (arith, mine.2)))
 
-  pub screen_splits : (id : ℕ) (s : DayStock) (v : Sight) → Splits {S = S} CellRule id (ScreenOf s v) (ScreenOf s v) (ScreenOf s (new_sight v.number))
-  screen_splits id s v st h at =
-      let o = open_at st.words st.views id (ScreenOf s v) refl h at in
-      let mine = o.each id (ScreenOf s v) at in
-      one_more st.words st.views id (ScreenOf s v) s v.number at o mine.0 mine.1.below
+  pub screen_splits : (id : ℕ) (v : View) (s : DayStock) (x : Sight) → v ≡ ScreenOf s x → Splits {S = S} CellRule id v v (screen_beside v)
+  screen_splits id v s x is = subst (λ u. Splits {S = S} CellRule id u u (screen_beside u)) (sym is) (λ st h at.
+      let o = open_at st.words st.views id (ScreenOf s x) refl h at in
+      let mine = o.each id (ScreenOf s x) at in
+      one_more st.words st.views id (ScreenOf s x) s x.number at o mine.0 mine.1.below)
 
-  pub screens_join : (id other : ℕ) (s t : DayStock) (v w : Sight) → Joins {S = S} CellRule id (ScreenOf s v) other (ScreenOf t w) (joined (ScreenOf s v) (ScreenOf t w)) Spent
-  screens_join id other s t v w st h at apart there =
+  both_join : (id other : ℕ) (s t : DayStock) (v w : Sight) → Joins {S = S} CellRule id (ScreenOf s v) other (ScreenOf t w) (joined (ScreenOf s v) (ScreenOf t w)) Spent
+  both_join id other s t v w st h at apart there =
       let o = open_at st.words st.views id (ScreenOf s v) refl h at in
       let mine = (o.each id (ScreenOf s v) at).1 in
       let both = sight (max v.number w.number) v.loads v.looks v.tries v.wins v.last v.began v.taken in
@@ -111,14 +111,5 @@ module _ {S : Type 0} where
       let sees : Sees o.count o.shown o.number note both = record { below = omega (arith, mine.below, theirs.below); last = mine.last; began = mine.began; even = mine.even; fit = mine.fit; looked = mine.looked; tried = mine.tried; won = won } in
       screen_goes st.words (set st.views id (ScreenOf s both)) other t w there (screen_turns st.words st.views id s v both o at sees)
 
-  pub opens_as : (slots id : ℕ) (me : Me S View) (s : DayStock) → me ≡ (Unopened, []) → Allows CellRule slots id me 0 (λ n. n) (λ _ m. Turns (Opened s) me m)
-  opens_as slots id me s is = subst (λ (z : Me S View). Allows CellRule slots id z 0 (λ n. n) (λ _ m. Turns (Opened s) z m)) (sym is) (opens slots id s [])
-
-  pub writer_splits_as : (id : ℕ) (v : View) (s : DayStock) (own : Rest) → v ≡ WriterOf s own → Splits {S = S} CellRule id v v (screen_beside v)
-  writer_splits_as id v s own is = subst (λ u. Splits {S = S} CellRule id u u (screen_beside u)) (sym is) (writer_splits id s own)
-
-  pub screen_splits_as : (id : ℕ) (v : View) (s : DayStock) (x : Sight) → v ≡ ScreenOf s x → Splits {S = S} CellRule id v v (screen_beside v)
-  screen_splits_as id v s x is = subst (λ u. Splits {S = S} CellRule id u u (screen_beside u)) (sym is) (screen_splits id s x)
-
-  pub screens_join_as : (id other : ℕ) (v w : View) (s t : DayStock) (x y : Sight) → v ≡ ScreenOf s x → w ≡ ScreenOf t y → Joins {S = S} CellRule id v other w (joined v w) Spent
-  screens_join_as id other v w s t x y is that = subst (λ (z : View × View). Joins {S = S} CellRule id z.0 other z.1 (joined z.0 z.1) Spent) (λ i. (sym is i, sym that i)) (screens_join id other s t x y)
+  pub screens_join : (id other : ℕ) (v w : View) (s t : DayStock) (x y : Sight) → v ≡ ScreenOf s x → w ≡ ScreenOf t y → Joins {S = S} CellRule id v other w (joined v w) Spent
+  screens_join id other v w s t x y is that = subst (λ (z : View × View). Joins {S = S} CellRule id z.0 other z.1 (joined z.0 z.1) Spent) (λ i. (sym is i, sym that i)) (both_join id other s t x y)

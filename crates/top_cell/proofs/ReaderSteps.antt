@@ -3,6 +3,8 @@ use Rattle.std.proofs.Common.{◌≡◌, ℕ, ◌+◌, ◌%◌, ◌<◌, ◌≤�
 use Rattle.std.proofs.lemmas.List.{take_more}
 use Rattle.std.specs.Prelude.{slice_index}
 use mathlib.Core.Logic.{dite}
+use mathlib.Core.Option.{some}
+use lib.ListN.{get_elem?}
 use native.Mathlib.Decide.{ℕ_discrete}
 use Rattle.atomic_table.specs.Table.{Me, keeps, Allows}
 use Rattle.top_cell.specs.Rule.{IsAboveNoteOrNow, IsNotedOrNow, ShowsOf, Sees, CellRule, Turns, note_of, number_in, sight}
@@ -30,9 +32,10 @@ read_once_more noted_times noted times found now found' known is =
     inr (⊎_elim (λ t. omega (arith, t.0)) (λ t. omega (arith, t.0)) known, is)
 
 module _ {S : Type 0} where
-  pub reader_begins : (slots id : ℕ) (s : DayStock) (v : Sight) (c : List (ℕ × S)) → v.taken ≡ None
-      → Allows CellRule slots id (ScreenOf s v, c) 0 (λ n. n) (λ r n. Turns (ReaderBegun r) (ScreenOf s v, c) n)
-  reader_begins slots id s v c shut st h _ at _ =
+  pub reader_begins : (slots id : ℕ) (me : Me S View) (s : DayStock) (v : Sight) → me.0 ≡ ScreenOf s v → v.taken ≡ None
+      → Allows CellRule slots id me 0 (λ n. n) (λ r n. Turns (ReaderBegun r) me n)
+  reader_begins slots id me s v known shut st h _ there _ =
+      let at : get_elem? st.views id ≡ some (ScreenOf s v) = there ∙ ap some known in
       let r : ℕ = slice_index st.words 0 in
       let o = open_at st.words st.views id (ScreenOf s v) refl h at in
       let mine = (o.each id (ScreenOf s v) at).1 in
@@ -46,15 +49,16 @@ module _ {S : Type 0} where
       let v' = sight v.number (v.loads + 1) (v.looks + 1) (v.tries + 1) v.wins r r (Some []) in
       let tried = once_more note.tries note.began v.tries v.began o.count r mine.tried is in
       let sees : Sees o.count o.shown o.number note v' = record { below = mine.below; last = omega (arith, is); began = omega (arith, is); even = even; fit = λ words e _. let none = same_words [] words e in subst (λ ws. ws ≡ take (length ws) o.shown) none refl; looked = looked; tried = tried; won = mine.won } in
-      (ScreenOf s v', keeps, tt, unmoved st id c (ScreenOf s v') 0 (screen_turns st.words st.views id s v v' o at sees), ((shut, risen, up, (λ _. refl), (λ odd. absurd (omega (arith, even, odd)))), refl)))
+      (ScreenOf s v', keeps, tt, unmoved st id me.1 (ScreenOf s v') 0 (screen_turns st.words st.views id s v v' o at sees), (subst (λ u. ReaderBegun r u (ScreenOf s v')) (sym known) (shut, risen, up, (λ _. refl), (λ odd. absurd (omega (arith, even, odd)))), refl)))
       (λ odd.
       let v' = sight v.number (v.loads + 1) (v.looks + 1) v.tries v.wins r v.began None in
       let sees : Sees o.count o.shown o.number note v' = record { below = mine.below; last = omega (arith, is); began = mine.began; even = mine.even; fit = λ words e _. absurd (no_words words e); looked = looked; tried = mine.tried; won = mine.won } in
-      (ScreenOf s v', keeps, tt, unmoved st id c (ScreenOf s v') 0 (screen_turns st.words st.views id s v v' o at sees), ((shut, risen, up, (λ even. absurd (odd even)), (λ _. refl)), refl)))
+      (ScreenOf s v', keeps, tt, unmoved st id me.1 (ScreenOf s v') 0 (screen_turns st.words st.views id s v v' o at sees), (subst (λ u. ReaderBegun r u (ScreenOf s v')) (sym known) (shut, risen, up, (λ even. absurd (odd even)), (λ _. refl)), refl)))
 
-  pub reader_takes : (slots id : ℕ) (s : DayStock) (v : Sight) (taken : List ℕ) (c : List (ℕ × S)) → v.taken ≡ Some taken → length taken < 4
-      → Allows CellRule slots id (ScreenOf s v, c) (length taken + 1) (λ n. n) (λ r n. Turns (ReaderTook r) (ScreenOf s v, c) n)
-  reader_takes slots id s v taken c open_try few st h _ at _ =
+  pub reader_takes : (slots id : ℕ) (me : Me S View) (s : DayStock) (v : Sight) (taken : List ℕ) (word : ℕ) → me.0 ≡ ScreenOf s v → v.taken ≡ Some taken → word ≡ length taken + 1 → length taken < 4
+      → Allows CellRule slots id me word (λ n. n) (λ r n. Turns (ReaderTook r) me n)
+  reader_takes slots id me s v taken word known open_try next few = subst (λ k. Allows CellRule slots id me k (λ n. n) (λ r n. Turns (ReaderTook r) me n)) (sym next) (λ st h _ there _.
+      let at : get_elem? st.views id ≡ some (ScreenOf s v) = there ∙ ap some known in
       let i : ℕ = length taken in
       let r : ℕ = slice_index st.words (i + 1) in
       let o = open_at st.words st.views id (ScreenOf s v) refl h at in
@@ -70,13 +74,14 @@ module _ {S : Type 0} where
         ScreenOf s v',
         keeps,
         tt,
-        unmoved st id c (ScreenOf s v') (i + 1) (screen_turns st.words st.views id s v v' o at sees),
-        ((taken, open_try, few, refl), refl),
-      )
+        unmoved st id me.1 (ScreenOf s v') (i + 1) (screen_turns st.words st.views id s v v' o at sees),
+        (subst (λ u. ReaderTook r u (ScreenOf s v')) (sym known) (taken, open_try, few, refl), refl),
+      ))
 
-  pub reader_ends : (slots id : ℕ) (s : DayStock) (v : Sight) (taken : List ℕ) (c : List (ℕ × S)) → v.taken ≡ Some taken → length taken ≡ 4
-      → Allows CellRule slots id (ScreenOf s v, c) 0 (λ n. n) (λ r n. Turns (ReaderEnded r) (ScreenOf s v, c) n)
-  reader_ends slots id s v taken c open_try all st h _ at _ =
+  pub reader_ends : (slots id : ℕ) (me : Me S View) (s : DayStock) (v : Sight) (taken : List ℕ) → me.0 ≡ ScreenOf s v → v.taken ≡ Some taken → length taken ≡ 4
+      → Allows CellRule slots id me 0 (λ n. n) (λ r n. Turns (ReaderEnded r) me n)
+  reader_ends slots id me s v taken known open_try all st h _ there _ =
+      let at : get_elem? st.views id ≡ some (ScreenOf s v) = there ∙ ap some known in
       let r : ℕ = slice_index st.words 0 in
       let o = open_at st.words st.views id (ScreenOf s v) refl h at in
       let mine = (o.each id (ScreenOf s v) at).1 in
@@ -99,23 +104,9 @@ module _ {S : Type 0} where
         ScreenOf s v',
         keeps,
         tt,
-        unmoved st id c (ScreenOf s v') 0 (screen_turns st.words st.views id s v v' o at (none (number_in taken) (v.wins + 1) (omega (arith, first)) won)),
-        ((taken, open_try, all, up, risen, (λ _. (shows, omega (arith, first, mine.below), refl)), (λ not. absurd (not still))), refl),
+        unmoved st id me.1 (ScreenOf s v') 0 (screen_turns st.words st.views id s v v' o at (none (number_in taken) (v.wins + 1) (omega (arith, first)) won)),
+        (subst (λ u. ReaderEnded r u (ScreenOf s v')) (sym known) (taken, open_try, all, up, risen, (λ _. (shows, omega (arith, first, mine.below), refl)), (λ not. absurd (not still))), refl),
       ))
       (λ moved.
       let v' = sight v.number (v.loads + 1) (v.looks + 1) v.tries v.wins r v.began None in
-      (ScreenOf s v', keeps, tt, unmoved st id c (ScreenOf s v') 0 (screen_turns st.words st.views id s v v' o at (none v.number v.wins mine.below mine.won)), ((taken, open_try, all, up, risen, (λ still. absurd (moved still)), (λ _. refl)), refl)))
-
-  -- the steps, at a view that is known
-  pub reader_begins_as : (slots id : ℕ) (me : Me S View) (s : DayStock) (v : Sight) → me.0 ≡ ScreenOf s v → v.taken ≡ None
-      → Allows CellRule slots id me 0 (λ n. n) (λ r n. Turns (ReaderBegun r) me n)
-  reader_begins_as slots id me s v is shut = subst (λ (m : Me S View). Allows CellRule slots id m 0 (λ n. n) (λ r n. Turns (ReaderBegun r) m n)) (λ i. (sym is i, me.1)) (reader_begins slots id s v me.1 shut)
-
-  pub reader_takes_as : (slots id : ℕ) (me : Me S View) (s : DayStock) (v : Sight) (taken : List ℕ) (i : ℕ) → me.0 ≡ ScreenOf s v → v.taken ≡ Some taken → i ≡ length taken + 1 → length taken < 4
-      → Allows CellRule slots id me i (λ n. n) (λ r n. Turns (ReaderTook r) me n)
-  reader_takes_as slots id me s v taken i is open_try at few =
-      subst (λ (z : Me S View × ℕ). Allows CellRule slots id z.0 z.1 (λ n. n) (λ r n. Turns (ReaderTook r) z.0 n)) (λ k. ((sym is k, me.1), sym at k)) (reader_takes slots id s v taken me.1 open_try few)
-
-  pub reader_ends_as : (slots id : ℕ) (me : Me S View) (s : DayStock) (v : Sight) (taken : List ℕ) → me.0 ≡ ScreenOf s v → v.taken ≡ Some taken → length taken ≡ 4
-      → Allows CellRule slots id me 0 (λ n. n) (λ r n. Turns (ReaderEnded r) me n)
-  reader_ends_as slots id me s v taken is open_try all = subst (λ (m : Me S View). Allows CellRule slots id m 0 (λ n. n) (λ r n. Turns (ReaderEnded r) m n)) (λ i. (sym is i, me.1)) (reader_ends slots id s v taken me.1 open_try all)
+      (ScreenOf s v', keeps, tt, unmoved st id me.1 (ScreenOf s v') 0 (screen_turns st.words st.views id s v v' o at (none v.number v.wins mine.below mine.won)), (subst (λ u. ReaderEnded r u (ScreenOf s v')) (sym known) (taken, open_try, all, up, risen, (λ still. absurd (moved still)), (λ _. refl)), refl)))

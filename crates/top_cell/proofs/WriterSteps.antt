@@ -46,9 +46,10 @@ writer_turns words words' views id s v w count' shown' number' noted' o at here 
 }
 
 module _ {S : Type 0} where
-  pub writer_begins : (slots id : ℕ) (s : DayStock) (own : Rest) (new : List ℕ) (c : List (ℕ × S)) → length s.day < 2 ^ 32 → ShowsOf s (number_in new) new → own.number < number_in new
-      → Allows CellRule slots id (WriterOf s own, c) 0 (λ n. (n + 1) % 2 ^ 64) (λ r m. Turns (WriterBegun new) (WriterOf s own, c) m)
-  writer_begins slots id s own new c few shows later st h _ at _ =
+  pub writer_begins : (slots id : ℕ) (me : Me S View) (s : DayStock) (own : Rest) (new : List ℕ) → me.0 ≡ WriterOf s own → length s.day < 2 ^ 32 → ShowsOf s (number_in new) new → own.number < number_in new
+      → Allows CellRule slots id me 0 (λ n. (n + 1) % 2 ^ 64) (λ r m. Turns (WriterBegun new) me m)
+  writer_begins slots id me s own new is few shows later st h _ there _ =
+      let at : get_elem? st.views id ≡ some (WriterOf s own) = there ∙ ap some is in
       let n : ℕ = own.number in
       let o = open_at st.words st.views id (WriterOf s own) refl h at in
       let mine = o.each id (WriterOf s own) at in
@@ -77,12 +78,13 @@ module _ {S : Type 0} where
               },
               refl,
             ),
-        ((o.shown, notes, refl), refl),
+        (subst (λ v. WriterBegun new v w) (sym is) (o.shown, notes, refl), refl),
       )
 
-  pub writer_puts : (slots id : ℕ) (s : DayStock) (x : Change) (b : ℕ) (c : List (ℕ × S)) → x.put < 4 → b ≡ slice_index x.new x.put
-      → Allows CellRule slots id (Writing s x, c) (x.put + 1) (λ _. b) (λ _ m. Turns WriterHasPut (Writing s x, c) m)
-  writer_puts slots id s x b c few right st h _ at _ =
+  pub writer_puts : (slots id : ℕ) (me : Me S View) (s : DayStock) (x : Change) (i b : ℕ) → me.0 ≡ Writing s x → x.put < 4 → b ≡ slice_index x.new x.put → i ≡ x.put + 1
+      → Allows CellRule slots id me i (λ _. b) (λ _ m. Turns WriterHasPut me m)
+  writer_puts slots id me s x i b is few right next = subst (λ k. Allows CellRule slots id me k (λ _. b) (λ _ m. Turns WriterHasPut me m)) (sym next) (λ st h _ there _.
+      let at : get_elem? st.views id ≡ some (Writing s x) = there ∙ ap some is in
       let o = open_at st.words st.views id (Writing s x) refl h at in
       let mine = o.each id (Writing s x) at in
       let ch = mine.2 in
@@ -112,12 +114,13 @@ module _ {S : Type 0} where
               },
               mine.3,
             ),
-        (refl, refl),
-      )
+        (subst (λ v. WriterHasPut v w) (sym is) refl, refl),
+      ))
 
-  pub writer_ends : (slots id : ℕ) (s : DayStock) (x : Change) (c : List (ℕ × S)) → length s.day < 2 ^ 32 → x.put ≡ 4
-      → Allows CellRule slots id (Writing s x, c) 0 (λ n. (n + 1) % 2 ^ 64) (λ r m. Turns WriterEnded (Writing s x, c) m)
-  writer_ends slots id s x c few all st h _ at _ =
+  pub writer_ends : (slots id : ℕ) (me : Me S View) (s : DayStock) (x : Change) → me.0 ≡ Writing s x → length s.day < 2 ^ 32 → x.put ≡ 4
+      → Allows CellRule slots id me 0 (λ n. (n + 1) % 2 ^ 64) (λ r m. Turns WriterEnded me m)
+  writer_ends slots id me s x is few all st h _ there _ =
+      let at : get_elem? st.views id ≡ some (Writing s x) = there ∙ ap some is in
       let o = open_at st.words st.views id (Writing s x) refl h at in
       let mine = o.each id (Writing s x) at in
       let ch = mine.2 in
@@ -135,18 +138,5 @@ module _ {S : Type 0} where
             (λ _. (subst (λ ws. ShowsOf s n ws) (sym whole) new, omega (arith, ch.bound, ch.later))) (omega arith) (omega (arith, ch.later)) (λ began a _ is. omega (arith, a, is))
             (omega (arith, length-map st.views sight_of)) (λ j t y e _. finds_noted st.views j (o.count + 1) n t y e)
             (refl, refl, refl, omega (arith, ch.odd), refl),
-        ((notes, refl), refl),
+        (subst (λ v. WriterEnded v w) (sym is) (notes, refl), refl),
       )
-
-  -- the steps, at a view that is known
-  pub writer_begins_as : (slots id : ℕ) (me : Me S View) (s : DayStock) (own : Rest) (new : List ℕ) → me.0 ≡ WriterOf s own → length s.day < 2 ^ 32 → ShowsOf s (number_in new) new → own.number < number_in new
-      → Allows CellRule slots id me 0 (λ n. (n + 1) % 2 ^ 64) (λ r m. Turns (WriterBegun new) me m)
-  writer_begins_as slots id me s own new is few shows later = subst (λ (z : Me S View). Allows CellRule slots id z 0 (λ n. (n + 1) % 2 ^ 64) (λ r m. Turns (WriterBegun new) z m)) (λ i. (sym is i, me.1)) (writer_begins slots id s own new me.1 few shows later)
-
-  pub writer_puts_as : (slots id : ℕ) (me : Me S View) (s : DayStock) (x : Change) (i b : ℕ) → me.0 ≡ Writing s x → x.put < 4 → b ≡ slice_index x.new x.put → i ≡ x.put + 1
-      → Allows CellRule slots id me i (λ _. b) (λ _ m. Turns WriterHasPut me m)
-  writer_puts_as slots id me s x i b is few right at = subst (λ (z : Me S View × ℕ). Allows CellRule slots id z.0 z.1 (λ _. b) (λ _ m. Turns WriterHasPut z.0 m)) (λ k. ((sym is k, me.1), sym at k)) (writer_puts slots id s x b me.1 few right)
-
-  pub writer_ends_as : (slots id : ℕ) (me : Me S View) (s : DayStock) (x : Change) → me.0 ≡ Writing s x → length s.day < 2 ^ 32 → x.put ≡ 4
-      → Allows CellRule slots id me 0 (λ n. (n + 1) % 2 ^ 64) (λ r m. Turns WriterEnded me m)
-  writer_ends_as slots id me s x is few all = subst (λ (z : Me S View). Allows CellRule slots id z 0 (λ n. (n + 1) % 2 ^ 64) (λ r m. Turns WriterEnded z m)) (λ i. (sym is i, me.1)) (writer_ends slots id s x me.1 few all)

@@ -2,7 +2,7 @@ use Rattle.std.proofs.Common.{arith, ◌+◌, ◌++◌, [], ◌∷◌, ℕ, List
 use Rattle.std.proofs.lemmas.List.{take_more_set}
 use Rattle.top_cell.specs.Kinds.{ReaderTook}
 use Rattle.top_cell.specs.Rule.{stock_of, sight_of, sight}
-use Rattle.top_cell.proofs.ReaderSteps.{reader_takes_as, same_words}
+use Rattle.top_cell.proofs.ReaderSteps.{reader_takes, same_words}
 use Rattle.top_cell.specs.declared.rule.View.{View}
 use Rattle.top_cell.specs.declared.rule.View.TheVariants.{ScreenOf}
 use Rattle.top_cell.proofs.trying.take_words.Goals as goal
@@ -12,7 +12,7 @@ load-requires c =
     let i = c.loop-index.invariant in
     let s = c.requires.seat in
     let long = length-take-le c.loop-index.index c.loop-index.words (omega (arith, i.1)) in
-    (i.0.0 ∙ s.0, omega (arith, c.loop-index-test.true, s.1), reader_takes_as _ _ _ _ _ (take c.loop-index.index c.loop-index.words) _ i.2 refl (omega (arith, long)) (omega (arith, long)))
+    (i.0.0 ∙ s.0, omega (arith, c.loop-index-test.true, s.1), reader_takes _ _ _ _ _ (take c.loop-index.index c.loop-index.words) _ i.2 refl (omega (arith, long)) (omega (arith, long)))
 
 pub loop-index-preserved : goal.loop-index-preserved
 loop-index-preserved c =

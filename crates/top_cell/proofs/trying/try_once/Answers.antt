@@ -1,11 +1,11 @@
 use Rattle.std.proofs.Common.{rules, arith, refl, ap, ◌≡◌, ◌∙◌, ◌%◌}
 use Rattle.top_cell.specs.Rule.{sight_of}
-use Rattle.top_cell.proofs.ReaderSteps.{reader_begins_as, reader_ends_as}
+use Rattle.top_cell.proofs.ReaderSteps.{reader_begins, reader_ends}
 use Rattle.top_cell.proofs.TriesAndChanges.{begun, is_screen, taken_at, won, lost, missed}
 use Rattle.top_cell.proofs.trying.try_once.Goals as goal
 
 pub load-began-requires : goal.load-began-requires
-load-began-requires c = let s = c.requires.seat in (s.0, omega (arith, s.1), reader_begins_as _ _ _ _ _ c.requires.screen.0 c.requires.screen.1)
+load-began-requires c = let s = c.requires.seat in (s.0, omega (arith, s.1), reader_begins _ _ _ _ _ c.requires.screen.0 c.requires.screen.1)
 
 pub take_words-words-requires : goal.take_words-words-requires
 take_words-words-requires c =
@@ -24,7 +24,7 @@ load-count-requires c =
     let begins = begun _ _ _ c.requires.screen.0 e.2.0 in
     let b = begins.3 even in
     let t = c.take_words-words.ensures in
-    (t.same.0 ∙ (e.0 ∙ s.0), omega (arith, s.1), reader_ends_as _ _ _ _ _ c.take_words-words.result (taken_at _ _ _ (sight_of c.args.seat.now.me.0) _ _ b t.took) refl (search rules))
+    (t.same.0 ∙ (e.0 ∙ s.0), omega (arith, s.1), reader_ends _ _ _ _ _ c.take_words-words.result (taken_at _ _ _ (sight_of c.args.seat.now.me.0) _ _ b t.took) refl (search rules))
 
 pub returns-then-began-eq1 : goal.returns-then-began-eq1
 returns-then-began-eq1 c =

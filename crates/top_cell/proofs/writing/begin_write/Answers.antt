@@ -1,7 +1,7 @@
 use Rattle.std.proofs.Common.{◌<◌, arith, ap, subst, List, ℕ}
 use Rattle.top_cell.specs.Rule.{Turns, number_in, number_of}
 use Rattle.top_cell.specs.Kinds.{WriterBegun}
-use Rattle.top_cell.proofs.WriterSteps.{writer_begins_as}
+use Rattle.top_cell.proofs.WriterSteps.{writer_begins}
 use Rattle.top_cell.proofs.writing.begin_write.Goals as goal
 
 pub fetch_add-requires : goal.fetch_add-requires
@@ -9,7 +9,7 @@ fetch_add-requires g c =
     let s = c.requires.seat in
     let w = c.requires.words in
     let i = c.requires.idle in
-    (s.0, omega (arith, s.1), rw c.requires.named (writer_begins_as _ _ _ _ _ c.args.words.now i.0 i.1 w.0 (subst (λ n. n < number_in c.args.words.now) (ap number_of i.0) w.1)))
+    (s.0, omega (arith, s.1), rw c.requires.named (writer_begins _ _ _ _ _ c.args.words.now i.0 i.1 w.0 (subst (λ n. n < number_in c.args.words.now) (ap number_of i.0) w.1)))
 
 pub returns : goal.returns
 returns g c =

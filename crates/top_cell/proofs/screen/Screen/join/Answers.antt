@@ -3,7 +3,7 @@ use Rattle.std.specs.Prelude.{slice_get}
 use Rattle.top_cell.specs.Boards.{AreApart, CellId, ScreenAt, IsOn}
 use Rattle.std.proofs.lemmas.Option.{slice_get_within}
 use Rattle.top_cell.proofs.BoardCells.{seat_on}
-use Rattle.top_cell.proofs.OpenSplitJoin.{screens_join_as}
+use Rattle.top_cell.proofs.OpenSplitJoin.{screens_join}
 use Rattle.top_cell.proofs.screen.Screen.join.Goals as goal
 
 pub cell-cell-requires : goal.cell-cell-requires
@@ -28,5 +28,5 @@ join_seat-requires g c =
       ap (λ (d : CellId). d.table) one ∙ of.0,
       c.other.invariant.4,
       omega (arith, of.1),
-      screens_join_as _ _ _ _ _ _ _ _ c.self.invariant.0.0 c.other.invariant.0.0,
+      screens_join _ _ _ _ _ _ _ _ c.self.invariant.0.0 c.other.invariant.0.0,
     )

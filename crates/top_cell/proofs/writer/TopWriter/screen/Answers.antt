@@ -2,7 +2,7 @@ use Rattle.std.proofs.Common.{arith, sym, subst}
 use Rattle.top_cell.specs.Boards.{WriterAt, IsOn}
 use Rattle.std.proofs.lemmas.Option.{slice_get_within}
 use Rattle.top_cell.proofs.BoardCells.{seat_on}
-use Rattle.top_cell.proofs.OpenSplitJoin.{writer_splits_as}
+use Rattle.top_cell.proofs.OpenSplitJoin.{writer_splits}
 use Rattle.top_cell.proofs.writer.TopWriter.screen.Goals as goal
 
 pub cell-cell-requires : goal.cell-cell-requires
@@ -13,4 +13,4 @@ split_seat-requires g c =
     let on = subst (λ (w : WriterAt). IsOn c.args.board.now w.place) (sym c.self.view_is) c.requires in
     let e = c.cell-cell.ensures in
     let of = seat_on c.args.board.now _ c.self.inside.seat _ on e.table e.five in
-    (of.0, omega (arith, of.1), writer_splits_as _ _ _ _ c.self.invariant.0)
+    (of.0, omega (arith, of.1), writer_splits _ _ _ _ c.self.invariant.0)
