@@ -1,9 +1,9 @@
 pub mod AppliedOrRefused
-pub mod Entries
+pub mod WholeEntries
 pub mod BatchSteps
 pub mod NoStockMessages
-pub mod Dealt
-pub mod Following
+pub mod DealtOneByOne
+pub mod ReplayGoesOn
 pub mod RefusedMessages
 pub mod WholeDay
 pub mod LastMachines

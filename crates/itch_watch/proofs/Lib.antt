@@ -1,4 +1,4 @@
-mod Rising
-mod Quiet
-mod Seen
-mod Ends
+mod RisingNumbers
+mod NoLaterMessage
+mod SeenReadings
+mod WriterAfterRun

@@ -1,5 +1,5 @@
 use Rattle.std.proofs.Common.{◌-◌, length, ap, ◌∙◌, arith}
-use Rattle.itch_watch.proofs.Seen.{last_at}
+use Rattle.itch_watch.proofs.SeenReadings.{last_at}
 use Rattle.itch_watch.proofs.watching.last_seen.Goals as goal
 
 pub returns-in-Some : goal.returns-in-Some

@@ -1,7 +1,7 @@
 use Rattle.std.proofs.Common.{◌≡◌, ◌<◌, ap, subst, sym, ◌∙◌, arith}
 use Rattle.day_core.specs.Owners.{last_or}
 use Rattle.itch_watch.specs.Watching.{AreSeen, numbers}
-use Rattle.itch_watch.proofs.Seen.{last_is, seen_more}
+use Rattle.itch_watch.proofs.SeenReadings.{last_is, seen_more}
 use Rattle.itch_watch.proofs.watching.note.Goals as goal
 
 pub returns-in_ok-push-clause-seen : goal.returns-in_ok-push-clause-seen

@@ -2,7 +2,7 @@ use Rattle.std.proofs.Common.{◌≡◌, List, ◌∷◌, [], ◌++◌, filter, 
 use Rattle.std.proofs.lemmas.Fn.{filter_same}
 use Rattle.top_cell.specs.declared.reading.Reading.{Reading}
 use Rattle.itch_watch.specs.Watching.{AreSeenToTheEnd}
-use Rattle.itch_watch.proofs.Seen.{is_before, seen_to_the_end}
+use Rattle.itch_watch.proofs.SeenReadings.{is_before, seen_to_the_end}
 use Rattle.itch_watch.proofs.watching.to_the_end.Goals as goal
 
 pub returns : goal.returns

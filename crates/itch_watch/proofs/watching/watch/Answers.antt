@@ -1,6 +1,6 @@
 use Rattle.std.proofs.Common.{◌∙◌, refl, subst, sym}
 use Rattle.top_cell.specs.Boards.{IsOn}
-use Rattle.itch_watch.proofs.Seen.{seen_at}
+use Rattle.itch_watch.proofs.SeenReadings.{seen_at}
 use Rattle.itch_watch.proofs.watching.watch.Goals as goal
 
 pub loop-preserved : goal.loop-preserved

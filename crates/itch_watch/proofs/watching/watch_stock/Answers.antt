@@ -7,8 +7,8 @@ use Rattle.itch_table.specs.Shows.{locates_of_day}
 use Rattle.stock_workers.specs.Running.{at_last}
 use Rattle.day_core.specs.Owners.{last_message}
 use Rattle.itch_watch.specs.Watching.{AreSeen, AreSeenToTheEnd, IsReading}
-use Rattle.itch_watch.proofs.Ends.{ends, quiet_at, screens_day}
-use Rattle.itch_watch.proofs.Quiet.{some_last}
+use Rattle.itch_watch.proofs.WriterAfterRun.{ends, quiet_at, screens_day}
+use Rattle.itch_watch.proofs.NoLaterMessage.{some_last}
 use Rattle.itch_watch.proofs.watching.watch_stock.Goals as goal
 
 pub screen_of-index-requires-clause-stock : goal.screen_of-index-requires-clause-stock

@@ -2,7 +2,7 @@ use Rattle.std.proofs.Common.{◌≡◌, ◌∷◌, [], ◌++◌, List, ℕ, ap,
 use Rattle.std.specs.List.{zip}
 use Rattle.std.proofs.lemmas.Grind.{common_steps}
 use Rattle.binaryfile.specs.Index.{payloads_of}
-use Rattle.day_replay.proofs.Entries.{entries_more, longer, view_more}
+use Rattle.day_replay.proofs.WholeEntries.{entries_more, longer, view_more}
 use Rattle.day_replay.proofs.batch_messages.BatchMessages.push.Goals as goal
 
 pub invariant_of-self-2 : goal.invariant_of-self-2

@@ -1,5 +1,5 @@
 use Rattle.std.proofs.Common.{arith}
-use Rattle.day_replay.proofs.Dealt.{none_dealt}
+use Rattle.day_replay.proofs.DealtOneByOne.{none_dealt}
 use Rattle.day_replay.proofs.dealt_messages.DealtMessages.clear.Goals as goal
 
 pub returns : goal.returns

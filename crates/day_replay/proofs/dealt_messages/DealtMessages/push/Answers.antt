@@ -1,6 +1,6 @@
 use Rattle.std.proofs.Common.{◌+◌, ◌%◌, ℕ, get_or, refl, sym, subst, ap, ◌∙◌}
 use Rattle.day_replay.specs.Dealing.{IsDealt}
-use Rattle.day_replay.proofs.Dealt.{dealt_nowhere, dealt_own, passed_below}
+use Rattle.day_replay.proofs.DealtOneByOne.{dealt_nowhere, dealt_own, passed_below}
 use Rattle.day_replay.proofs.dealt_messages.DealtMessages.push.Goals.{in-Locate+in_ok-push-in-Locate, in-Nowhere+in_ok-note-in-Nowhere}
 use Rattle.day_replay.proofs.dealt_messages.DealtMessages.push.Goals as goal
 

@@ -2,7 +2,7 @@ use Rattle.std.proofs.Common.{◌+◌, ℕ, List, get_or, sym, subst, ap, ◌∙
 use Rattle.day_replay.specs.Batches.{Does, MayDo}
 use Rattle.day_replay.specs.NoStock.{NoStockFacts}
 use Rattle.day_replay.specs.Replays.{HasReplayed}
-use Rattle.day_replay.proofs.Following.{gone_on, may_do, passed_fit}
+use Rattle.day_replay.proofs.ReplayGoesOn.{gone_on, may_do, passed_fit}
 use Rattle.day_replay.proofs.replay.Replay.go_on.Goals as goal
 
 pub do_all-requires-clause-may : goal.do_all-requires-clause-may

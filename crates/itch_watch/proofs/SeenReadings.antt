@@ -11,7 +11,7 @@ use Rattle.top_cell.specs.declared.reading.Reading.{Reading}
 use Rattle.day_core.specs.Owners.{last_message, last_or}
 use Rattle.day_core.proofs.Progress.{last_push}
 use Rattle.itch_watch.specs.Watching.{AreSeen, AreSeenToTheEnd, IsReading, numbers}
-use Rattle.itch_watch.proofs.Rising.{rising_more}
+use Rattle.itch_watch.proofs.RisingNumbers.{rising_more}
 
 -- whether a reading is of an earlier message
 abbrev pub is_before : ℕ → Reading → Bool

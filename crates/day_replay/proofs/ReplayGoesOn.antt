@@ -8,7 +8,7 @@ use Rattle.day_replay.specs.Messages.{is_of_batch, numbered_after, of_batch}
 use Rattle.day_replay.specs.NoStock.{NoStockFacts, no_stock_of}
 use Rattle.day_replay.specs.Replays.{HasReplayed, ReplayState}
 use Rattle.day_replay.proofs.BatchSteps.{filter_few}
-use Rattle.day_replay.proofs.Dealt.{length-numbered_after}
+use Rattle.day_replay.proofs.DealtOneByOne.{length-numbered_after}
 use Rattle.day_replay.proofs.NoStockMessages.{passed_few}
 
 numbered_after-append : (n : ℕ) (xs ys : List (List ℕ)) → numbered_after n (xs ++ ys) ≡ numbered_after n xs ++ numbered_after (n + length xs) ys

@@ -7,7 +7,7 @@ use Rattle.itch_table.specs.Projection.{IsQuiet}
 use Rattle.stock_workers.specs.Running.{at_last}
 use Rattle.top_cell.specs.Boards.{AreNew, CellId, IsOn, Place, WriterAt}
 use Rattle.itch_watch.specs.Watching.{IsScreenOf}
-use Rattle.itch_watch.proofs.Quiet.{quiet_after}
+use Rattle.itch_watch.proofs.NoLaterMessage.{quiet_after}
 
 -- a writer of a stock of a day on a board stands at the stock's last message
 pub record IsAtEnd (day : List (List ℕ)) (board : List CellId) (locate : ℕ) (w : WriterAt) : Type 0 where
