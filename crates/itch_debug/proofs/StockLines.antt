@@ -15,7 +15,8 @@ use Rattle.itch_table.specs.Levels.{levels}
 use Rattle.itch_table.specs.World.{orders_of, status, totals}
 use Rattle.stock_text.specs.Stocks.{ask_line, bid_line, trades_line}
 use Rattle.stock_machine.specs.StockRows.{StockMachine}
-use Rattle.itch_debug.specs.Answering.{book_of, break_lines, listed_text, numbered_break, order_line, sides_of, stock_text}
+use Rattle.stock_text.specs.Orders.{order_line}
+use Rattle.itch_debug.specs.Answering.{book_of, break_lines, listed_text, numbered_break, sides_of, stock_text}
 
 -- one breakpoint more
 pub break_more : (bs : List Break) (i : ℕ) (b : Break) (text whole : List ℕ) → slice_get bs i ≡ Some b → text ++ break_lines (i + 1) (drop i bs) ≡ whole → (text ++ numbered_break (i + 1) b) ++ break_lines (i + 1 + 1) (drop (i + 1) bs) ≡ whole

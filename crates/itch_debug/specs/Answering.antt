@@ -4,16 +4,13 @@ use Rattle.std.specs.declared.vec.Vec.{Vec}
 use Rattle.std.specs.List.{flat_map}
 use Rattle.itch_layouts.specs.declared.message.Directory.{Directory}
 use Rattle.itch_table.specs.declared.outcome.Outcome.{Outcome}
-use Rattle.itch_table.specs.declared.outcome.Outcome.TheVariants.{Applied, Passed, Refused}
-use Rattle.itch_table.specs.declared.order.Order.{Order}
-use Rattle.itch_table.specs.declared.order.Side.{Side}
 use Rattle.itch_table.specs.declared.order.Side.TheVariants.{Buy, Sell}
 use Rattle.itch_table.specs.declared.status.Status.{Status}
 use Rattle.itch_table.specs.After.{after}
-use Rattle.itch_table.specs.Fault.{number_of}
 use Rattle.itch_table.specs.Levels.{levels, same_side}
 use Rattle.itch_table.specs.World.{World, orders_of, status, totals}
-use Rattle.text_fields.specs.Quoted.{quoted, quoted_byte}
+use Rattle.text_fields.specs.Quoted.{quoted_byte}
+use Rattle.stock_text.specs.Orders.{order_line, outcome_words, side_text}
 use Rattle.stock_text.specs.Stocks.{ask_line, bid_line, stock_line, trades_line}
 use Rattle.debugger.specs.Sessions.{Session, moved_to, next_stop, outcome_at, previous_stop, with_break, without_break}
 use Rattle.debugger.specs.Stops.{hit}
@@ -29,9 +26,7 @@ use Rattle.itch_debug.specs.declared.command.Command.TheVariants.{Blank, Goto, S
 -- what became of the message at a position, or `start` at 0
 abbrev pub outcome_text : Option Outcome → List ℕ
 outcome_text None = codes "start"
-outcome_text (Some Applied) = codes "applied"
-outcome_text (Some Passed) = codes "passed"
-outcome_text (Some (Refused fault)) = codes "refused F" ++ decimal (number_of fault)
+outcome_text (Some outcome) = outcome_words outcome
 
 -- a position of a day
 abbrev pub position_text : List (List ℕ) → ℕ → List ℕ
@@ -45,11 +40,6 @@ hit_text (Some index) = codes " break " ++ decimal (index + 1)
 -- the line of a breakpoint's number
 abbrev pub break_line : ℕ → List ℕ
 break_line number = codes "break " ++ decimal number ++ codes "\n"
-
--- `B` for a bid and `S` for an ask
-abbrev pub side_text : Side → List ℕ
-side_text Buy = codes "B"
-side_text Sell = codes "S"
 
 -- a breakpoint, as the command that adds it has it after `break`
 abbrev pub break_text : Break → List ℕ
@@ -78,18 +68,6 @@ abbrev pub event_line : Option ℕ → List ℕ
 event_line event = codes "event " ++ quoted_byte event ++ codes "\n"
 
 -- ---- stocks
-
--- the market participant of an order, or `none`
-abbrev pub attribution_text : Option (List ℕ) → List ℕ
-attribution_text None = codes "none"
-attribution_text (Some mpid) = quoted mpid
-
--- the line of an order: its reference, its side, its shares, its price and its attribution
-abbrev pub order_line : Order → List ℕ
-order_line order =
-    codes "order " ++ decimal order.reference ++ codes " " ++ side_text order.side
-    ++ codes " " ++ decimal order.shares ++ codes " " ++ decimal order.price
-    ++ codes " " ++ attribution_text order.attribution ++ codes "\n"
 
 -- the levels of a stock: its bids and its asks
 abbrev pub sides_of : World → ℕ → List ℕ

@@ -2,11 +2,12 @@
 ghost use Rattle.std.specs.Prelude.{◌≢◌, ◌+◌, ◌++◌, OnOk, codes};
 ghost use Rattle.byte_strings.specs.Extending.{Extends};
 ghost use Rattle.itch_table.specs.After.{after};
-ghost use Rattle.itch_debug.specs.Answering.{break_line, break_text, breaks_text, event_line, hit_text, numbered_break, outcome_text, position_text, refusal_text, side_text};
+ghost use Rattle.itch_debug.specs.Answering.{break_line, break_text, breaks_text, event_line, hit_text, numbered_break, outcome_text, position_text, refusal_text};
 
 use debugger::{Break, DebugFault, Debugger};
-use itch_table::{Outcome, Side};
+use itch_table::Outcome;
 use std::alloc::{AllocError, Allocator};
+use stock_text::put_side;
 use text_fields::{put_count, put_quoted_byte};
 
 // Adds what became of the message at a position, or `start` at 0.
@@ -18,9 +19,7 @@ fn put_outcome<A: Allocator>(
 {
     match outcome {
         None => text.extend_from_slice(b"start"),
-        Some(Outcome::Applied) => text.extend_from_slice(b"applied"),
-        Some(Outcome::Passed) => text.extend_from_slice(b"passed"),
-        Some(Outcome::Refused(fault)) => put_count(text, b"refused F", fault.number()),
+        Some(outcome) => stock_text::put_outcome(text, outcome),
     }
 }
 
@@ -87,16 +86,6 @@ pub(crate) fn put_break_number<A: Allocator>(
     put_count(text, b"break ", index as u128 + 1)?;
     text.push(b'\n')?;
     Ok(())
-}
-
-/// Adds the letter of a side.
-pub(crate) fn put_side<A: Allocator>(text: &mut Vec<u8, A>, side: Side) -> Result<(), AllocError>
-    ensures { Extends text.old text.new (side_text side) result }
-{
-    match side {
-        Side::Buy => text.extend_from_slice(b"B"),
-        Side::Sell => text.extend_from_slice(b"S"),
-    }
 }
 
 // Adds a breakpoint.

@@ -2,47 +2,19 @@
 ghost use Rattle.std.specs.Prelude.{◌≡◌, ◌++◌, OnOk};
 ghost use Rattle.std.specs.List.{flat_map};
 ghost use Rattle.byte_strings.specs.Extending.{Extends};
+ghost use Rattle.stock_text.specs.Orders.{order_line};
 ghost use Rattle.stock_text.specs.Stocks.{level_line};
 ghost use Rattle.itch_table.specs.After.{after};
 ghost use Rattle.itch_table.specs.Levels.{levels};
 ghost use Rattle.itch_table.specs.World.{orders_of};
-ghost use Rattle.itch_debug.specs.Answering.{attribution_text, book_of, order_line, sides_of, stock_text};
+ghost use Rattle.itch_debug.specs.Answering.{book_of, sides_of, stock_text};
 
-use crate::lines::put_side;
 use debugger::Debugger;
 use itch_table::{Order, Side};
 use std::alloc::{AllocError, Allocator};
 use stock_machine::Stock;
-use stock_text::{put_levels, put_stock_line, put_trades};
-use text_fields::{put_count, put_quoted};
-
-// Adds the market participant of an order, or `none`.
-fn put_attribution<A: Allocator>(
-    text: &mut Vec<u8, A>,
-    attribution: Option<[u8; 4]>,
-) -> Result<(), AllocError>
-    ensures { Extends text.old text.new (attribution_text attribution) result }
-{
-    match attribution {
-        Some(mpid) => put_quoted(text, &mpid),
-        None => text.extend_from_slice(b"none"),
-    }
-}
-
-// Adds the line of an order.
-fn put_order<A: Allocator>(text: &mut Vec<u8, A>, order: Order) -> Result<(), AllocError>
-    ensures { Extends text.old text.new (order_line order) result }
-{
-    put_count(text, b"order ", order.reference)?;
-    text.push(b' ')?;
-    put_side(text, order.side)?;
-    put_count(text, b" ", order.shares)?;
-    put_count(text, b" ", order.price)?;
-    text.push(b' ')?;
-    put_attribution(text, order.attribution)?;
-    text.push(b'\n')?;
-    Ok(())
-}
+use stock_text::{put_levels, put_order, put_stock_line, put_trades};
+use text_fields::put_count;
 
 // Adds the lines of these orders.
 fn put_orders<A: Allocator>(text: &mut Vec<u8, A>, orders: &[Order]) -> Result<(), AllocError>

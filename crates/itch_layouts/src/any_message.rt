@@ -1,6 +1,7 @@
 //! What can be asked of any message.
-ghost use Rattle.std.specs.Prelude.{◌≡◌, ◌==◌};
+ghost use Rattle.std.specs.Prelude.{◌≡◌, ◌==◌, ◌++◌};
 ghost use Rattle.std.specs.List.{list_any};
+ghost use Rattle.std.specs.Option.{option_to_list};
 ghost use Rattle.itch_layouts.specs.Means.{fields_of};
 ghost use Rattle.itch_layouts.specs.References.{references};
 
@@ -37,37 +38,44 @@ impl Msg {
         }
     }
 
-    /// Whether the message names an order by this reference, in its field `reference` or `new_reference`.
+    /// The references by which the message names orders, of its fields `reference` and `new_reference`: two of a
+    /// replacement, one of another message about an order.
     ///
     /// Nasdaq TotalView-ITCH 5.0, "Message Formats".
+    pub fn references(&self) -> (Option<u64>, Option<u64>)
+        ensures { option_to_list result.0 ++ option_to_list result.1 ≡ references self.now }
+    {
+        match *self {
+            Msg::Add(_, message) => (Some(message.reference), None),
+            Msg::AddMpid(_, message) => (Some(message.reference), None),
+            Msg::Execute(_, message) => (Some(message.reference), None),
+            Msg::ExecutePrice(_, message) => (Some(message.reference), None),
+            Msg::Cancel(_, message) => (Some(message.reference), None),
+            Msg::Delete(_, message) => (Some(message.reference), None),
+            Msg::Replace(_, message) => (Some(message.reference), Some(message.new_reference)),
+            Msg::Trade(_, message) => (Some(message.reference), None),
+            Msg::System(_, _) => (None, None),
+            Msg::Directory(_, _) => (None, None),
+            Msg::Trading(_, _) => (None, None),
+            Msg::Regsho(_, _) => (None, None),
+            Msg::Participant(_, _) => (None, None),
+            Msg::Decline(_, _) => (None, None),
+            Msg::Breach(_, _) => (None, None),
+            Msg::Ipo(_, _) => (None, None),
+            Msg::Collar(_, _) => (None, None),
+            Msg::Operational(_, _) => (None, None),
+            Msg::Cross(_, _) => (None, None),
+            Msg::Broken(_, _) => (None, None),
+            Msg::Imbalance(_, _) => (None, None),
+            Msg::Retail(_, _) => (None, None),
+        }
+    }
+
+    /// Whether the message names an order by this reference, in its field `reference` or `new_reference`.
     pub fn has_reference(&self, reference: u64) -> bool
         ensures { result ≡ list_any (λ r. r == reference) (references self.now) }
     {
-        match *self {
-            Msg::Add(_, message) => message.reference == reference,
-            Msg::AddMpid(_, message) => message.reference == reference,
-            Msg::Execute(_, message) => message.reference == reference,
-            Msg::ExecutePrice(_, message) => message.reference == reference,
-            Msg::Cancel(_, message) => message.reference == reference,
-            Msg::Delete(_, message) => message.reference == reference,
-            Msg::Replace(_, message) => {
-                message.reference == reference || message.new_reference == reference
-            }
-            Msg::Trade(_, message) => message.reference == reference,
-            Msg::System(_, _) => false,
-            Msg::Directory(_, _) => false,
-            Msg::Trading(_, _) => false,
-            Msg::Regsho(_, _) => false,
-            Msg::Participant(_, _) => false,
-            Msg::Decline(_, _) => false,
-            Msg::Breach(_, _) => false,
-            Msg::Ipo(_, _) => false,
-            Msg::Collar(_, _) => false,
-            Msg::Operational(_, _) => false,
-            Msg::Cross(_, _) => false,
-            Msg::Broken(_, _) => false,
-            Msg::Imbalance(_, _) => false,
-            Msg::Retail(_, _) => false,
-        }
+        let (one, other) = self.references();
+        one == Some(reference) || other == Some(reference)
     }
 }

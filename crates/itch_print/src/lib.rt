@@ -25,5 +25,6 @@ mod reassembling;
 
 pub use disassembling::{disassemble, disassemble_between};
 pub use laws::disassembly_denotes;
+pub use lines::put_payload;
 pub use reassembling::reassembled;
 pub use text_fields::{put_number, put_quoted, quote};

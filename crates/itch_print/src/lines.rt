@@ -50,11 +50,11 @@ fn layout_of(payload: &[u8]) -> Option<Layout>
     layout_of_kind(*payload.first()?)
 }
 
-/// Adds the line of a payload: its message where it has the size of its type's layout, and else its bytes.
-pub(crate) fn put_payload<A: Allocator>(
-    text: &mut Vec<u8, A>,
-    payload: &[u8],
-) -> Result<(), AllocError>
+/// Adds the line of a payload, as [`disassemble`] writes it: its message where it has the size of its type's layout, and
+/// else its bytes. The text may have a part of the line after an error.
+///
+/// [`disassemble`]: crate::disassemble
+pub fn put_payload<A: Allocator>(text: &mut Vec<u8, A>, payload: &[u8]) -> Result<(), AllocError>
     ensures { Extends text.old text.new (ended (payload_line payload.now)) result }
 {
     match layout_of(payload) {

@@ -1,4 +1,5 @@
-//! The lines of a stock: what is known of it, its levels and the sums over its trades, as reports and sessions have them.
+//! The lines of a stock: what is known of it, its levels, its orders and the sums over its trades, as reports and sessions
+//! have them; and what became of a message.
 //!
 //! ```rust
 //! put_stock_line(&mut text, 14, *b"AAPL    ", None, None)?;
@@ -10,6 +11,8 @@
 //! `AllocError` says that memory was refused.
 #![tactic(auto)]
 
+mod orders;
 mod stock;
 
+pub use orders::{put_order, put_outcome, put_side};
 pub use stock::{put_levels, put_stock, put_stock_line, put_trades};

@@ -1,6 +1,6 @@
 use Rattle.std.proofs.Common.{◌≡◌, ◌++◌, take}
 use Rattle.std.specs.List.{flat_map}
-use Rattle.itch_debug.specs.Answering.{order_line}
+use Rattle.stock_text.specs.Orders.{order_line}
 use Rattle.itch_debug.proofs.stock.put_orders.Given as goal
 
 abbrev pub invariant-loop-order : goal.invariant-loop-order

@@ -1,4 +1,4 @@
-use Rattle.std.proofs.Common.{◌≡◌, ◌++◌, ℕ, List, ap, ◌∙◌, arith, map}
+use Rattle.std.proofs.Common.{◌++◌, ℕ, List, ap, ◌∙◌, arith, map}
 use Rattle.std.specs.List.{flat_map}
 use Rattle.itch_print.specs.Disassembly.{ended, lines_between, payload_line}
 use Rattle.itch_print.proofs.Between.{between_all}
