@@ -17,7 +17,7 @@ use itch_arguments::Task;
 use itch_debug::debug_run;
 use itch_dis::{dis_part_run, dis_stream_run};
 use itch_engine::{hex_run, report_run};
-use itch_readings::{Selection, StockFault, StockName, stocks_run, tops_run};
+use itch_readings::{Selection, StockFault, StockName, order_run, stocks_run, tops_run};
 use itch_watch::watch_run;
 use named_files::{Failure, Named};
 use progress::ProgressLines;
@@ -222,6 +222,22 @@ fn print_tops<'a, R: Runtime + AllocGlobal>(
     ended(run.map(|()| 0), &day, &output)
 }
 
+// Writes the life of an order of one of a file's stocks on standard output.
+fn print_order<'a, R: Runtime + AllocGlobal>(
+    rt: &R,
+    terminals: Terminals,
+    path: &'a str,
+    stock: &str,
+    reference: u64,
+) -> Ended<'a> {
+    let mut day = open_day(rt, terminals, path)?;
+    let name = named_stock(stock)?;
+    let mut output = standard_output(rt);
+    let (mut feed, mut sink) = (Feed::new(&mut day), Sink::new(&mut output));
+    let run = order_run(rt.alloc(), &mut feed, &mut sink, name, reference);
+    ended(run.map(|()| 0), &day, &output)
+}
+
 // Replays a file, and writes what a screen of one of its stocks sees meanwhile on standard output.
 fn watch<'a, R: Runtime + AllocGlobal + Threads + Wait + Sync>(
     rt: &R,
@@ -320,6 +336,11 @@ where
         }
         Task::Stocks { file } => list_stocks(rt, terminals, file),
         Task::Tops { file, stock, every } => print_tops(rt, terminals, file, stock, every),
+        Task::Order {
+            file,
+            stock,
+            reference,
+        } => print_order(rt, terminals, file, stock, reference),
         Task::Watch {
             file,
             stock,

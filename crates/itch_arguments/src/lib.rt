@@ -68,6 +68,12 @@ pub enum Task<'a> {
         /// Whether after each of its messages, and not only where they change.
         every: bool,
     },
+    /// To write the life of an order of one of a file's stocks.
+    Order {
+        file: &'a str,
+        stock: &'a str,
+        reference: u64,
+    },
     /// To replay a file, and write what a screen of one of its stocks sees meanwhile.
     Watch {
         file: &'a str,
@@ -175,6 +181,19 @@ fn tops_command<'a>(alloc: Global) -> Result<Command<'a>, AllocError> {
         .args(args)
 }
 
+// The arguments that print an order's life.
+fn order_command<'a>(alloc: Global) -> Result<Command<'a>, AllocError> {
+    let reference = path(alloc, "REFERENCE", "Any reference that the order has had").value_parser(
+        value_parser!(u64),
+    );
+    let args = vec![in alloc; path(alloc, "FILE", DAY_HELP), stock(alloc), reference]?;
+    Command::new(alloc, "order")
+        .about(
+            "Prints each message that names an order, through its replacements, and how it stands at the end",
+        )
+        .args(args)
+}
+
 // The arguments that print what a screen of a stock sees.
 fn watch_command<'a>(alloc: Global) -> Result<Command<'a>, AllocError> {
     let workers = workers(alloc, "How many workers replay the day, from 1 to 64");
@@ -227,6 +246,7 @@ fn add_all<'a>(alloc: Global, commands: &mut Vec<Command<'a>>) -> Result<(), All
     add(commands, dis_command(alloc))?;
     add(commands, stocks_command(alloc))?;
     add(commands, tops_command(alloc))?;
+    add(commands, order_command(alloc))?;
     add(commands, watch_command(alloc))?;
     add(commands, asm_command(alloc))?;
     add(commands, debug_command(alloc))
@@ -290,6 +310,19 @@ fn printing_tops<'a>(matches: &ArgMatches<'a>) -> Option<Task<'a>>
     })
 }
 
+// To write an order's life, where the arguments ask for it.
+fn printing_order<'a>(matches: &ArgMatches<'a>) -> Option<Task<'a>>
+    ensures { IfSome result (λ task. (command_of task ≡ Some (codes "order"))
+        × (subcommand_name_of matches.now ≡ Some (codes "order"))) }
+{
+    let order = matches.subcommand_matches("order")?;
+    Some(Task::Order {
+        file: order.get_str("FILE")?,
+        stock: order.get_str("STOCK")?,
+        reference: order.get_one("REFERENCE")?,
+    })
+}
+
 // To write what a screen of a stock sees, where the arguments ask for it.
 fn watching<'a>(matches: &ArgMatches<'a>) -> Option<Task<'a>>
     ensures { IfSome result (λ task. (command_of task ≡ Some (codes "watch"))
@@ -311,6 +344,9 @@ pub fn chosen_task<'a>(matches: &ArgMatches<'a>) -> Task<'a>
         return task;
     }
     if let Some(task) = printing_tops(matches) {
+        return task;
+    }
+    if let Some(task) = printing_order(matches) {
         return task;
     }
     if let Some(task) = watching(matches) {

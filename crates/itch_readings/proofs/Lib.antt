@@ -8,6 +8,8 @@ mod LongerDays
 mod Searched
 mod OwnMore
 mod TopLinesMore
+mod LinkedLives
+mod KeptHistory
 mod Found
 mod TakenNext
 mod TakenAlong

@@ -3,8 +3,11 @@ use Rattle.std.specs.Prelude.{◌≡◌, ◌^◌, ◌≤◌, ℕ, List, Option, 
 use Rattle.binaryfile.specs.Devices.{Device, GaveAll, HasFailed}
 use Rattle.engine_rules.specs.Limits.{HasTooManyMessages}
 use Rattle.engine_rules.specs.Runs.{Engine, Runs}
+use Rattle.itch_table.specs.After.{after}
 use Rattle.itch_readings.specs.Files.{IsFileOf}
 use Rattle.itch_readings.specs.Naming.{AreListed, NamesNone, NamesStock}
+use Rattle.itch_readings.specs.OrderLives.{order_text}
+use Rattle.itch_readings.specs.OwnMessages.{own_from}
 use Rattle.itch_readings.specs.StockLines.{listed_lines}
 use Rattle.itch_readings.specs.TopLines.{tops_text}
 use Rattle.itch_readings.specs.Tops.{tops_from}
@@ -27,6 +30,14 @@ pub record PrintsTops (name : StockName) (selection : Selection) (text : List �
   pub locate : ℕ
   pub named : NamesStock day name message locate
   pub printed : text ≡ tops_text selection (tops_from day locate message)
+
+-- The day has the stock that is named, and the text is the life of the order that has this reference, by the stock's messages
+-- from the one on with which it begins.
+pub record PrintsOrder (name : StockName) (reference : ℕ) (text : List ℕ) (day : List (List ℕ)) : Type 0 where
+  pub message : ℕ
+  pub locate : ℕ
+  pub named : NamesStock day name message locate
+  pub printed : text ≡ order_text (own_from day locate message) (after day (length day)) locate reference
 
 -- The file hasn't the stock that is named.
 abbrev pub LacksStock : StockName → List ℕ → Type 0
@@ -69,5 +80,13 @@ abbrev pub tops_printer : StockName → Selection → Engine (Unit {0})
 tops_printer name selection = record {
   most = 2 ^ 40;
   Makes = λ input output _. IsFileOf (PrintsTops name selection output) input;
+  Finds = HasTooManyMessages;
+}
+
+-- the engine that reads a day file and writes the life of an order of one of its stocks
+abbrev pub order_printer : StockName → ℕ → Engine (Unit {0})
+order_printer name reference = record {
+  most = 2 ^ 40;
+  Makes = λ input output _. IsFileOf (PrintsOrder name reference output) input;
   Finds = HasTooManyMessages;
 }

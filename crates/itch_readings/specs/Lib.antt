@@ -1,6 +1,8 @@
 pub mod Naming
 pub mod Searching
 pub mod OwnMessages
+pub mod OrderLives
+pub mod OrderHistory
 pub mod Tops
 pub mod TopLines
 pub mod Noting

@@ -1,13 +1,15 @@
-//! Readings of single stocks: the stocks that a day has, and the best bid and ask of one of them along it.
+//! Readings of single stocks: the stocks that a day has, the best bid and ask of one of them along it, and the life of one of
+//! its orders.
 //!
 //! | engine | input | output |
 //! |---|---|---|
 //! | [`stocks_run`] | a day file | a line for each of its stocks |
 //! | [`tops_run`] | a day file | a stock's best bid and ask after each of its messages, or each that changes them |
+//! | [`order_run`] | a day file | an order's life: each message that names it, and how it stands at the end |
 //!
-//! They meet the contract of engines, `Runs` of `engine_rules`, but that [`tops_run`] may find that the day hasn't the
-//! stock ([`StockFault`]). [`stocks_of_file`] and [`tops_of_file`] make their texts, within limits and by segments that a
-//! caller chooses.
+//! They meet the contract of engines, `Runs` of `engine_rules`, but that those of one stock may find that the day hasn't it
+//! ([`StockFault`]). [`stocks_of_file`], [`tops_of_file`] and [`order_of_file`] make their texts, within limits and by
+//! segments that a caller chooses.
 //!
 //! [`tops`] is the best bid and ask of a stock after each of its messages. [`StockName::of_word`] reads the name of a
 //! stock, and [`find_stock`] finds the stock of a day that it names.
@@ -20,14 +22,17 @@
 //! }
 //! ```
 //!
-//! The forms of lines and of names are of this project. An `AllocError`, `ProgFault::Memory` and, of [`tops_run`],
-//! `StockFault::Engine(ProgFault::Memory)` say that memory was refused.
+//! The forms of lines and of names are of this project. An `AllocError`, `ProgFault::Memory` and, of engines of one
+//! stock, `StockFault::Engine(ProgFault::Memory)` say that memory was refused.
 #![tactic(auto)]
 
 mod fault;
+mod lives;
 mod moments;
 mod naming;
 mod noting;
+mod order_engine;
+mod order_history;
 mod search;
 mod segments;
 mod stock_lines;
@@ -38,6 +43,7 @@ mod tops_engine;
 pub use fault::StockFault;
 pub use moments::{Moment, tops};
 pub use naming::StockName;
+pub use order_engine::{order_of_file, order_run};
 pub use search::find_stock;
 pub use stocks_engine::{stocks_of_file, stocks_run};
 pub use top_lines::Selection;

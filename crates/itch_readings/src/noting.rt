@@ -3,8 +3,8 @@ ghost use Rattle.std.specs.Prelude.{ℕ, ◌≡◌, ◌+◌, ◌-◌, ◌<◌, �
 ghost use Rattle.itch_table.specs.After.{after};
 ghost use Rattle.itch_table.specs.Projection.{only};
 ghost use Rattle.itch_readings.specs.Naming.{NamesNone, NamesStock};
-ghost use Rattle.itch_readings.specs.Noting.{TakesNext, HasTaken};
-ghost use Rattle.itch_readings.specs.OwnMessages.{OwnMessage, own_from, own_message};
+ghost use Rattle.itch_readings.specs.Noting.{HasNoted, HasTaken, TakesNext};
+ghost use Rattle.itch_readings.specs.OwnMessages.{OwnMessage, own_message};
 ghost use Rattle.itch_readings.specs.Searching.{HasSearched};
 
 use crate::naming::StockName;
@@ -127,18 +127,17 @@ impl<A: Allocator + Copy, N: Notes + Drop> Noted<A, N> {
         self.note_own(payload)
     }
 
-    /// The notes, or none where no stock has begun.
-    pub fn into_notes(self) -> Option<N>
+    /// The stock's machine and the notes, or none where no stock has begun.
+    pub fn into_parts(self) -> Option<(Stock<A>, N)>
         ensures { (first : N) (day : List (List ℕ)) (name : StockName)
             → HasTaken N.noted first day name self.search self.messages self.stock self.notes
-            → MatchOption result (NamesNone day name)
-            (λ notes. (n : ℕ) × (locate : ℕ) × NamesStock day name n locate
-            × N.noted first notes (own_from day locate n)) }
+            → MatchOption result (NamesNone day name) (λ parts. (n : ℕ)
+            × NamesStock day name n parts.0.locate × HasNoted N.noted first day n parts.0 parts.1) }
     {
-        if self.stock.is_some() {
-            Some(self.notes)
-        } else {
-            None
+        let Noted { stock, notes, .. } = self;
+        match stock {
+            Some(stock) => Some((stock, notes)),
+            None => None,
         }
     }
 }

@@ -49,8 +49,8 @@ pub fn tops_of_file<A: Allocator + Copy, R: Read>(
     let lines = TopLines::new(alloc, selection)?;
     let mut noted = Noted::new(alloc, name, lines)?;
     read_segments(alloc, feed, limits, segment, &mut noted)?;
-    match noted.into_notes() {
-        Some(lines) => Ok(Some(lines.into_text())),
+    match noted.into_parts() {
+        Some((_, lines)) => Ok(Some(lines.into_text())),
         None => Ok(None),
     }
 }

@@ -13,6 +13,8 @@ mod moments;
 #[cfg(test)]
 mod names;
 #[cfg(test)]
+mod orders;
+#[cfg(test)]
 mod runs;
 #[cfg(test)]
 mod segments;
