@@ -1,8 +1,9 @@
-//! A plain expert's replay in Rust, standard library only: the side-by-side figure for speed, and a second opinion on large files.
-//! A hash map of orders with a fast hash and a vector of levels with the best at its end, for each stock; threads by locate modulo workers.
-//! plain_replay replay FILE [--workers N]   prints the report that `itch replay FILE` shall print
-//! plain_replay scan FILE                   only walks the entries and reads each head (the floor)
-//! Built by: rustc -O --edition 2024 plain_replay.rs
+//! A replay in plain Rust, with the standard library alone: what the program's time stands beside, and another reading of
+//! large files. It keeps a hash map of orders with a fast hash and a vector of levels with the best at its end for each
+//! stock, and gives stocks to threads by their locate codes.
+//!
+//!     plain_replay replay FILE [--workers N]   prints the report that `itch replay FILE` prints
+//!     plain_replay scan FILE                   goes over the entries and reads each head, and nothing else
 use std::collections::{BTreeMap, HashMap};
 use std::fmt::Write as _;
 use std::hash::{BuildHasherDefault, Hasher};

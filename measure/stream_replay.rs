@@ -1,10 +1,10 @@
-//! A stronger plain replay in Rust, standard library only: a second anchor for speed and memory, and a model of a replay whose
-//! memory doesn't grow with the file. It publishes nothing and keeps no spent references. The file is read in segments; the reader
-//! copies each message to the buffer of its batch of stocks (locate code modulo BATCHES), behind its number and its length, while
-//! threads do the batches of the segment before, each from its first message to its last. So what a batch reads lies in one piece,
-//! in the order in which it is read, and the rows of some 60 to 130 stocks stay in a processor's own cache.
-//! stream_replay replay FILE [--workers N] [--segment MIB] [--batches B]   prints the report that `itch replay FILE` shall print
-//! Built by: rustc -O --edition 2024 stream_replay.rs
+//! A replay in plain Rust, with the standard library alone, whose memory doesn't grow with the file. It publishes nothing and
+//! keeps no spent references. The file is read in segments. The reader copies each message to the buffer of its batch of
+//! stocks (locate code modulo BATCHES), behind its number and its length, while threads do the batches of the segment before,
+//! each from its first message to its last. So what a batch reads lies in one piece, in the order in which it is read, and the
+//! rows of some 60 to 130 stocks stay in a processor's own cache.
+//!
+//!     stream_replay replay FILE [--workers N] [--segment MIB] [--batches B]   prints the report that `itch replay FILE` prints
 use std::collections::{BTreeMap, HashMap};
 use std::fmt::Write as _;
 use std::hash::{BuildHasherDefault, Hasher};
