@@ -1,5 +1,5 @@
 -- What is kept of a stock's messages, one message on, and the lines of a life by it.
-use Rattle.std.proofs.Common.{◌≡◌, ℕ, ◌+◌, ◌<◌, ◌==◌, Bool, true, false, cond, List, [], ◌∷◌, ◌++◌, Some, drop, get_or, length, map, take, refl, sym, ap, subst, ◌∙◌, append-nil, arith}
+use Rattle.std.proofs.Common.{◌≡◌, ℕ, ◌+◌, ◌<◌, ◌==◌, Bool, true, false, cond, List, [], ◌∷◌, ◌++◌, Option, Some, drop, get_or, length, map, take, refl, sym, ap, subst, ◌∙◌, append-nil, arith}
 use Rattle.std.specs.BTreeMap.{BTreeMap}
 use Rattle.std.specs.List.{flat_map}
 use Rattle.std.proofs.lemmas.Bool.{eqb-true}
@@ -25,11 +25,11 @@ abbrev payload_of : OwnMessage → List ℕ
 payload_of message = message.payload
 
 pub one_kept_more : (kept : List Kept) (payloads : List ℕ) (firsts firsts' : BTreeMap ℕ ℕ) (messages : List OwnMessage) → AreKept kept payloads firsts messages
-    → (number : ℕ) (payload : List ℕ) (found : Outcome) (stock : StockMachine)
+    → (number : ℕ) (payload : List ℕ) (named : Option Order) (found : Outcome) (stock : StockMachine)
     → ((reference : ℕ) → first_by firsts' reference ≡ first_by firsts (earlier_reference (replacement_by found (shape_of payload)) reference))
-    → AreKept (kept ++ kept_of (own_message number payload found stock) ∷ []) (payloads ++ payload) firsts' (messages ++ own_message number payload found stock ∷ [])
-one_kept_more kept payloads firsts firsts' messages before number payload found stock more =
-    let message = own_message number payload found stock in
+    → AreKept (kept ++ kept_of (own_message number payload named found stock) ∷ []) (payloads ++ payload) firsts' (messages ++ own_message number payload named found stock ∷ [])
+one_kept_more kept payloads firsts firsts' messages before number payload named found stock more =
+    let message = own_message number payload named found stock in
     record {
       kept_are = ap (λ (l : List Kept). l ++ kept_of message ∷ []) before.kept_are ∙ sym (map-append kept_of messages (message ∷ []));
       payloads_are = ap (λ (l : List ℕ). l ++ payload) before.payloads_are

@@ -1,23 +1,25 @@
 -- The messages of a stock, one message on.
 use Rattle.std.proofs.Common.{◌≡◌, ◌≢◌, ℕ, zero, suc, ◌+◌, ◌-◌, ◌<◌, ◌≤◌, Bool, true, false, cond, List, [], ◌∷◌, ◌++◌, length, map, refl, sym, ap, subst, ◌∙◌, arith, append-nil}
+use Rattle.itch_layouts.specs.Shapes.{shape_of}
 use Rattle.itch_table.specs.declared.outcome.Outcome.{Outcome}
 use Rattle.itch_table.specs.declared.outcome.Part.TheVariants.{Locate as OfStock}
 use Rattle.itch_table.specs.After.{after, outcome}
 use Rattle.itch_table.specs.Parts.{part}
 use Rattle.itch_table.specs.Projection.{OthersStay, StepsAreOwn, is_of_stock, only, payload_at}
 use Rattle.itch_table.specs.Table.{step}
-use Rattle.itch_table.specs.World.{World}
+use Rattle.itch_table.specs.World.{World, order}
 use Rattle.stock_machine.specs.StockRows.{StockMachine}
-use Rattle.itch_readings.specs.Noting.{HasNoted, Noting}
-use Rattle.itch_readings.specs.OwnMessages.{OwnMessage, own_at, own_from, own_message, own_numbers}
+use Rattle.itch_readings.specs.Noting.{HasNoted, NotesNext, Noting}
+use Rattle.itch_readings.specs.OwnMessages.{OwnMessage, first_order, next_message, order_named, own_at, own_from, own_numbers, references_by}
 use Rattle.itch_readings.proofs.OwnNumbers.{own_more}
 use Rattle.itch_readings.proofs.LongerDays.{after_last, after_more, after_whole, longer, outcome_last, outcome_more, payload_last, payload_more}
 
-own_at_more : (day more : List (List ℕ)) (locate n : ℕ) → 0 < n → n ≤ length day → own_at (day ++ more) locate n ≡ own_at day locate n
+pub own_at_more : (day more : List (List ℕ)) (locate n : ℕ) → 0 < n → n ≤ length day → own_at (day ++ more) locate n ≡ own_at day locate n
 own_at_more day more locate n some within = λ i. record {
   locate = locate;
   number = n;
   payload = payload_more day more n some within i;
+  named = order_named (after_more day more (n - 1) (omega (arith, within)) i) locate (payload_more day more n some within i);
   outcome = outcome_more day more n some within i;
   rows = only locate (after_more day more n within i);
 }
@@ -50,6 +52,46 @@ module _ (day : List (List ℕ)) (payload : List ℕ) (locate n : ℕ) (some : 0
       ∙ (λ i. own_before day (payload ∷ []) locate n count some (omega (arith, seam)) i
       ++ cond ((ap (is_of_stock locate) (payload_last day payload) ∙ is) i) (own_at whole locate (length day + 1) ∷ []) [])
 
+-- ---- the message that a stock's machine takes next
+
+-- an order is found in its stock's own rows
+abbrev pub OrdersAreOwn : Type 0
+OrdersAreOwn = (w : World) (locate reference : ℕ) → order (only locate w) locate reference ≡ order w locate reference
+
+pub first_own : OrdersAreOwn → (w : World) (locate : ℕ) (references : List ℕ) → first_order (only locate w) locate references ≡ first_order w locate references
+first_own orders w locate [] = refl
+first_own orders w locate (reference ∷ others) = orders w locate reference
+
+module _ (own : StepsAreOwn) (orders : OrdersAreOwn) (day : List (List ℕ)) (payload : List ℕ) (stock : StockMachine)
+    (world : stock.world ≡ only stock.locate (after day (length day))) (at : part payload ≡ OfStock stock.locate) where
+  took : step stock.world payload ≡ ((step (after day (length day)) payload).0, only stock.locate (step (after day (length day)) payload).1)
+  took = ap (λ (w : World). step w payload) world ∙ own (after day (length day)) payload stock.locate at
+
+  pub rows_next : (step stock.world payload).1 ≡ only stock.locate (after (day ++ payload ∷ []) (length (day ++ payload ∷ [])))
+  rows_next = ap (λ (r : Outcome × World). r.1) took ∙ ap (only stock.locate) (sym (after_whole day payload))
+
+  before_it : after (day ++ payload ∷ []) (length day + 1 - 1) ≡ after day (length day)
+  before_it =
+      let same : length day + 1 - 1 ≡ length day = omega arith in
+      ap (after (day ++ payload ∷ [])) same ∙ after_more day (payload ∷ []) (length day) (omega arith)
+
+  named_next : order_named stock.world stock.locate payload
+      ≡ order_named (after (day ++ payload ∷ []) (length day + 1 - 1)) stock.locate (payload_at (day ++ payload ∷ []) (length day + 1))
+  named_next =
+      ap (λ (w : World). order_named w stock.locate payload) world
+      ∙ first_own orders (after day (length day)) stock.locate (references_by (shape_of payload))
+      ∙ (λ i. order_named (sym before_it i) stock.locate (sym (payload_last day payload) i))
+
+  pub message_next : next_message (length day + 1) payload stock ≡ own_at (day ++ payload ∷ []) stock.locate (length day + 1)
+  message_next = λ i. record {
+    locate = stock.locate;
+    number = length day + 1;
+    payload = sym (payload_last day payload) i;
+    named = named_next i;
+    outcome = (ap (λ (r : Outcome × World). r.0) took ∙ sym (outcome_last day payload)) i;
+    rows = (ap (λ (r : Outcome × World). r.1) took ∙ ap (only stock.locate) (sym (after_last day payload))) i;
+  }
+
 module _ {N : Type 0} (AreOf : Noting N) (first : N) (day : List (List ℕ)) (payload : List ℕ) (n : ℕ) (stock : StockMachine) (notes : N)
     (some : 0 < n) (within : n ≤ length day + 1) (before : HasNoted AreOf first day n stock notes) where
   -- another stock's message, or one of none
@@ -65,28 +107,17 @@ module _ {N : Type 0} (AreOf : Noting N) (first : N) (day : List (List ℕ)) (pa
       }
 
   -- the stock's own
-  pub own_noted : StepsAreOwn → part payload ≡ OfStock stock.locate → is_of_stock stock.locate payload ≡ true
-      → (found : Outcome) (next : StockMachine) → next.locate ≡ stock.locate → (found, next.world) ≡ step stock.world payload → next.steps ≡ stock.steps + 1
-      → (notes' : N) → AreOf first notes' (own_from day stock.locate n ++ own_message (length day + 1) payload found next ∷ [])
+  pub own_noted : StepsAreOwn → OrdersAreOwn → part payload ≡ OfStock stock.locate → is_of_stock stock.locate payload ≡ true
+      → (next : StockMachine) (notes' : N) → NotesNext AreOf (length day + 1) payload stock next notes notes'
       → HasNoted AreOf first (day ++ payload ∷ []) n next notes'
-  own_noted own at on found next stays took counted notes' noted =
+  own_noted own orders at on next notes' took =
       let whole = day ++ payload ∷ [] in
-      let took_own = took ∙ ap (λ (w : World). step w payload) before.world ∙ own (after day (length day)) payload stock.locate at in
-      let world : next.world ≡ only stock.locate (after whole (length day + 1)) =
-      ap (λ (r : Outcome × World). r.1) took_own ∙ ap (only stock.locate) (sym (after_last day payload)) in
-      let outcome_is : found ≡ outcome whole (length day + 1) = ap (λ (r : Outcome × World). r.0) took_own ∙ sym (outcome_last day payload) in
-      let here : own_at whole stock.locate (length day + 1) ≡ own_message (length day + 1) payload found next = λ i. record {
-        locate = sym stays i;
-        number = length day + 1;
-        payload = payload_last day payload i;
-        outcome = sym outcome_is i;
-        rows = sym world i;
-      } in
-      let all : own_from whole next.locate n ≡ own_from day stock.locate n ++ own_message (length day + 1) payload found next ∷ [] =
-      ap (λ (l : ℕ). own_from whole l n) stays ∙ own_next day payload stock.locate n some within true on
-      ∙ ap (λ (m : OwnMessage). own_from day stock.locate n ++ m ∷ []) here in
+      let world : next.world ≡ only stock.locate (after whole (length whole)) = took.world ∙ rows_next own orders day payload stock before.world at in
+      let all : own_from whole next.locate n ≡ own_from day stock.locate n ++ next_message (length day + 1) payload stock ∷ [] =
+      ap (λ (l : ℕ). own_from whole l n) took.locate ∙ own_next day payload stock.locate n some within true on
+      ∙ ap (λ (m : OwnMessage). own_from day stock.locate n ++ m ∷ []) (sym (message_next own orders day payload stock before.world at)) in
       record {
-        world = world ∙ (λ i. only (sym stays i) (after whole (sym (longer day payload) i)));
-        steps = omega (arith, counted, before.steps, longer day payload);
-        noted = subst (AreOf first notes') (sym all) noted;
+        world = world ∙ (λ i. only (sym took.locate i) (after whole (length whole)));
+        steps = omega (arith, took.steps, before.steps, longer day payload);
+        noted = subst (AreOf first notes') (sym all) (took.noted first (own_from day stock.locate n) before.noted);
       }

@@ -1,19 +1,16 @@
 -- A stock that is named, whose messages are noted, one message on.
 use Rattle.std.proofs.Common.{◌≡◌, ℕ, ◌+◌, ◌-◌, ◌^◌, ◌<◌, true, false, List, [], ◌∷◌, ◌++◌, length, Option, Some, None, sym, ap, subst, ◌∙◌, arith}
 use Rattle.std.specs.Prelude.{IfSome, is_some}
-use Rattle.itch_table.specs.declared.outcome.Outcome.{Outcome}
 use Rattle.itch_table.specs.Parts.{part}
 use Rattle.itch_table.specs.Projection.{OthersStay, StepsAreOwn, is_of_stock}
-use Rattle.itch_table.specs.Table.{step}
 use Rattle.itch_table.proofs.StockDays.{other_part, own_part}
 use Rattle.stock_machine.specs.StockRows.{StockMachine}
 use Rattle.itch_readings.specs.Naming.{NamesStock}
-use Rattle.itch_readings.specs.Noting.{TakesNext, HasTaken, NotesBefore, Noting}
-use Rattle.itch_readings.specs.OwnMessages.{OwnMessage, own_from, own_message}
+use Rattle.itch_readings.specs.Noting.{HasTaken, NotesBefore, NotesNext, Noting, TakesNext}
 use Rattle.itch_readings.specs.Searching.{Search}
 use Rattle.itch_readings.specs.declared.naming.StockName.{StockName}
 use Rattle.itch_readings.proofs.LongerDays.{longer, names_more}
-use Rattle.itch_readings.proofs.OwnMore.{others_noted, own_noted}
+use Rattle.itch_readings.proofs.OwnMore.{OrdersAreOwn, others_noted, own_noted}
 
 module _ {N : Type 0} (AreOf : Noting N) (first : N) (day : List (List ℕ)) (payload : List ℕ) (name : StockName) (search : Search) (messages : ℕ) (notes : N) where
   -- a machine has room for a message more
@@ -59,23 +56,21 @@ module _ {N : Type 0} (AreOf : Noting N) (first : N) (day : List (List ℕ)) (pa
       }
 
   -- the stock's own message
-  pub own_next : (held : Option StockMachine) (stock : StockMachine) → held ≡ Some stock → StepsAreOwn → is_of_stock stock.locate payload ≡ true
-      → (found : Outcome) (next : StockMachine) → next.locate ≡ stock.locate → (found, next.world) ≡ step stock.world payload → next.steps ≡ stock.steps + 1
-      → (notes' : N) → ((before : List OwnMessage) → AreOf first notes before → AreOf first notes' (before ++ own_message messages payload found next ∷ []))
+  pub own_next : (held : Option StockMachine) (stock : StockMachine) → held ≡ Some stock → StepsAreOwn → OrdersAreOwn → is_of_stock stock.locate payload ≡ true
+      → (next : StockMachine) (notes' : N) → NotesNext AreOf messages payload stock next notes notes'
       → TakesNext AreOf first day payload name search messages held notes
       → HasTaken AreOf first (day ++ payload ∷ []) name search messages (Some next) notes'
-  own_next held stock is own on found next stays took counted notes' noted takes =
+  own_next held stock is own orders on next notes' took takes =
       let so_far : NotesBefore AreOf first day payload search (Some stock) notes =
       subst (λ (o : Option StockMachine). NotesBefore AreOf first day payload search o notes) is takes.so_far in
-      let messages_are = own_from day stock.locate so_far.0 in
       record {
         name_is = takes.name_is;
         counted = takes.counted ∙ sym (longer day payload);
         so_far = (
           so_far.0,
-          subst (λ (l : ℕ). NamesStock (day ++ payload ∷ []) search.name so_far.0 l) (sym stays) so_far.1,
+          subst (λ (l : ℕ). NamesStock (day ++ payload ∷ []) search.name so_far.0 l) (sym took.locate) so_far.1,
           own_noted AreOf first day payload so_far.0 stock notes so_far.1.some (omega (arith, so_far.1.within, longer day payload)) so_far.2
-              own (own_part stock.locate (part payload) on) on found next stays took counted notes'
-              (subst (λ (k : ℕ). AreOf first notes' (messages_are ++ own_message k payload found next ∷ [])) takes.counted (noted messages_are so_far.2.noted)),
+              own orders (own_part stock.locate (part payload) on) on next notes'
+              (subst (λ (k : ℕ). NotesNext AreOf k payload stock next notes notes') takes.counted took),
         );
       }

@@ -1,5 +1,5 @@
 -- The lines of a stock's best bid and ask, by its messages.
-use Rattle.std.proofs.Common.{◌≡◌, ℕ, ◌+◌, ◌-◌, List, [], ◌∷◌, ◌++◌, length, map, refl, sym, ap, subst, ◌∙◌, append-nil}
+use Rattle.std.proofs.Common.{◌≡◌, ℕ, ◌+◌, ◌-◌, List, [], ◌∷◌, ◌++◌, Option, length, map, refl, sym, ap, subst, ◌∙◌, append-nil}
 use Rattle.std.proofs.lemmas.List.{append_assoc, map-append}
 use Rattle.itch_table.specs.declared.order.Top.{Top}
 use Rattle.itch_table.specs.declared.order.Order.{Order}
@@ -39,15 +39,15 @@ text_more selection moments at =
     ∙ sym (append_assoc field_names (moment_lines selection no_top moments) (shown_line selection (last_top no_top moments) at))
 
 pub one_line_more : (selection chosen : Selection) (before : Top) (text : List ℕ) (messages : List OwnMessage) → AreLines selection chosen before text messages
-    → (number : ℕ) (payload : List ℕ) (found : Outcome) (stock : StockMachine) (shown : Top) → shown ≡ top (orders_of stock.world stock.locate)
+    → (number : ℕ) (payload : List ℕ) (named : Option Order) (found : Outcome) (stock : StockMachine) (shown : Top) → shown ≡ top (orders_of stock.world stock.locate)
     → (text' : List ℕ) → text' ≡ text ++ shown_line chosen before (record { message = number; time = time_of payload; top = shown })
-    → AreLines selection chosen shown text' (messages ++ own_message number payload found stock ∷ [])
-one_line_more selection chosen before text messages lines number payload found stock shown shown_is text' added =
-    let at = moment_of (own_message number payload found stock) in
+    → AreLines selection chosen shown text' (messages ++ own_message number payload named found stock ∷ [])
+one_line_more selection chosen before text messages lines number payload named found stock shown shown_is text' added =
+    let at = moment_of (own_message number payload named found stock) in
     let here : record { message = number; time = time_of payload; top = shown } ≡ at =
     ap (λ (t : Top). record { message = number; time = time_of payload; top = t }) shown_is in
-    let all : map moment_of (messages ++ own_message number payload found stock ∷ []) ≡ map moment_of messages ++ at ∷ [] =
-    map-append moment_of messages (own_message number payload found stock ∷ []) in
+    let all : map moment_of (messages ++ own_message number payload named found stock ∷ []) ≡ map moment_of messages ++ at ∷ [] =
+    map-append moment_of messages (own_message number payload named found stock ∷ []) in
     record {
       chosen_is = lines.chosen_is;
       last = shown_is ∙ sym (last_more no_top (map moment_of messages) at) ∙ ap (last_top no_top) (sym all);

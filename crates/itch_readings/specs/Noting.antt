@@ -2,15 +2,25 @@
 use Rattle.std.specs.Prelude.{◌≡◌, ◌+◌, ◌≤◌, ℕ, List, [], ◌∷◌, ◌++◌, length, Option, Some, None}
 use Rattle.itch_table.specs.After.{after}
 use Rattle.itch_table.specs.Projection.{only}
+use Rattle.itch_table.specs.Table.{step}
 use Rattle.stock_machine.specs.StockRows.{StockMachine}
 use Rattle.itch_readings.specs.Naming.{NamesStock}
-use Rattle.itch_readings.specs.OwnMessages.{OwnMessage, own_from}
+use Rattle.itch_readings.specs.OwnMessages.{OwnMessage, next_message, own_from}
 use Rattle.itch_readings.specs.Searching.{HasSearched, Search}
 use Rattle.itch_readings.specs.declared.naming.StockName.{StockName}
 
 -- How notes come from others by the messages that were noted.
 abbrev pub Noting : Type 0 → Type 1
 Noting N = N → N → List OwnMessage → Type 0
+
+-- a stock's machine took the stock's next message, and it was noted
+pub record NotesNext {N : Type 0} (AreOf : Noting N) (number : ℕ) (payload : List ℕ) (stock next : StockMachine)
+    (notes more : N) : Type 0 where
+  pub locate : next.locate ≡ stock.locate
+  pub world : next.world ≡ (step stock.world payload).1
+  pub steps : next.steps ≡ stock.steps + 1
+  pub noted : (first : N) (before : List OwnMessage)
+      → AreOf first notes before → AreOf first more (before ++ next_message number payload stock ∷ [])
 
 -- the machine has taken the stock's messages of a day, and those from message n on were noted
 pub record HasNoted {N : Type 0} (AreOf : Noting N) (first : N) (day : List (List ℕ)) (n : ℕ) (stock : StockMachine)

@@ -2,7 +2,6 @@
 -- Nasdaq TotalView-ITCH 5.0's "Order Replace Message"; the rest is of this project.
 use Rattle.std.specs.Prelude.{ℕ, ◌==◌, Bool, true, false, if◌then◌else◌, List, [], ◌∷◌, ◌++◌, Option, Some, None, find, codes, decimal}
 use Rattle.std.specs.List.{flat_map, list_any}
-use Rattle.itch_layouts.specs.References.{references}
 use Rattle.itch_layouts.specs.Shapes.{shape_of}
 use Rattle.itch_layouts.specs.declared.message.Msg.TheVariants.{Replace as Replaced}
 use Rattle.itch_layouts.specs.declared.message.Replace.{Replace}
@@ -14,7 +13,7 @@ use Rattle.itch_table.specs.declared.outcome.Outcome.{Outcome}
 use Rattle.itch_table.specs.declared.outcome.Outcome.TheVariants.{Applied}
 use Rattle.itch_table.specs.World.{World, is_spent, orders_of}
 use Rattle.stock_text.specs.Orders.{order_line, outcome_words}
-use Rattle.itch_readings.specs.OwnMessages.{OwnMessage}
+use Rattle.itch_readings.specs.OwnMessages.{OwnMessage, references_by}
 
 -- ---- lives
 
@@ -39,11 +38,6 @@ first_reference [] reference = reference
 first_reference (message ∷ later) reference = earlier_by message (first_reference later reference)
 
 -- ---- lines
-
--- the references by which a payload names orders
-abbrev pub references_by : Shape → List ℕ
-references_by (Known m) = references m
-references_by other = []
 
 -- whether a payload names an order by a reference of this one's life, by the first reference of each life
 abbrev pub names_life : (ℕ → ℕ) → ℕ → List ℕ → Bool

@@ -30,6 +30,7 @@ mod fault;
 mod lives;
 mod moments;
 mod naming;
+mod notes;
 mod noting;
 mod order_engine;
 mod order_history;

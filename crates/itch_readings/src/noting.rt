@@ -4,34 +4,16 @@ ghost use Rattle.itch_table.specs.After.{after};
 ghost use Rattle.itch_table.specs.Projection.{only};
 ghost use Rattle.itch_readings.specs.Naming.{NamesNone, NamesStock};
 ghost use Rattle.itch_readings.specs.Noting.{HasNoted, HasTaken, TakesNext};
-ghost use Rattle.itch_readings.specs.OwnMessages.{OwnMessage, own_message};
 ghost use Rattle.itch_readings.specs.Searching.{HasSearched};
 
 use crate::naming::StockName;
+use crate::notes::{Notes, note_next};
 use crate::search::StockSearch;
 use crate::segments::TakesSegments;
 use binaryfile::Day;
-use itch_table::{Outcome, is_of_stock, stocks_are_independent};
+use itch_table::{is_of_stock, own_rows_suffice, stocks_are_independent};
 use std::alloc::{AllocError, Allocator};
 use stock_machine::Stock;
-
-/// Takes note of the messages of a stock, in their order.
-pub(crate) trait Notes {
-    /// How notes come from others by these messages.
-    ghost noted: { Self → Self → List OwnMessage → Type 0 };
-
-    /// Takes note of the stock's next message, by its number in the day, its payload, its outcome, and the stock's machine
-    /// after it. After an error, which says that memory was refused, the notes are of no use.
-    fn note<B: Allocator + Copy>(
-        &mut self,
-        number: u32,
-        payload: &[u8],
-        outcome: Outcome,
-        stock: &Stock<B>,
-    ) -> Result<(), AllocError>
-        ensures { OnOk result ((first : Self) (before : List OwnMessage) → noted first self.old before
-            → noted first self.new (before ++ own_message number payload.now outcome stock.now ∷ [])) };
-}
 
 // The machine of the stock that is named, where the stock begins with the next message.
 fn begun_by<A: Allocator + Copy>(
@@ -101,16 +83,16 @@ impl<A: Allocator + Copy, N: Notes + Drop> Noted<A, N> {
             → HasTaken N.noted first (day ++ payload.now ∷ []) name self.new.search
             self.new.messages self.new.stock self.new.notes) }
     {
-        // A law that the proof cites: it does nothing.
+        // Laws that the proof cites: they do nothing.
         stocks_are_independent();
+        own_rows_suffice();
         let Some(stock) = &mut self.stock else {
             return Ok(());
         };
         if !is_of_stock(payload, stock.locate()) {
             return Ok(());
         }
-        let outcome = stock.step(payload)?;
-        self.notes.note(self.messages, payload, outcome, stock)
+        note_next(&mut self.notes, self.messages, payload, stock)
     }
 
     // Takes the next message of the day.

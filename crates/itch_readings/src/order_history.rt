@@ -6,9 +6,9 @@ ghost use Rattle.itch_readings.specs.OrderLives.{life_line};
 ghost use Rattle.itch_readings.specs.OwnMessages.{OwnMessage};
 
 use crate::lives::Lives;
-use crate::noting::Notes;
+use crate::notes::Notes;
 use itch_print::put_payload;
-use itch_table::Outcome;
+use itch_table::{Order, Outcome};
 use std::alloc::{AllocError, Allocator};
 use stock_machine::Stock;
 use stock_text::put_outcome;
@@ -91,6 +91,7 @@ impl<A: Allocator + Copy> Notes for OrderHistory<A> {
         &mut self,
         number: u32,
         payload: &[u8],
+        _named: Option<Order>,
         outcome: Outcome,
         _stock: &Stock<B>,
     ) -> Result<(), AllocError> {

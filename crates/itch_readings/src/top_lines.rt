@@ -5,8 +5,8 @@ ghost use Rattle.itch_readings.specs.OwnMessages.{OwnMessage};
 ghost use Rattle.itch_readings.specs.TopLines.{AreLines, differs, field_names, is_shown, moment_line, shown_line, side_fields};
 
 use crate::moments::{Moment, time_in};
-use crate::noting::Notes;
-use itch_table::{Outcome, Top};
+use crate::notes::Notes;
+use itch_table::{Order, Outcome, Top};
 use std::alloc::{AllocError, Allocator};
 use stock_machine::Stock;
 use text_fields::put_count;
@@ -132,6 +132,7 @@ impl<A: Allocator> Notes for TopLines<A> {
         &mut self,
         number: u32,
         payload: &[u8],
+        _named: Option<Order>,
         _outcome: Outcome,
         stock: &Stock<B>,
     ) -> Result<(), AllocError> {

@@ -8,4 +8,5 @@ abbrev pub invariant-loop-payload : goal.invariant-loop-payload
 invariant-loop-payload g l =
     (first : g.row.N.Denot) (day : List (List ℕ)) (name : StockName)
     → HasTaken g.N.Notes.noted first day name l.fn.self.search l.fn.self.messages l.fn.self.stock l.fn.self.notes
-    → HasTakenAlong g.N.Notes.noted first (day ++ l.segment.payloads) l.payload-iterator name l.self.search l.self.messages l.self.stock l.self.notes
+    → HasTakenAlong (λ d. HasTaken g.N.Notes.noted first d name l.self.search l.self.messages l.self.stock l.self.notes)
+    (day ++ l.segment.payloads) l.payload-iterator
