@@ -14,3 +14,8 @@ mod Found
 mod TakenNext
 mod TakenAlong
 mod FileTaken
+mod MarkedTrades
+mod AllTaken
+mod MachineSlots
+mod TradeSteps
+pub mod TradeRows

@@ -3,7 +3,7 @@ use Rattle.std.proofs.Common.{◌≡◌, ◌≢◌, ℕ, zero, suc, ◌+◌, ◌
 use Rattle.itch_layouts.specs.Shapes.{shape_of}
 use Rattle.itch_table.specs.declared.outcome.Outcome.{Outcome}
 use Rattle.itch_table.specs.declared.outcome.Part.TheVariants.{Locate as OfStock}
-use Rattle.itch_table.specs.After.{after, outcome}
+use Rattle.itch_table.specs.After.{after}
 use Rattle.itch_table.specs.Parts.{part}
 use Rattle.itch_table.specs.Projection.{OthersStay, StepsAreOwn, is_of_stock, only, payload_at}
 use Rattle.itch_table.specs.Table.{step}

@@ -4,6 +4,7 @@ use Rattle.binaryfile.specs.Devices.{Device, GaveAll, HasFailed}
 use Rattle.engine_rules.specs.Limits.{HasTooManyMessages}
 use Rattle.engine_rules.specs.Runs.{Engine, Runs}
 use Rattle.itch_table.specs.After.{after}
+use Rattle.itch_readings.specs.AllStocks.{own_all}
 use Rattle.itch_readings.specs.Files.{IsFileOf}
 use Rattle.itch_readings.specs.Naming.{AreListed, NamesNone, NamesStock}
 use Rattle.itch_readings.specs.OrderLives.{order_text}
@@ -11,6 +12,7 @@ use Rattle.itch_readings.specs.OwnMessages.{own_from}
 use Rattle.itch_readings.specs.StockLines.{listed_lines}
 use Rattle.itch_readings.specs.TopLines.{tops_text}
 use Rattle.itch_readings.specs.Tops.{tops_from}
+use Rattle.itch_readings.specs.TradeLines.{trades_text}
 use Rattle.itch_readings.specs.declared.fault.StockFault.{StockFault}
 use Rattle.itch_readings.specs.declared.fault.StockFault.TheVariants.{NoStock, Engine as OfEngine}
 use Rattle.itch_readings.specs.declared.naming.Listed.{Listed}
@@ -38,6 +40,18 @@ pub record PrintsOrder (name : StockName) (reference : ℕ) (text : List ℕ) (d
   pub locate : ℕ
   pub named : NamesStock day name message locate
   pub printed : text ≡ order_text (own_from day locate message) (after day (length day)) locate reference
+
+-- The day has the stock that is named, and the text is that of its trades, by the stock's messages from the one on with
+-- which it begins.
+pub record PrintsStockTrades (name : StockName) (text : List ℕ) (day : List (List ℕ)) : Type 0 where
+  pub message : ℕ
+  pub locate : ℕ
+  pub named : NamesStock day name message locate
+  pub printed : text ≡ trades_text (own_from day locate message)
+
+-- The text is that of the trades of all stocks.
+abbrev pub PrintsTrades : List ℕ → List (List ℕ) → Type 0
+PrintsTrades text day = text ≡ trades_text (own_all day)
 
 -- The file hasn't the stock that is named.
 abbrev pub LacksStock : StockName → List ℕ → Type 0
@@ -88,5 +102,21 @@ abbrev pub order_printer : StockName → ℕ → Engine (Unit {0})
 order_printer name reference = record {
   most = 2 ^ 40;
   Makes = λ input output _. IsFileOf (PrintsOrder name reference output) input;
+  Finds = HasTooManyMessages;
+}
+
+-- the engine that reads a day file and writes the trades of one of its stocks
+abbrev pub stock_trades_printer : StockName → Engine (Unit {0})
+stock_trades_printer name = record {
+  most = 2 ^ 40;
+  Makes = λ input output _. IsFileOf (PrintsStockTrades name output) input;
+  Finds = HasTooManyMessages;
+}
+
+-- the engine that reads a day file and writes the trades of all stocks
+abbrev pub trades_printer : Engine (Unit {0})
+trades_printer = record {
+  most = 2 ^ 40;
+  Makes = λ input output _. IsFileOf (PrintsTrades output) input;
   Finds = HasTooManyMessages;
 }

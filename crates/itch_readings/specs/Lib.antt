@@ -2,11 +2,16 @@ pub mod Naming
 pub mod Searching
 pub mod OwnMessages
 pub mod OrderLives
+pub mod Trades
+pub mod BrokenTrades
+pub mod TradeLines
 pub mod OrderHistory
 pub mod Tops
 pub mod TopLines
 pub mod Noting
+pub mod AllStocks
 pub mod StockLines
 pub mod StockFaults
 pub mod Files
 pub mod Engines
+pub mod TradeLaws

@@ -14,8 +14,8 @@ abbrev pub Noting : Type 0 → Type 1
 Noting N = N → N → List OwnMessage → Type 0
 
 -- a stock's machine took the stock's next message, and it was noted
-pub record NotesNext {N : Type 0} (AreOf : Noting N) (number : ℕ) (payload : List ℕ) (stock next : StockMachine)
-    (notes more : N) : Type 0 where
+pub record NotesNext {N : Type 0} (AreOf : Noting N) (number : ℕ) (payload : List ℕ)
+    (stock next : StockMachine) (notes more : N) : Type 0 where
   pub locate : next.locate ≡ stock.locate
   pub world : next.world ≡ (step stock.world payload).1
   pub steps : next.steps ≡ stock.steps + 1

@@ -19,4 +19,6 @@ mod runs;
 #[cfg(test)]
 mod segments;
 #[cfg(test)]
+mod trades;
+#[cfg(test)]
 mod watching;

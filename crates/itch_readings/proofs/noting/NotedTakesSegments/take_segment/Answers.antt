@@ -1,4 +1,4 @@
-use Rattle.std.proofs.Common.{◌∙◌, ◌++◌, List, ℕ, arith}
+use Rattle.std.proofs.Common.{◌∙◌, ◌++◌, arith}
 use Rattle.std.proofs.lemmas.List.{length-append}
 use Rattle.itch_readings.specs.Noting.{HasTaken}
 use Rattle.itch_readings.proofs.TakenAlong.{along_all, along_first, along_fits, along_next}
