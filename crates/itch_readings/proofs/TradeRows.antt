@@ -15,17 +15,17 @@ use Rattle.itch_table.specs.After.{after, outcome}
 use Rattle.itch_table.specs.Parts.{part}
 use Rattle.itch_table.specs.Projection.{IsQuiet, is_of_stock, only, payload_at}
 use Rattle.itch_table.specs.Table.{step}
-use Rattle.itch_table.specs.Trades.{broken_at}
+use Rattle.itch_table.specs.Trades.{broken_at, totals_of}
 use Rattle.itch_table.specs.World.{World, directory, empty_world}
 use Rattle.itch_table.proofs.Days.{after-next, after-none, outcome-next}
 use Rattle.itch_table.proofs.OneStock.{order-only}
 use Rattle.itch_table.proofs.OwnSteps.{steps_are_own}
 use Rattle.itch_table.proofs.StockDays.{only-empty, other_next, other_part, own_part, rows_stand_still}
 use Rattle.itch_readings.specs.AllStocks.{own_by, own_until}
-use Rattle.itch_readings.specs.OwnMessages.{OwnMessage, order_named, own_at, own_numbers, references_by}
+use Rattle.itch_readings.specs.OwnMessages.{OwnMessage, order_named, own_at, own_from, own_numbers, references_by}
 use Rattle.itch_readings.specs.Naming.{NamesStock}
-use Rattle.itch_readings.specs.TradeLaws.{AllTradesAreRows, StockTradesAreRows, row_of}
-use Rattle.itch_readings.specs.Trades.{event_by, event_of, events_of, first_break, trades_of}
+use Rattle.itch_readings.specs.TradeLaws.{AllTradesAreRows, StockTradesAreRows, TotalsAreOfTrades, row_of, table_row}
+use Rattle.itch_readings.specs.Trades.{event_by, event_of, events_of, first_break, trades_made, trades_of}
 use Rattle.itch_readings.specs.declared.naming.StockName.{StockName}
 use Rattle.itch_readings.specs.declared.naming.StockName.TheVariants.{Locate, Symbol}
 use Rattle.itch_readings.specs.declared.trades.Trade.{Trade}
@@ -213,4 +213,12 @@ stock_rows day name n locate named =
     rows_from day locate n (length day + 1 - n) named.some (begins_empty day name n locate named)
     ∙ ap (λ (k : ℕ). (only locate (after day k)).trades) all ∙ only-trades locate (after day (length day))
 
-pub ruleset trades_are_rows = (all_rows, stock_rows)
+rows_alone : (trades : List Trade) → map table_row trades ≡ map (λ row. row.1) (map row_of trades)
+rows_alone [] = refl
+rows_alone (trade ∷ rest) = ap (λ (l : List TradeRow). table_row trade ∷ l) (rows_alone rest)
+
+pub stock_totals : TotalsAreOfTrades
+stock_totals day name n locate named =
+    ap totals_of (rows_alone (trades_made (own_from day locate n)) ∙ ap (map (λ row. row.1)) (stock_rows day name n locate named))
+
+pub ruleset trades_are_rows = (all_rows, stock_rows, stock_totals)
