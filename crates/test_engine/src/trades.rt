@@ -274,11 +274,15 @@ fn nothing_is_sent_after_a_failed_read(rt: HostRuntime) -> Result<(), Fail> {
     Ok(())
 }
 
+// For all stocks a list of 2^16 places is made each time, so a few prefixes do.
 #[test]
 fn a_prefix_is_sent_before_a_failed_write(rt: HostRuntime) -> Result<(), Fail> {
     let file = file_of(rt.alloc(), &messages())?;
     for (name, text) in [(None, ALL), (Some(StockName::Locate(2)), SECOND)] {
         for taken in 0..text.len() {
+            if name.is_none() && taken % 40 != 0 {
+                continue;
+            }
             let failing = (taken as u64).saturating_add(1);
             let mut output = Narrow::failing(rt.alloc(), failing, Failure::TakesNone);
             let returned = run(rt.alloc(), file.as_slice(), &mut output, name);
