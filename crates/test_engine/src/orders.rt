@@ -3,14 +3,14 @@ use binaryfile::{Feed, LoadFault, Sink};
 use itch_engine::ProgFault;
 use itch_layouts::Msg;
 use itch_readings::{StockFault, StockName, order_of_file, order_run};
-use std::alloc::{AllocError, Allocator};
+use std::alloc::Allocator;
 use std::io::{ErrorKind, Read};
 use std::test::Fail;
 use test_refusing::{Refusal, Refusing, Tried, refuse_each};
 use test_support::{AAPL, AMPLE, Failure, MSFT, Narrow, Pieces, add_entry, same, same_bytes};
 
 // A day of two stocks. The order 1 of the first becomes 2 and then 5, and is deleted; the order 3 stays; a replacement of 3
-// by 2 is refused, since 2 was had; and the second stock has an order 2 of its own, which becomes 9.
+// by 2 is refused, since 2 lives; and the second stock has an order 2 of its own, which becomes 9.
 fn messages() -> [Msg; 13] {
     [
         AAPL.directory(),

@@ -1,7 +1,8 @@
-//! The texts of a file's stocks, and of one's best bid and ask, wherever the file is cut into segments, and within limits.
+//! The texts of a file's stocks, of one's best bid and ask and of an order's life, wherever the file is cut into segments, and
+//! within limits.
 use crate::engines::{TOPS, TWO_STOCKS};
 use binaryfile::{Feed, Limits, LoadFault};
-use itch_readings::{Selection, StockName, stocks_of_file, tops_of_file};
+use itch_readings::{Selection, StockName, order_of_file, stocks_of_file, tops_of_file};
 use std::alloc::Allocator;
 use std::io::{ErrorKind, Read};
 use std::test::Fail;
@@ -13,11 +14,14 @@ use test_support::{AMPLE, FILE, Pieces, STORED_RUN, same, same_bytes};
 enum Question {
     Stocks,
     Tops(StockName, Selection),
+    Order(StockName, u64),
 }
 
 const AAPL: StockName = StockName::Symbol(*b"AAPL    ");
 
 const CHANGES: Question = Question::Tops(AAPL, Selection::Changes);
+
+const QUESTIONS: [Question; 3] = [Question::Stocks, CHANGES, Question::Order(AAPL, 1)];
 
 // A file, a question and the text; none where the file hasn't the stock.
 type Case = (&'static [u8], Question, Option<&'static [u8]>);
@@ -147,6 +151,9 @@ fn answer<A: Allocator + Copy, R: Read>(
         Question::Tops(name, selection) => {
             tops_of_file(alloc, feed, limits, segment, name, selection)
         }
+        Question::Order(name, reference) => {
+            order_of_file(alloc, feed, limits, segment, name, reference)
+        }
     })
 }
 
@@ -211,7 +218,7 @@ fn try_limits<A: Allocator + Copy>(
     limits: Limits,
     fault: Option<LoadFault>,
 ) -> Result<(), Fail> {
-    for question in [Question::Stocks, CHANGES] {
+    for question in QUESTIONS {
         for segment in [1, 50, 1_000] {
             let mut feed = Feed::new(Pieces::new(TWO_STOCKS, 7));
             let found = answer(alloc, &mut feed, question, limits, segment)?.err();
@@ -257,7 +264,7 @@ fn a_file_has_no_more_than_its_limits(rt: HostRuntime) -> Result<(), Fail> {
 fn each_read_of_a_file_may_fail(rt: HostRuntime) -> Result<(), Fail> {
     let alloc = rt.alloc();
     let calls = (TWO_STOCKS.len() as u64).div_ceil(30).saturating_add(2);
-    for question in [Question::Stocks, CHANGES] {
+    for question in QUESTIONS {
         for failing in 1..=calls.saturating_add(1) {
             let mut pieces = Pieces::failing(TWO_STOCKS, 30, failing, ErrorKind::Interrupted);
             let mut feed = Feed::new(&mut pieces);
