@@ -1,6 +1,6 @@
 //! The file that a text denotes, in the place of another or as a new one.
+use crate::files::{Ended, ended, open};
 use crate::stop::Stop;
-use crate::{Ended, ended, open};
 use binaryfile::{Feed, Sink};
 use engine_rules::ProgFault;
 use itch_engine::asm_run;

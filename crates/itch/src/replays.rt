@@ -1,0 +1,91 @@
+//! Replays of whole days.
+use crate::files::{Ended, ended, named_stock, open_day, standard_output};
+use crate::progress::ProgressLines;
+use crate::terminals::Terminals;
+use binaryfile::{Feed, Sink};
+use day_segments::SEGMENT_BYTES;
+use itch_engine::{hex_run, report_run};
+use itch_watch::watch_run;
+use named_files::Named;
+use std::rt::Runtime;
+use std::sync::Wait;
+use std::thread::Threads;
+use worker_count::WorkerCount;
+
+// The number of workers that the arguments give, which is in the range of the argument.
+fn number_of_workers(number: u32) -> WorkerCount {
+    WorkerCount::new(number).unwrap_or(WorkerCount::ONE)
+}
+
+/// Replays a file by this many threads while it is read, and writes its report on standard output.
+pub fn replay<'a, R: Runtime + AllocGlobal + Threads + Sync>(
+    rt: &R,
+    terminals: Terminals,
+    path: &'a str,
+    workers: u32,
+    progress: bool,
+) -> Ended<'a>
+where
+    R::File: Send,
+{
+    let mut day = open_day(rt, terminals, path)?;
+    let mut output = standard_output(rt);
+    let lines = if progress {
+        Some(ProgressLines::new(rt, path))
+    } else {
+        None
+    };
+    let run = report_run(
+        rt,
+        rt.alloc(),
+        &mut Feed::new(&mut day),
+        &mut Sink::new(&mut output),
+        SEGMENT_BYTES,
+        number_of_workers(workers),
+        &lines,
+    );
+    if let Some(lines) = &lines {
+        lines.say();
+    }
+    ended(run, &day, &output)
+}
+
+/// Replays a file, and writes what a screen of one of its stocks sees meanwhile on standard output.
+pub fn watch<'a, R: Runtime + AllocGlobal + Threads + Wait + Sync>(
+    rt: &R,
+    terminals: Terminals,
+    path: &'a str,
+    stock: &str,
+    workers: u32,
+) -> Ended<'a> {
+    let mut day = open_day(rt, terminals, path)?;
+    let name = named_stock(stock)?;
+    let mut output = standard_output(rt);
+    let run = watch_run(
+        rt,
+        rt.alloc(),
+        &mut Feed::new(&mut day),
+        &mut Sink::new(&mut output),
+        name,
+        number_of_workers(workers),
+    );
+    ended(run.map(|()| 0), &day, &output)
+}
+
+/// Replays the file whose hexadecimal digits are standard input, and writes its report on standard output. At a terminal
+/// it is said what is waited for.
+pub fn replay_digits<R: Runtime + AllocGlobal + Threads + Wait + Sync>(
+    rt: &R,
+    terminals: Terminals,
+) -> Ended<'_> {
+    terminals.ask_for_digits(rt);
+    let mut input = Named::new("standard input", rt.reader());
+    let mut output = standard_output(rt);
+    let run = hex_run(
+        rt,
+        rt.alloc(),
+        &mut Feed::new(&mut input),
+        &mut Sink::new(&mut output),
+    );
+    ended(run, &input, &output)
+}
