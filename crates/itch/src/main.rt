@@ -17,7 +17,7 @@ use clap::error::ErrorKind;
 use engine_rules::{ProgFault, status};
 use files::Ended;
 use itch_arguments::Task;
-use readings::{list_stocks, print_order, print_tops};
+use readings::{list_stocks, print_order, print_tops, print_trades};
 use replays::{replay, replay_digits, watch};
 use sessions::debug;
 use std::env;
@@ -98,6 +98,7 @@ where
             stock,
             reference,
         } => print_order(rt, terminals, file, stock, reference),
+        Task::Trades { file, stock } => print_trades(rt, terminals, file, stock),
         Task::Watch {
             file,
             stock,

@@ -2,7 +2,7 @@
 use crate::files::{Ended, ended, named_stock, open_day, standard_output};
 use crate::terminals::Terminals;
 use binaryfile::{Feed, Sink};
-use itch_readings::{Selection, order_run, stocks_run, tops_run};
+use itch_readings::{Selection, order_run, stock_trades_run, stocks_run, tops_run, trades_run};
 use std::rt::Runtime;
 
 /// Lists a file's stocks on standard output.
@@ -55,5 +55,40 @@ pub fn print_order<'a, R: Runtime + AllocGlobal>(
     let mut output = standard_output(rt);
     let (mut feed, mut sink) = (Feed::new(&mut day), Sink::new(&mut output));
     let run = order_run(rt.alloc(), &mut feed, &mut sink, name, reference);
+    ended(run.map(|()| 0), &day, &output)
+}
+
+// Writes the trades of one of a file's stocks on standard output.
+fn print_stock_trades<'a, R: Runtime + AllocGlobal>(
+    rt: &R,
+    terminals: Terminals,
+    path: &'a str,
+    stock: &str,
+) -> Ended<'a> {
+    let mut day = open_day(rt, terminals, path)?;
+    let name = named_stock(stock)?;
+    let mut output = standard_output(rt);
+    let (mut feed, mut sink) = (Feed::new(&mut day), Sink::new(&mut output));
+    let run = stock_trades_run(rt.alloc(), &mut feed, &mut sink, name);
+    ended(run.map(|()| 0), &day, &output)
+}
+
+/// Writes the trades of a file, or of one of its stocks, on standard output.
+pub fn print_trades<'a, R: Runtime + AllocGlobal>(
+    rt: &R,
+    terminals: Terminals,
+    path: &'a str,
+    stock: Option<&str>,
+) -> Ended<'a> {
+    if let Some(stock) = stock {
+        return print_stock_trades(rt, terminals, path, stock);
+    }
+    let mut day = open_day(rt, terminals, path)?;
+    let mut output = standard_output(rt);
+    let run = trades_run(
+        rt.alloc(),
+        &mut Feed::new(&mut day),
+        &mut Sink::new(&mut output),
+    );
     ended(run.map(|()| 0), &day, &output)
 }

@@ -74,6 +74,11 @@ pub enum Task<'a> {
         stock: &'a str,
         reference: u64,
     },
+    /// To write the trades of a file, or of one of its stocks.
+    Trades {
+        file: &'a str,
+        stock: Option<&'a str>,
+    },
     /// To replay a file, and write what a screen of one of its stocks sees meanwhile.
     Watch {
         file: &'a str,
@@ -194,6 +199,14 @@ fn order_command<'a>(alloc: Global) -> Result<Command<'a>, AllocError> {
         .args(args)
 }
 
+// The arguments that print trades.
+fn trades_command<'a>(alloc: Global) -> Result<Command<'a>, AllocError> {
+    let args = vec![in alloc; path(alloc, "FILE", DAY_HELP), stock(alloc).required(false)]?;
+    Command::new(alloc, "trades")
+        .about("Prints the trades of a day, or of one of its stocks, as comma-separated lines")
+        .args(args)
+}
+
 // The arguments that print what a screen of a stock sees.
 fn watch_command<'a>(alloc: Global) -> Result<Command<'a>, AllocError> {
     let workers = workers(alloc, "How many workers replay the day, from 1 to 64");
@@ -247,6 +260,7 @@ fn add_all<'a>(alloc: Global, commands: &mut Vec<Command<'a>>) -> Result<(), All
     add(commands, stocks_command(alloc))?;
     add(commands, tops_command(alloc))?;
     add(commands, order_command(alloc))?;
+    add(commands, trades_command(alloc))?;
     add(commands, watch_command(alloc))?;
     add(commands, asm_command(alloc))?;
     add(commands, debug_command(alloc))
@@ -323,6 +337,18 @@ fn printing_order<'a>(matches: &ArgMatches<'a>) -> Option<Task<'a>>
     })
 }
 
+// To write trades, where the arguments ask for it.
+fn printing_trades<'a>(matches: &ArgMatches<'a>) -> Option<Task<'a>>
+    ensures { IfSome result (λ task. (command_of task ≡ Some (codes "trades"))
+        × (subcommand_name_of matches.now ≡ Some (codes "trades"))) }
+{
+    let trades = matches.subcommand_matches("trades")?;
+    Some(Task::Trades {
+        file: trades.get_str("FILE")?,
+        stock: trades.get_str("STOCK"),
+    })
+}
+
 // To write what a screen of a stock sees, where the arguments ask for it.
 fn watching<'a>(matches: &ArgMatches<'a>) -> Option<Task<'a>>
     ensures { IfSome result (λ task. (command_of task ≡ Some (codes "watch"))
@@ -347,6 +373,9 @@ pub fn chosen_task<'a>(matches: &ArgMatches<'a>) -> Task<'a>
         return task;
     }
     if let Some(task) = printing_order(matches) {
+        return task;
+    }
+    if let Some(task) = printing_trades(matches) {
         return task;
     }
     if let Some(task) = watching(matches) {
