@@ -1,2 +1,3 @@
 pub mod Stocks
 pub mod Orders
+pub mod Fields

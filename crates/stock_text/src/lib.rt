@@ -1,5 +1,5 @@
 //! The lines of a stock: what is known of it, its levels, its orders and the sums over its trades, as reports and sessions
-//! have them; and what became of a message.
+//! have them; the fields of a level in tables; and what became of a message.
 //!
 //! ```rust
 //! put_stock_line(&mut text, 14, *b"AAPL    ", None, None)?;
@@ -11,8 +11,10 @@
 //! `AllocError` says that memory was refused.
 #![tactic(auto)]
 
+mod fields;
 mod orders;
 mod stock;
 
+pub use fields::put_level_fields;
 pub use orders::{put_order, put_outcome, put_side};
 pub use stock::{put_levels, put_stock, put_stock_line, put_trades};
