@@ -13,9 +13,9 @@ use Rattle.itch_table.specs.Parts.{part_of_shape}
 use Rattle.itch_table.specs.Projection.{payload_at}
 use Rattle.itch_table.specs.Table.{result_of, step_shape}
 use Rattle.itch_table.specs.World.{World}
-use Rattle.day_core.specs.declared.merging.Piece.{Piece}
-use Rattle.day_core.specs.Owners.{part_at, piece_of}
-use Rattle.day_replay.specs.Summaries.{OthersAreApplied, is_refused, refused_of}
+use Rattle.day_core.specs.Owners.{part_at}
+use Rattle.day_replay.specs.declared.refusals.RefusedMessage.{RefusedMessage}
+use Rattle.day_replay.specs.Summaries.{OthersAreApplied, is_refused, refused_message, refused_of}
 use Rattle.day_core.proofs.FilteredRanges.{kept_there}
 
 applied_or_refused : (found : Option Fault) (old new : World) → is_refused (result_of found old new).0 ≡ false → (result_of found old new).0 ≡ Applied
@@ -35,14 +35,14 @@ abbrev pub refuses : List (List ℕ) → ℕ → Bool
 refuses day n = is_refused (outcome day n)
 
 -- the numbers of messages, back from what became of them
-pub numbers_back : (day : List (List ℕ)) (numbers : List ℕ) → map (λ (piece : Piece). piece.message) (map (piece_of day) numbers) ≡ numbers
+pub numbers_back : (day : List (List ℕ)) (numbers : List ℕ) → map (λ (piece : RefusedMessage). piece.message) (map (refused_message day) numbers) ≡ numbers
 numbers_back day [] = refl
 numbers_back day (n ∷ numbers) = ap (λ (rest : List ℕ). n ∷ rest) (numbers_back day numbers)
 
 pub others_are_applied : OthersAreApplied
 others_are_applied day n locate some within is absent =
     let numbers : List ℕ = filter (refuses day) (range_with_len 1 (length day)) in
-    let among : refuses day n ≡ true → Contains (map (λ (piece : Piece). piece.message) (refused_of day)) n =
+    let among : refuses day n ≡ true → Contains (map (λ (piece : RefusedMessage). piece.message) (refused_of day)) n =
     λ on. subst (λ (xs : List ℕ). Contains xs n) (sym (numbers_back day numbers)) (kept_there (refuses day) 1 (length day) n some (omega (arith, within)) on)
     in
     elim (cases_Bool (refuses day n)) [

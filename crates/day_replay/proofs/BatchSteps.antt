@@ -18,11 +18,12 @@ use Rattle.itch_table.proofs.AnyWorld.{lists_split}
 use Rattle.itch_table.proofs.OwnSteps.{steps_are_own}
 use Rattle.itch_table.proofs.StockDays.{is_own_part, only-empty}
 use Rattle.stock_machine.specs.StockRows.{StockMachine}
-use Rattle.day_core.specs.declared.merging.Piece.{Piece}
 use Rattle.day_core.specs.Owners.{is_own}
+use Rattle.day_replay.specs.declared.refusals.RefusedMessage.{RefusedMessage}
 use Rattle.day_replay.specs.Messages.{is_of_batch, payloads_in}
 use Rattle.day_replay.specs.Batches.{AreOwn, BatchState, HasDone, locate_at, machine_after, outcome_in, refused_from, stepped, steps_in, world_in}
 use Rattle.day_replay.specs.NoStock.{if_refused}
+use Rattle.day_replay.specs.Summaries.{stock_of}
 
 -- ---- one payload more
 
@@ -34,12 +35,12 @@ pub payloads_in-push : (messages : List (ℕ × List ℕ)) (n : ℕ) (payload : 
 payloads_in-push messages n payload = map-append (λ (m : ℕ × List ℕ). m.1) messages ((n, payload) ∷ [])
 
 pub refused_from-push : (w : World) (messages : List (ℕ × List ℕ)) (n : ℕ) (payload : List ℕ)
-    → refused_from w (messages ++ (n, payload) ∷ []) ≡ refused_from w messages ++ if_refused n (step (after_all w (payloads_in messages)) payload).0
-refused_from-push w [] n payload = append-nil (if_refused n (step w payload).0)
+    → refused_from w (messages ++ (n, payload) ∷ []) ≡ refused_from w messages ++ if_refused n (stock_of (part payload)) (step (after_all w (payloads_in messages)) payload).0
+refused_from-push w [] n payload = append-nil (if_refused n (stock_of (part payload)) (step w payload).0)
 refused_from-push w (m ∷ ms) n payload =
-    let first = if_refused m.0 (step w m.1).0 in
-    ap (λ (ps : List Piece). first ++ ps) (refused_from-push (step w m.1).1 ms n payload)
-    ∙ sym (append_assoc first (refused_from (step w m.1).1 ms) (if_refused n (step (after_all (step w m.1).1 (payloads_in ms)) payload).0))
+    let first = if_refused m.0 (stock_of (part m.1)) (step w m.1).0 in
+    ap (λ (ps : List RefusedMessage). first ++ ps) (refused_from-push (step w m.1).1 ms n payload)
+    ∙ sym (append_assoc first (refused_from (step w m.1).1 ms) (if_refused n (stock_of (part payload)) (step (after_all (step w m.1).1 (payloads_in ms)) payload).0))
 
 pub stock_day-push : (day : List (List ℕ)) (payload : List ℕ) (locate : ℕ) → stock_day (day ++ payload ∷ []) locate ≡ stock_day day locate ++ cond (is_of_stock locate payload) (payload ∷ []) []
 unfolding stock_day
@@ -90,7 +91,7 @@ unfolding stock_day
 own_few locate day = filter_few (is_of_stock locate) day
 
 -- the state of a batch by its fields
-abbrev pub state_of : {V : Type 0} → (V → StockMachine) → List (Option V) → List Piece → Bool → BatchState
+abbrev pub state_of : {V : Type 0} → (V → StockMachine) → List (Option V) → List RefusedMessage → Bool → BatchState
 state_of value slots refused failed = record { stocks = map (option_map value) slots; refused = refused; failed = failed }
 
 -- ---- whose a message is
@@ -118,7 +119,7 @@ module _ (batch locate : ℕ) (payload : List ℕ) (own : part payload ≡ Locat
   pub here : locate_at batch (locate / 128) ≡ locate
   here = omega (arith, remainder)
 
-  module _ (V : Type 0) (value : V → StockMachine) (messages : List (ℕ × List ℕ)) (slots : List (Option V)) (refused : List Piece) (failed : Bool)
+  module _ (V : Type 0) (value : V → StockMachine) (messages : List (ℕ × List ℕ)) (slots : List (Option V)) (refused : List RefusedMessage) (failed : Bool)
       (done : HasDone batch messages (state_of value slots refused failed)) (long : length slots ≡ 512) (fits : locate < 0x1_0000) where
     abbrev pub before : List (List ℕ)
     before = stock_day (payloads_in messages) locate
@@ -164,10 +165,10 @@ module _ (batch locate : ℕ) (payload : List ℕ) (own : part payload ≡ Locat
     others slot differ = ap (is_locate (locate_at batch slot)) own ∙ ne_eqb locate (locate_at batch slot) (λ e. differ (omega (arith, e, remainder, mod_below locate 128 (omega arith))))
 
     -- the batch after the message
-    pub done_more : (n : ℕ) (x y : Option V) (outcome : Outcome) (now : List Piece) → x ≡ get_or slots (locate / 128) x
+    pub done_more : (n : ℕ) (x y : Option V) (outcome : Outcome) (now : List RefusedMessage) → x ≡ get_or slots (locate / 128) x
         → outcome ≡ outcome_in (option_map value x) payload
         → option_map value y ≡ Some (stepped locate (option_map value x) payload)
-        → now ≡ refused ++ if_refused n outcome
+        → now ≡ refused ++ if_refused n (Some locate) outcome
         → HasDone batch (messages ++ (n, payload) ∷ []) (state_of value (set slots (locate / 128) y) now failed)
     done_more n x y outcome now is becomes takes notes =
         let day = payloads_in messages in
@@ -189,8 +190,9 @@ module _ (batch locate : ℕ) (payload : List ℕ) (own : part payload ≡ Locat
                     (get_or-set_other (map (option_map value) slots) i slot (option_map value y) d differ ∙ done.machines_are slot d lt)
               ]);
           refused_are =
-              notes ∙ ap (λ (ps : List Piece). ps ++ if_refused n outcome) done.refused_are
-              ∙ ap (λ (o : Outcome). refused_from empty_world messages ++ if_refused n o) (becomes ∙ ap (λ (m : Option StockMachine). outcome_in m payload) found ∙ sym (outcome_own day payload locate own))
+              notes ∙ ap (λ (ps : List RefusedMessage). ps ++ if_refused n (Some locate) outcome) done.refused_are
+              ∙ ap (λ (p : Part). refused_from empty_world messages ++ if_refused n (stock_of p) outcome) (sym own)
+              ∙ ap (λ (o : Outcome). refused_from empty_world messages ++ if_refused n (stock_of (part payload)) o) (becomes ∙ ap (λ (m : Option StockMachine). outcome_in m payload) found ∙ sym (outcome_own day payload locate own))
               ∙ sym (refused_from-push empty_world messages n payload);
         }
 
@@ -200,7 +202,7 @@ no_own : (locate : ℕ) → stock_day [] locate ≡ []
 unfolding stock_day
 no_own locate = refl
 
-pub none_done : (V : Type 0) (value : V → StockMachine) (batch : ℕ) (slots : List (Option V)) (refused : List Piece) (failed : Bool) → length slots ≡ 512 → All (λ s. s ≡ None) slots → refused ≡ [] → HasDone batch [] (state_of value slots refused failed)
+pub none_done : (V : Type 0) (value : V → StockMachine) (batch : ℕ) (slots : List (Option V)) (refused : List RefusedMessage) (failed : Bool) → length slots ≡ 512 → All (λ s. s ≡ None) slots → refused ≡ [] → HasDone batch [] (state_of value slots refused failed)
 none_done V value batch slots refused failed long none nothing = record {
   machines_are = λ slot d lt.
       get_or-map (option_map value) slots slot None d (omega (arith, lt, long)) ∙ ap (option_map value) (none slot None (omega (arith, lt, long)))

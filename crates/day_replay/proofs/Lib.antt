@@ -5,5 +5,6 @@ pub mod NoStockMessages
 pub mod DealtOneByOne
 pub mod ReplayGoesOn
 pub mod RefusedMessages
+pub mod RefusedByStock
 pub mod WholeDay
 pub mod LastMachines

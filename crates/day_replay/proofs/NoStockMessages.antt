@@ -13,17 +13,17 @@ use Rattle.itch_table.specs.declared.outcome.Part.{Part}
 use Rattle.itch_table.specs.declared.outcome.Part.TheVariants.{Locate, Nowhere}
 use Rattle.itch_table.specs.Parts.{part}
 use Rattle.itch_table.specs.Projection.{event_with}
-use Rattle.day_core.specs.declared.merging.Piece.{Piece}
+use Rattle.day_replay.specs.declared.refusals.RefusedMessage.{RefusedMessage}
 use Rattle.day_replay.specs.Summaries.{is_passed}
 use Rattle.day_core.proofs.DealtDay.{event_stays}
 use Rattle.day_replay.specs.NoStock.{NoStockFacts, if_nowhere_refused, if_refused, is_nowhere_passed, last_event, no_stock_of}
 
-abbrev pub facts : List Piece → ℕ → Option ℕ → NoStockFacts
+abbrev pub facts : List RefusedMessage → ℕ → Option ℕ → NoStockFacts
 facts refused passed event = record { refused = refused; passed = passed; event = event }
 
-pub same_facts : (r s : List Piece) (p q : ℕ) (e f : Option ℕ) → r ≡ s → p ≡ q → e ≡ f → facts r p e ≡ facts s q f
+pub same_facts : (r s : List RefusedMessage) (p q : ℕ) (e f : Option ℕ) → r ≡ s → p ≡ q → e ≡ f → facts r p e ≡ facts s q f
 same_facts r s p q e f refused passed event =
-    ap (λ (x : List Piece). facts x p e) refused ∙ ap (λ (x : ℕ). facts s x e) passed ∙ ap (λ (x : Option ℕ). facts s q x) event
+    ap (λ (x : List RefusedMessage). facts x p e) refused ∙ ap (λ (x : ℕ). facts s x e) passed ∙ ap (λ (x : Option ℕ). facts s q x) event
 
 -- ---- the last event
 
@@ -47,7 +47,7 @@ last_event-append (x ∷ xs) ys =
 
 -- ---- further messages
 
-abbrev refusals : List (ℕ × List ℕ) → List Piece
+abbrev refusals : List (ℕ × List ℕ) → List RefusedMessage
 refusals messages = flat_map (λ m. if_nowhere_refused m.0 (part m.1)) messages
 
 abbrev passes : ℕ × List ℕ → Bool
@@ -77,14 +77,14 @@ one_passed n payload =
 
 -- of no stock
 pub fact_more : (messages : List (ℕ × List ℕ)) (n : ℕ) (payload : List ℕ) (o : Outcome) → part payload ≡ Nowhere o → (old : NoStockFacts) → old ≡ no_stock_of messages
-    → (refused : List Piece) (passed : ℕ) (event : Option ℕ) → refused ≡ old.refused ++ if_refused n o → passed ≡ old.passed + cond (is_passed o) 1 0 → event ≡ event_with (shape_of payload) old.event
+    → (refused : List RefusedMessage) (passed : ℕ) (event : Option ℕ) → refused ≡ old.refused ++ if_refused n None o → passed ≡ old.passed + cond (is_passed o) 1 0 → event ≡ event_with (shape_of payload) old.event
     → facts refused passed event ≡ no_stock_of (messages ++ (n, payload) ∷ [])
 fact_more messages n payload o none old was refused passed event refuses counts follows =
     let one = no_stock_of ((n, payload) ∷ []) in
-    let whole : one.refused ≡ if_refused n o = append-nil (if_nowhere_refused n (part payload)) ∙ ap (if_nowhere_refused n) none in
+    let whole : one.refused ≡ if_refused n None o = append-nil (if_nowhere_refused n (part payload)) ∙ ap (if_nowhere_refused n) none in
     let tested : one.passed ≡ cond (is_passed o) 1 0 = one_passed n payload ∙ ap (λ (p : Part). cond {A = ℕ} (is_nowhere_passed p) 1 0) none in
     same_facts refused (old.refused ++ one.refused) passed (old.passed + one.passed) event (option_or one.event old.event)
-    (refuses ∙ ap (λ (ps : List Piece). old.refused ++ ps) (sym whole))
+    (refuses ∙ ap (λ (ps : List RefusedMessage). old.refused ++ ps) (sym whole))
     (counts ∙ ap (λ (k : ℕ). old.passed + k) (sym tested))
     (follows ∙ sym (event_or (shape_of payload) old.event))
     ∙ facts_more messages ((n, payload) ∷ []) old one was refl
@@ -98,7 +98,7 @@ fact_stays messages n payload locate own old was =
     let tested : one.passed ≡ 0 = one_passed n payload ∙ ap (λ (p : Part). cond {A = ℕ} (is_nowhere_passed p) 1 0) own in
     let stays : one.event ≡ None = event_stays (shape_of payload) locate None own in
     same_facts old.refused (old.refused ++ one.refused) old.passed (old.passed + one.passed) old.event (option_or one.event old.event)
-    (sym (append-nil old.refused) ∙ ap (λ (ps : List Piece). old.refused ++ ps) (sym whole))
+    (sym (append-nil old.refused) ∙ ap (λ (ps : List RefusedMessage). old.refused ++ ps) (sym whole))
     (omega (arith, tested))
     (ap (λ (e : Option ℕ). option_or e old.event) (sym stays))
     ∙ facts_more messages ((n, payload) ∷ []) old one was refl

@@ -1,5 +1,5 @@
 -- The refused messages of a day: those of each batch, those of no stock, and all of them in order.
-use Rattle.std.proofs.Common.{◌≡◌, ℕ, suc, ◌+◌, ◌<◌, List, [], ◌∷◌, ◌++◌, length, Bool, true, false, ◌&&◌, ◌||◌, cond, eqb, ltb, get_or, filter, map, refl, sym, ap, ap₂, subst, ◌∙◌, arith, inl, inr}
+use Rattle.std.proofs.Common.{◌≡◌, ℕ, suc, ◌+◌, ◌<◌, List, [], ◌∷◌, ◌++◌, length, Bool, true, false, ◌&&◌, ◌||◌, cond, eqb, ltb, get_or, filter, map, None, refl, sym, ap, ap₂, subst, ◌∙◌, arith, inl, inr}
 use Rattle.std.specs.List.{All, range_with_len, sum_by}
 use Rattle.std.specs.List.Sorted.{IsNonDecreasing, IsNonDecreasingBy, IsPermutation, IsStrictlyIncreasing}
 use Rattle.std.proofs.Math.Bool.{or-false}
@@ -13,14 +13,14 @@ use Rattle.itch_table.specs.declared.outcome.Outcome.TheVariants.{Applied}
 use Rattle.itch_table.specs.declared.outcome.Part.{Part}
 use Rattle.itch_table.specs.declared.outcome.Part.TheVariants.{Locate, Nowhere}
 use Rattle.itch_table.proofs.DayLocates.{range_rises}
-use Rattle.day_core.specs.declared.merging.Piece.{Piece}
-use Rattle.day_core.specs.Owners.{is_nowhere, is_own, own_of, owner, part_at, piece_of}
-use Rattle.day_replay.specs.Summaries.{refused_among, refused_of}
+use Rattle.day_core.specs.Owners.{is_nowhere, is_own, own_of, owner, part_at}
+use Rattle.day_replay.specs.declared.refusals.RefusedMessage.{RefusedMessage}
+use Rattle.day_replay.specs.Summaries.{refused_among, refused_message, refused_of}
 use Rattle.day_core.proofs.FilteredRanges.{kept_none}
 use Rattle.day_replay.proofs.AppliedOrRefused.{numbers_back, refuses}
 
 -- the refused messages of a worker, or of a batch, with their outcomes, by rising number
-abbrev pub refused_by : List (List ℕ) → ℕ → ℕ → List Piece
+abbrev pub refused_by : List (List ℕ) → ℕ → ℕ → List RefusedMessage
 refused_by day workers worker = refused_among day (own_of workers worker day)
 
 -- ---- all of them, batch by batch
@@ -62,12 +62,12 @@ module _ (day : List (List ℕ)) (workers : ℕ) where
   all = range_with_len 1 (length day)
 
   -- the refused messages of the first workers
-  abbrev pub refused_below : ℕ → List Piece
-  refused_below count = map (piece_of day) (filter (λ n. is_below workers count (part_at day n) && refuses day n) all)
+  abbrev pub refused_below : ℕ → List RefusedMessage
+  refused_below count = map (refused_message day) (filter (λ n. is_below workers count (part_at day n) && refuses day n) all)
 
-  own_refused : (worker : ℕ) → refused_by day workers worker ≡ map (piece_of day) (filter (λ n. is_own workers worker (part_at day n) && refuses day n) all)
+  own_refused : (worker : ℕ) → refused_by day workers worker ≡ map (refused_message day) (filter (λ n. is_own workers worker (part_at day n) && refuses day n) all)
   unfolding own_of
-  own_refused worker = ap (map (piece_of day)) (kept_both (refuses day) (λ n. is_own workers worker (part_at day n)) all)
+  own_refused worker = ap (map (refused_message day)) (kept_both (refuses day) (λ n. is_own workers worker (part_at day n)) all)
 
   more_of : (worker : ℕ) (p : Part) (b : Bool) → (is_below workers (worker + 1) p && b) ≡ ((is_below workers worker p && b) || (is_own workers worker p && b))
   more_of worker (Nowhere fixed) b = refl
@@ -91,38 +91,38 @@ module _ (day : List (List ℕ)) (workers : ℕ) where
       ]
 
   -- and of one worker more
-  pub below_more : (worker : ℕ) (pieces : List Piece) → IsPermutation (refused_below worker) pieces → IsPermutation (refused_below (worker + 1)) (pieces ++ refused_by day workers worker)
+  pub below_more : (worker : ℕ) (pieces : List RefusedMessage) → IsPermutation (refused_below worker) pieces → IsPermutation (refused_below (worker + 1)) (pieces ++ refused_by day workers worker)
   below_more worker pieces before =
       let below = λ (n : ℕ). is_below workers worker (part_at day n) && refuses day n in
       let own = λ (n : ℕ). is_own workers worker (part_at day n) && refuses day n in
       let both = λ (n : ℕ). is_below workers (worker + 1) (part_at day n) && refuses day n in
       let one = either below own both (λ n. more_of worker (part_at day n) (refuses day n)) (λ n. apart worker (part_at day n) (refuses day n)) all in
-      let mapped : IsPermutation (refused_below (worker + 1)) (refused_below worker ++ map (piece_of day) (filter own all)) =
-      subst (IsPermutation (refused_below (worker + 1))) (map-append (piece_of day) (filter below all) (filter own all)) (IsPermutation-map (piece_of day) _ _ one)
+      let mapped : IsPermutation (refused_below (worker + 1)) (refused_below worker ++ map (refused_message day) (filter own all)) =
+      subst (IsPermutation (refused_below (worker + 1))) (map-append (refused_message day) (filter below all) (filter own all)) (IsPermutation-map (refused_message day) _ _ one)
       in
       IsPermutation-trans _ _ _ mapped
-      (subst (λ (ps : List Piece). IsPermutation (refused_below worker ++ map (piece_of day) (filter own all)) (pieces ++ ps)) (sym (own_refused worker))
-      (IsPermutation-append_left (map (piece_of day) (filter own all)) (refused_below worker) pieces before))
+      (subst (λ (ps : List RefusedMessage). IsPermutation (refused_below worker ++ map (refused_message day) (filter own all)) (pieces ++ ps)) (sym (own_refused worker))
+      (IsPermutation-append_left (map (refused_message day) (filter own all)) (refused_below worker) pieces before))
 
   -- before the first
   pub below_none : refused_below 0 ≡ []
-  below_none = ap (map (piece_of day)) (kept_none _ all (λ n. none (part_at day n) (refuses day n)))
+  below_none = ap (map (refused_message day)) (kept_none _ all (λ n. none (part_at day n) (refuses day n)))
     where
       none : (p : Part) (b : Bool) → (is_below workers 0 p && b) ≡ false
       none (Locate locate) b = rw (le-ltb (owner workers locate) 0 (omega arith)) refl
       none (Nowhere fixed) b = refl
 
   -- after the last all are there but those of no stock
-  abbrev pub fixed_refused : List Piece
-  fixed_refused = map (piece_of day) (filter (λ n. is_nowhere (part_at day n) && refuses day n) all)
+  abbrev pub fixed_refused : List RefusedMessage
+  fixed_refused = map (refused_message day) (filter (λ n. is_nowhere (part_at day n) && refuses day n) all)
 
-  pub below_all : 0 < workers → (pieces : List Piece) → IsPermutation (refused_below workers) pieces → IsPermutation (refused_of day) (pieces ++ fixed_refused)
+  pub below_all : 0 < workers → (pieces : List RefusedMessage) → IsPermutation (refused_below workers) pieces → IsPermutation (refused_of day) (pieces ++ fixed_refused)
   below_all some pieces before =
       let below = λ (n : ℕ). is_below workers workers (part_at day n) && refuses day n in
       let fixed = λ (n : ℕ). is_nowhere (part_at day n) && refuses day n in
       let one = either below fixed (refuses day) (λ n. whole (part_at day n) (refuses day n)) (λ n. other (part_at day n) (refuses day n)) all in
       let mapped : IsPermutation (refused_of day) (refused_below workers ++ fixed_refused) =
-      subst (IsPermutation (refused_of day)) (map-append (piece_of day) (filter below all) (filter fixed all)) (IsPermutation-map (piece_of day) _ _ one)
+      subst (IsPermutation (refused_of day)) (map-append (refused_message day) (filter below all) (filter fixed all)) (IsPermutation-map (refused_message day) _ _ one)
       in
       IsPermutation-trans _ _ _ mapped (IsPermutation-append_left fixed_refused (refused_below workers) pieces before)
     where
@@ -178,22 +178,22 @@ no_fall xs rises i j d le lt = elim (cases_eq i j) [
 ]
 
 module _ (day : List (List ℕ)) where
-  abbrev number_of : Piece → ℕ
+  abbrev number_of : RefusedMessage → ℕ
   number_of p = p.message
 
-  each_is : (numbers : List ℕ) → All (λ p. piece_of day p.message ≡ p) (map (piece_of day) numbers)
-  each_is numbers i d lt = rw (get_or-map (piece_of day) numbers i 0 d (omega (arith, lt, length-map numbers (piece_of day)))) refl
+  each_is : (numbers : List ℕ) → All (λ p. refused_message day p.message ≡ p) (map (refused_message day) numbers)
+  each_is numbers i d lt = rw (get_or-map (refused_message day) numbers i 0 d (omega (arith, lt, length-map numbers (refused_message day)))) refl
 
-  back : (pieces : List Piece) → All (λ p. piece_of day p.message ≡ p) pieces → map (piece_of day) (map number_of pieces) ≡ pieces
+  back : (pieces : List RefusedMessage) → All (λ p. refused_message day p.message ≡ p) pieces → map (refused_message day) (map number_of pieces) ≡ pieces
   back [] are = refl
   back (p ∷ ps) are = ap₂ ◌∷◌ (are 0 p (omega arith)) (back ps (λ k d lt. are (suc k) d (omega arith)))
 
   -- pieces in order are the day's, where they are these in any order
-  pub in_order_are : (pieces : List Piece) → IsPermutation (refused_of day) pieces → IsNonDecreasingBy (λ p. p.message) pieces → pieces ≡ refused_of day
+  pub in_order_are : (pieces : List RefusedMessage) → IsPermutation (refused_of day) pieces → IsNonDecreasingBy (λ p. p.message) pieces → pieces ≡ refused_of day
   in_order_are pieces has rise =
       let numbers = filter (refuses day) (range_with_len 1 (length day)) in
       let named = map number_of pieces in
-      let none : Piece = record { message = 0; outcome = Applied } in
+      let none : RefusedMessage = record { message = 0; locate = None; outcome = Applied } in
       let moved : IsPermutation numbers named = subst (λ (ns : List ℕ). IsPermutation ns named) (numbers_back day numbers) (IsPermutation-map number_of (refused_of day) pieces has) in
       let same : numbers ≡ named = same_numbers numbers named
       (no_fall numbers (IsStrictlyIncreasing-filter (refuses day) _ (range_rises 1 (length day))))
@@ -202,4 +202,4 @@ module _ (day : List (List ℕ)) where
       omega (arith, get_or-map number_of pieces i none d (omega (arith, le, long)), get_or-map number_of pieces j none d long, rise i j none le long))
       (λ n. sym (sum_by-IsPermutation (λ m. cond (eqb n m) 1 0) numbers named moved))
       in
-      sym (back pieces (All-permutation (λ p. piece_of day p.message ≡ p) (refused_of day) pieces has (each_is numbers))) ∙ sym (ap (map (piece_of day)) same)
+      sym (back pieces (All-permutation (λ p. refused_message day p.message ≡ p) (refused_of day) pieces has (each_is numbers))) ∙ sym (ap (map (refused_message day)) same)

@@ -20,11 +20,11 @@ use Rattle.itch_table.proofs.NoStock.{system_sets_event}
 use Rattle.itch_table.proofs.OtherSteps.{others_stay}
 use Rattle.itch_table.proofs.OwnSteps.{steps_are_own}
 use Rattle.itch_table.proofs.StockDays.{other_part, outcomes_stay_fixed, own_part}
-use Rattle.day_core.specs.declared.merging.Piece.{Piece}
+use Rattle.day_replay.specs.declared.refusals.RefusedMessage.{RefusedMessage}
 use Rattle.day_replay.proofs.AppliedOrRefused.{stock_applied}
 use Rattle.day_replay.proofs.RefusedMessages.{fixed_refused, refused_by}
-use Rattle.day_core.specs.Owners.{is_nowhere, is_own, own_of, part_at, piece_of}
-use Rattle.day_replay.specs.Summaries.{is_passed, is_refused, refused_among}
+use Rattle.day_core.specs.Owners.{is_nowhere, is_own, own_of, part_at}
+use Rattle.day_replay.specs.Summaries.{is_passed, is_refused, refused_among, refused_message, stock_of}
 use Rattle.day_replay.specs.Messages.{numbered_after, of_batch}
 use Rattle.day_replay.specs.Batches.{refused_from}
 use Rattle.day_replay.specs.NoStock.{if_nowhere_refused, if_refused, is_nowhere_passed, last_event, no_stock_of}
@@ -90,11 +90,11 @@ outcome_step w v payload locate own same =
     ∙ ap (λ (u : World). (step u payload).0) same
     ∙ ap (λ (r : Outcome × World). r.0) (steps_are_own v payload locate own)
 
-among-cons : (day : List (List ℕ)) (k : ℕ) (ks : List ℕ) → refused_among day (k ∷ ks) ≡ if_refused k (outcome day k) ++ refused_among day ks
+among-cons : (day : List (List ℕ)) (k : ℕ) (ks : List ℕ) → refused_among day (k ∷ ks) ≡ if_refused k (stock_of (part_at day k)) (outcome day k) ++ refused_among day ks
 among-cons day k ks = by (is_refused (outcome day k))
   where
-    by : (b : Bool) → map (piece_of day) (cond b (k ∷ filter (λ n. is_refused (outcome day n)) ks) (filter (λ n. is_refused (outcome day n)) ks))
-        ≡ cond b (piece_of day k ∷ []) [] ++ refused_among day ks
+    by : (b : Bool) → map (refused_message day) (cond b (k ∷ filter (λ n. is_refused (outcome day n)) ks) (filter (λ n. is_refused (outcome day n)) ks))
+        ≡ cond b (refused_message day k ∷ []) [] ++ refused_among day ks
     by true = refl
     by false = refl
 
@@ -130,8 +130,9 @@ module _ (day : List (List ℕ)) (batch : ℕ) where
           let same : (step w p).0 ≡ outcome day (length done + 1) = outcome_step w (after day (length done)) p found.0 found.1 (agree found.0 found.2) ∙ sym (outcome_is day done ps p split) in
           let next : Agree batch (step w p).1 (after day (length done + 1)) = λ locate mine.
           only_step w (after day (length done)) p locate (agree locate mine) ∙ ap (only locate) (sym (after_is day done ps p split)) in
-          ap (λ (o : Outcome). if_refused (length done + 1) o ++ refused_from (step w p).1 (of_batch batch (numbered_after (length done + 1) ps))) same
-          ∙ ap (λ (l : List Piece). if_refused (length done + 1) (outcome day (length done + 1)) ++ l) (later rest (step w p).1 next)
+          ap (λ (o : Outcome). if_refused (length done + 1) (stock_of (part p)) o ++ refused_from (step w p).1 (of_batch batch (numbered_after (length done + 1) ps))) same
+          ∙ ap (λ (q : Part). if_refused (length done + 1) (stock_of q) (outcome day (length done + 1)) ++ refused_from (step w p).1 (of_batch batch (numbered_after (length done + 1) ps))) (sym (part_is day done ps p split))
+          ∙ ap (λ (l : List RefusedMessage). if_refused (length done + 1) (stock_of (part_at day (length done + 1))) (outcome day (length done + 1)) ++ l) (later rest (step w p).1 next)
           ∙ sym (among-cons day (length done + 1) (own_from (length done + 1 + 1) (length ps)))
           ∙ ap (refused_among day) (sym one)
       by rest false other =
@@ -159,23 +160,23 @@ module _ (day : List (List ℕ)) where
   abbrev refused_nowhere : ℕ → Bool
   refused_nowhere n = is_nowhere (part_at day n) && is_refused (outcome day n)
 
-  abbrev nowhere_from : ℕ → ℕ → List Piece
-  nowhere_from k count = map (piece_of day) (filter refused_nowhere (range_with_len k count))
+  abbrev nowhere_from : ℕ → ℕ → List RefusedMessage
+  nowhere_from k count = map (refused_message day) (filter refused_nowhere (range_with_len k count))
 
-  abbrev refusals : List (ℕ × List ℕ) → List Piece
+  abbrev refusals : List (ℕ × List ℕ) → List RefusedMessage
   refusals messages = flat_map (λ m. if_nowhere_refused m.0 (part m.1)) messages
 
   module _ (done ps : List (List ℕ)) (p : List ℕ) (split : day ≡ done ++ p ∷ ps) where
     abbrev kept_after : List ℕ
     kept_after = filter refused_nowhere (range_with_len (length done + 1 + 1) (length ps))
 
-    abbrev refusals_after : List Piece
+    abbrev refusals_after : List RefusedMessage
     refusals_after = refusals (numbered_after (length done + 1) ps)
 
-    abbrev kept_if : Bool → List Piece
-    kept_if b = map (piece_of day) (cond b ((length done + 1) ∷ kept_after) kept_after)
+    abbrev kept_if : Bool → List RefusedMessage
+    kept_if b = map (refused_message day) (cond b ((length done + 1) ∷ kept_after) kept_after)
 
-    later : refusals (numbered_after (length (done ++ p ∷ [])) ps) ≡ nowhere_from (length (done ++ p ∷ []) + 1) (length ps) → refusals_after ≡ map (piece_of day) kept_after
+    later : refusals (numbered_after (length (done ++ p ∷ [])) ps) ≡ nowhere_from (length (done ++ p ∷ []) + 1) (length ps) → refusals_after ≡ map (refused_message day) kept_after
     later rest =
         let long = longer day done ps p split in
         ap (λ (m : ℕ). refusals (numbered_after m ps)) (sym long) ∙ rest ∙ ap (λ (m : ℕ). nowhere_from (m + 1) (length ps)) long
@@ -183,18 +184,20 @@ module _ (day : List (List ℕ)) where
     tested : (q : Part) → q ≡ part p → nowhere_from (length done + 1) (length (p ∷ ps)) ≡ kept_if (is_nowhere q && is_refused (outcome day (length done + 1)))
     tested q is = ap (λ (r : Part). kept_if (is_nowhere r && is_refused (outcome day (length done + 1)))) (part_is day done ps p split ∙ sym is)
 
-    noted : refusals_after ≡ map (piece_of day) kept_after → (o : Outcome) → o ≡ outcome day (length done + 1) → (b : Bool)
-        → cond b ((record { message = length done + 1; outcome = o }) ∷ []) [] ++ refusals_after ≡ kept_if b
-    noted rest o same true =
-        ap (λ (u : Outcome). (record { message = length done + 1; outcome = u }) ∷ refusals_after) same
-        ∙ ap (λ (l : List Piece). piece_of day (length done + 1) ∷ l) rest
-    noted rest o same false = rest
+    noted : refusals_after ≡ map (refused_message day) kept_after → (o : Outcome) → o ≡ outcome day (length done + 1) → part_at day (length done + 1) ≡ Nowhere o → (b : Bool)
+        → cond b ((record { message = length done + 1; locate = None; outcome = o }) ∷ []) [] ++ refusals_after ≡ kept_if b
+    noted rest o same none true =
+        ap (λ (u : Outcome). (record { message = length done + 1; locate = None; outcome = u }) ∷ refusals_after) same
+        ∙ ap (λ (q : Part). (record { message = length done + 1; locate = stock_of q; outcome = outcome day (length done + 1) }) ∷ refusals_after) (sym none)
+        ∙ ap (λ (l : List RefusedMessage). refused_message day (length done + 1) ∷ l) rest
+    noted rest o same none false = rest
 
-    one_nowhere : refusals_after ≡ map (piece_of day) kept_after → (q : Part) → q ≡ part p → if_nowhere_refused (length done + 1) q ++ refusals_after ≡ nowhere_from (length done + 1) (length (p ∷ ps))
+    one_nowhere : refusals_after ≡ map (refused_message day) kept_after → (q : Part) → q ≡ part p → if_nowhere_refused (length done + 1) q ++ refusals_after ≡ nowhere_from (length done + 1) (length (p ∷ ps))
     one_nowhere rest (Locate locate) is = rest ∙ sym (tested (Locate locate) is)
     one_nowhere rest (Nowhere o) is =
-        let same : o ≡ outcome day (length done + 1) = sym (outcomes_stay_fixed day (length done + 1) o (part_is day done ps p split ∙ sym is)) in
-        noted rest o same (is_refused o) ∙ ap (λ (u : Outcome). kept_if (is_refused u)) same ∙ sym (tested (Nowhere o) is)
+        let none : part_at day (length done + 1) ≡ Nowhere o = part_is day done ps p split ∙ sym is in
+        let same : o ≡ outcome day (length done + 1) = sym (outcomes_stay_fixed day (length done + 1) o none) in
+        noted rest o same none (is_refused o) ∙ ap (λ (u : Outcome). kept_if (is_refused u)) same ∙ sym (tested (Nowhere o) is)
 
   nowhere_rest : (rest done : List (List ℕ)) → day ≡ done ++ rest → refusals (numbered_after (length done) rest) ≡ nowhere_from (length done + 1) (length rest)
   nowhere_rest [] done split = refl

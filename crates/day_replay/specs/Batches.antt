@@ -2,20 +2,22 @@
 use Rattle.std.specs.Prelude.{◌≡◌, ◌+◌, ◌*◌, ◌<◌, ◌^◌, ◌++◌, ℕ, All, Bool, true, false, List, [], ◌∷◌, Option, Some, None, length, slice_index_or}
 use Rattle.itch_table.specs.declared.outcome.Outcome.{Outcome}
 use Rattle.itch_table.specs.AnyWorld.{after_all}
+use Rattle.itch_table.specs.Parts.{part}
 use Rattle.itch_table.specs.Projection.{stock_day}
 use Rattle.itch_table.specs.Table.{step}
 use Rattle.itch_table.specs.World.{World, empty_world}
 use Rattle.stock_machine.specs.StockRows.{StockMachine}
-use Rattle.day_core.specs.declared.merging.Piece.{Piece}
 use Rattle.day_replay.specs.declared.TheConstants.{BATCHES, STOCKS}
+use Rattle.day_replay.specs.declared.refusals.RefusedMessage.{RefusedMessage}
 use Rattle.day_replay.specs.Messages.{is_of_batch, payloads_in}
 use Rattle.day_replay.specs.NoStock.{if_refused}
+use Rattle.day_replay.specs.Summaries.{stock_of}
 
 -- the machines of a batch, each in the slot of its stock, those of its messages that were refused, and whether memory
 -- was refused to it
 pub record BatchState : Type 0 where
   pub stocks : List (Option StockMachine)
-  pub refused : List Piece
+  pub refused : List RefusedMessage
   pub failed : Bool
 
 -- ---- one stock
@@ -58,10 +60,11 @@ abbrev pub locate_at : ℕ → ℕ → ℕ
 locate_at batch slot = slot * BATCHES + batch
 
 -- the refused ones of messages, the first of which comes in this world
-abbrev pub refused_from : World → List (ℕ × List ℕ) → List Piece
+abbrev pub refused_from : World → List (ℕ × List ℕ) → List RefusedMessage
 refused_from w [] = []
 refused_from w (message ∷ messages) =
-    if_refused message.0 (step w message.1).0 ++ refused_from (step w message.1).1 messages
+    if_refused message.0 (stock_of (part message.1)) (step w message.1).0
+    ++ refused_from (step w message.1).1 messages
 
 -- a batch has done these messages of its stocks: it has the machine of each stock after them, and those that were refused
 pub record HasDone (batch : ℕ) (messages : List (ℕ × List ℕ)) (state : BatchState) : Type 0 where

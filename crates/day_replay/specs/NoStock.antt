@@ -8,24 +8,24 @@ use Rattle.itch_table.specs.declared.outcome.Part.{Part}
 use Rattle.itch_table.specs.declared.outcome.Part.TheVariants.{Locate, Nowhere}
 use Rattle.itch_table.specs.Parts.{part}
 use Rattle.itch_table.specs.Projection.{event_with}
-use Rattle.day_core.specs.declared.merging.Piece.{Piece}
 use Rattle.day_replay.specs.Summaries.{is_passed, is_refused}
+use Rattle.day_replay.specs.declared.refusals.RefusedMessage.{RefusedMessage}
 
--- the refused messages with their outcomes, how many were passed over, and the last event
+-- the refused messages, how many were passed over, and the last event
 pub record NoStockFacts : Type 0 where
-  pub refused : List Piece
+  pub refused : List RefusedMessage
   pub passed : ℕ
   pub event : Option ℕ
 
--- a message with its outcome, where it was refused
-abbrev pub if_refused : ℕ → Outcome → List Piece
-if_refused number outcome =
-    cond (is_refused outcome) ((record { message = number; outcome = outcome }) ∷ []) []
+-- a message of this stock or of none, where it was refused
+abbrev pub if_refused : ℕ → Option ℕ → Outcome → List RefusedMessage
+if_refused number locate outcome =
+    cond (is_refused outcome) ((record { message = number; locate = locate; outcome = outcome }) ∷ []) []
 
 -- the same, where its part is no stock's
-abbrev pub if_nowhere_refused : ℕ → Part → List Piece
+abbrev pub if_nowhere_refused : ℕ → Part → List RefusedMessage
 if_nowhere_refused number (Locate locate) = []
-if_nowhere_refused number (Nowhere outcome) = if_refused number outcome
+if_nowhere_refused number (Nowhere outcome) = if_refused number None outcome
 
 -- whether a part is no stock's, and what is so is passed over
 abbrev pub is_nowhere_passed : Part → Bool

@@ -7,9 +7,8 @@ ghost use Rattle.itch_table.specs.Parts.{part};
 ghost use Rattle.day_replay.specs.Batches.{Does, DoesOrFails, HasDone, MayDo, outcome_in, stepped};
 
 use crate::batch_messages::BatchMessages;
-use crate::refusals::note_refused;
+use crate::refusals::{RefusedMessage, note_refused};
 use crate::{BATCHES, STOCKS};
-use day_core::Piece;
 use itch_table::{Outcome, locate_in};
 use std::alloc::{AllocError, Allocator};
 use std::marker::Model;
@@ -21,7 +20,7 @@ use stock_machine::Stock;
 #[derive(Drop)]
 pub(crate) struct Batch<A: Allocator> {
     stocks: Vec<Option<Box<Stock<A>, A>>, A>,
-    refused: Vec<Piece, A>,
+    refused: Vec<RefusedMessage, A>,
     // Whether memory was refused to it, so that it hasn't done all of its messages.
     failed: bool,
 }
@@ -101,8 +100,9 @@ impl<A: Allocator + Copy> Batch<A> {
         )?;
         note_refused(
             &mut self.refused,
-            Piece {
+            RefusedMessage {
                 message: number,
+                locate: Some(locate),
                 outcome,
             },
         )
@@ -138,7 +138,7 @@ impl<A: Allocator> Batch<A> {
     }
 
     /// The refused ones of the messages that it has done, with their faults, in their order.
-    pub fn refused(&self) -> &[Piece]
+    pub fn refused(&self) -> &[RefusedMessage]
         ensures { result.now ≡ self.now.refused }
     {
         &self.refused

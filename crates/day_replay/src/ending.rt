@@ -13,7 +13,7 @@ ghost use Rattle.day_replay.specs.Replays.{AreAfter, Hold};
 use crate::BATCHES;
 use crate::batch::Batch;
 use crate::no_stock::NoStock;
-use day_core::Piece;
+use crate::refusals::RefusedMessage;
 use itch_table::LOCATES;
 use std::alloc::{AllocError, Allocator};
 use stock_machine::Stock;
@@ -23,7 +23,7 @@ fn joined<A: Allocator + Copy>(
     alloc: A,
     batches: &[Batch<A>],
     no_stock: &NoStock<A>,
-) -> Result<Vec<Piece, A>, AllocError>
+) -> Result<Vec<RefusedMessage, A>, AllocError>
     requires { length batches.now ≡ BATCHES }
     ensures { IfOk result (λ all. (day : List (List ℕ)) → AreAfter day batches.now
         → no_stock.now ≡ no_stock_of (numbered_after 0 day) → IsPermutation (refused_of day) all.items) }
@@ -41,16 +41,16 @@ pub(crate) fn all_refused<A: Allocator + Copy>(
     alloc: A,
     batches: &[Batch<A>],
     no_stock: &NoStock<A>,
-) -> Result<Vec<Piece, A>, AllocError>
+) -> Result<Vec<RefusedMessage, A>, AllocError>
     requires { length batches.now ≡ BATCHES }
     ensures { IfOk result (λ all. (day : List (List ℕ)) → AreAfter day batches.now
         → no_stock.now ≡ no_stock_of (numbered_after 0 day) → all.items ≡ refused_of day) }
 {
     let mut all = joined(alloc, batches, no_stock)?;
     all.sort_unstable_by_key(
-        |piece: &Piece| -> u32
-            ensures { result ≡ piece.now.message }
-        { piece.message },
+        |refused: &RefusedMessage| -> u32
+            ensures { result ≡ refused.now.message }
+        { refused.message },
     );
     Ok(all)
 }

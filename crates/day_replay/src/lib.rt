@@ -35,7 +35,8 @@ mod replay;
 
 pub use dealt_messages::DealtMessages;
 use itch_table::LOCATES;
-pub use laws::others_are_applied;
+pub use laws::{others_are_applied, refused_are_counted};
+pub use refusals::RefusedMessage;
 pub use replay::{Replay, Summary};
 
 /// How many batches the stocks of a day are in: a stock belongs to the batch whose number is the remainder of its locate

@@ -4,7 +4,8 @@ ghost use Rattle.itch_table.specs.declared.outcome.Part.{Part};
 ghost use Rattle.itch_table.specs.Parts.{part};
 ghost use Rattle.day_replay.specs.NoStock.{no_stock_of};
 
-use day_core::{Piece, event_after};
+use crate::refusals::RefusedMessage;
+use day_core::event_after;
 use itch_table::Outcome;
 use std::alloc::{AllocError, Allocator};
 use std::marker::Model;
@@ -13,7 +14,7 @@ use std::marker::Model;
 /// of unknown types, and of wrong lengths.
 #[derive(Drop)]
 pub(crate) struct NoStock<A: Allocator> {
-    refused: Vec<Piece, A>,
+    refused: Vec<RefusedMessage, A>,
     passed: u32,
     event: Option<u8>,
 }
@@ -57,8 +58,9 @@ impl<A: Allocator> NoStock<A> {
         match outcome {
             Outcome::Applied => {}
             Outcome::Passed => self.passed += 1,
-            Outcome::Refused(_) => self.refused.push(Piece {
+            Outcome::Refused(_) => self.refused.push(RefusedMessage {
                 message: number,
+                locate: None,
                 outcome,
             })?,
         }
@@ -79,7 +81,7 @@ impl<A: Allocator> NoStock<A> {
     }
 
     /// The refused messages with their faults, in their order.
-    pub fn refused(&self) -> &[Piece]
+    pub fn refused(&self) -> &[RefusedMessage]
         ensures { result.now ≡ self.now.refused }
     {
         &self.refused

@@ -14,7 +14,8 @@ use crate::batch_messages::BatchMessages;
 use crate::dealt_messages::DealtMessages;
 use crate::ending::{all_refused, all_stocks};
 use crate::no_stock::NoStock;
-use day_core::{Piece, WorkerCount};
+use crate::refusals::RefusedMessage;
+use day_core::WorkerCount;
 use std::alloc::{AllocError, Allocator};
 use std::marker::Model;
 use std::thread::{Threads, for_each_mut};
@@ -55,8 +56,8 @@ pub struct Summary<A: Allocator> {
     pub messages: u32,
     /// How many of them were passed over.
     pub passed: u32,
-    /// The refused messages with their faults, by rising number.
-    pub refused: Vec<Piece, A>,
+    /// The refused messages, by rising number: whose each is, and its fault.
+    pub refused: Vec<RefusedMessage, A>,
     /// The machines of the stocks that have messages in the day, by rising locate code.
     pub stocks: Vec<Stock<A>, A>,
     /// The event code of the day's last system event message, where it has one.

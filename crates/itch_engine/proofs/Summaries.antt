@@ -7,16 +7,15 @@ use Rattle.std.proofs.lemmas.List.Sums.{length-filter, sum_by-cons}
 use Rattle.itch_table.specs.declared.outcome.Outcome.{Outcome}
 use Rattle.itch_table.specs.declared.outcome.Outcome.TheVariants.{Applied, Passed, Refused}
 use Rattle.itch_table.specs.After.{outcome, outcomes}
-use Rattle.day_core.specs.declared.merging.Piece.{Piece}
-use Rattle.day_core.specs.Owners.{piece_of}
-use Rattle.day_replay.specs.Summaries.{is_applied, is_passed, is_refused, refused_of}
+use Rattle.day_replay.specs.declared.refusals.RefusedMessage.{RefusedMessage}
+use Rattle.day_replay.specs.Summaries.{is_applied, is_passed, is_refused, refused_message, refused_of}
 use Rattle.day_core.proofs.FilteredRanges.{filter-map}
 use Rattle.itch_engine.specs.Report.{refused_line, refused_lines}
 
 -- ---- the lines
 
-abbrev pub line_of : Piece → List ℕ
-line_of p = refused_line p.message p.outcome
+abbrev pub line_of : RefusedMessage → List ℕ
+line_of r = refused_line r.message r.outcome
 
 no_line : (message : ℕ) (o : Outcome) → is_refused o ≡ false → refused_line message o ≡ []
 no_line message Applied off = refl
@@ -24,7 +23,7 @@ no_line message Passed off = refl
 no_line message (Refused fault) off = let never : ⊥ = cc in absurd never
 
 lines_from : (day : List (List ℕ)) (first count : ℕ)
-    → flat_map line_of (map (piece_of day) (filter (λ n. is_refused (outcome day n)) (range_with_len first count)))
+    → flat_map line_of (map (refused_message day) (filter (λ n. is_refused (outcome day n)) (range_with_len first count)))
     ≡ refused_lines first (map (outcome day) (range_with_len first count))
 lines_from day first zero = refl
 lines_from day first (suc count) =
@@ -48,7 +47,7 @@ module _ (day : List (List ℕ)) where
   counted q = sym (length-filter q (outcomes day)) ∙ ap length (filter-map q (outcome day) numbers) ∙ length-map _ (outcome day)
 
   pub refused_are : length (refused_of day) ≡ count_by is_refused (outcomes day)
-  refused_are = length-map _ (piece_of day) ∙ sym (counted is_refused)
+  refused_are = length-map _ (refused_message day) ∙ sym (counted is_refused)
 
 -- each message is applied, passed over or refused
 pub all_counted : (found : List Outcome) → count_by is_applied found + count_by is_passed found + count_by is_refused found ≡ length found

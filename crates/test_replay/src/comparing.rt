@@ -1,7 +1,6 @@
 //! What a replay makes of a day, beside what the plain machine makes of it.
 use binaryfile::Day;
-use day_core::Piece;
-use day_replay::Summary;
+use day_replay::{RefusedMessage, Summary};
 use itch_table::{LOCATES, Outcome, Part, Plain, Side, part};
 use std::alloc::Allocator;
 use std::test::Fail;
@@ -13,7 +12,7 @@ use test_support::{same, same_list};
 pub struct Wanted<A: Allocator> {
     plain: Plain<A>,
     passed: u32,
-    refused: Vec<Piece, A>,
+    refused: Vec<RefusedMessage, A>,
     // The stocks that have messages, by rising locate code, each with how many.
     stocks: Vec<(u16, u32), A>,
 }
@@ -32,6 +31,14 @@ fn with_messages<A: Allocator + Copy>(
     Ok(stocks)
 }
 
+// The locate code of the stock whose message a payload is.
+fn locate_of(payload: &[u8]) -> Option<u16> {
+    match part(payload) {
+        Part::Locate(locate) => Some(locate),
+        Part::Nowhere(_) => None,
+    }
+}
+
 // Passes the next payload to the plain machine, and notes what became of it.
 fn take<A: Allocator + Copy>(wanted: &mut Wanted<A>, payload: &[u8]) -> Result<(), Fail> {
     if wanted.plain.steps() == u32::MAX {
@@ -42,7 +49,11 @@ fn take<A: Allocator + Copy>(wanted: &mut Wanted<A>, payload: &[u8]) -> Result<(
     match outcome {
         Outcome::Applied => {}
         Outcome::Passed => wanted.passed = wanted.passed.saturating_add(1),
-        Outcome::Refused(_) => wanted.refused.push(Piece { message, outcome })?,
+        Outcome::Refused(_) => wanted.refused.push(RefusedMessage {
+            message,
+            locate: locate_of(payload),
+            outcome,
+        })?,
     }
     Ok(())
 }
@@ -52,7 +63,7 @@ fn lead<A: Allocator + Copy>(alloc: A, day: &Day<A>, wanted: &mut Wanted<A>) -> 
     let mut counts = vec![in alloc; 0u32; LOCATES]?;
     for payload in day.payloads() {
         take(wanted, payload)?;
-        if let Part::Locate(locate) = part(payload)
+        if let Some(locate) = locate_of(payload)
             && let Some(count) = counts.get_mut(usize::from(locate))
         {
             *count = count.saturating_add(1);

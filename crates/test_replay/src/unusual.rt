@@ -4,8 +4,7 @@ use crate::cutting::{Cut, add_payload, segments_of};
 use crate::days::threads_of;
 use crate::replaying::replay_segments;
 use binaryfile::Day;
-use day_core::Piece;
-use day_replay::Summary;
+use day_replay::{RefusedMessage, Summary};
 use itch_table::{Fault, Outcome};
 use std::alloc::Allocator;
 use std::test::Fail;
@@ -31,9 +30,10 @@ fn unusual_day<A: Allocator + Copy>(alloc: A) -> Result<Day<A>, Fail> {
 }
 
 // A message that was refused, since its length isn't that of its type.
-fn of_wrong_length(message: u32) -> Piece {
-    Piece {
+fn of_wrong_length(message: u32) -> RefusedMessage {
+    RefusedMessage {
         message,
+        locate: None,
         outcome: Outcome::Refused(Fault::WrongLength),
     }
 }

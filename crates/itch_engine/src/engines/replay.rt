@@ -1,5 +1,5 @@
 //! The engine that loads a day file and replays it, with a gate.
-ghost use Rattle.std.specs.Prelude.{◌≡◌, ◌-◌, ◌<◌, ◌≤◌, ◌^◌, ℕ, Err, IfOk, IfErr, List, count_by, length};
+ghost use Rattle.std.specs.Prelude.{◌≡◌, ◌-◌, ◌<◌, ◌≤◌, ◌^◌, Err, IfOk, IfErr, count_by, length};
 ghost use Rattle.binaryfile.specs.Loading.{HasMoreMessages};
 ghost use Rattle.itch_table.specs.After.{outcomes};
 ghost use Rattle.day_replay.specs.Summaries.{is_passed, refused_of};
@@ -9,8 +9,7 @@ ghost use Rattle.itch_engine.specs.ReplayEngines.{Replays, replayer};
 
 use crate::report::file::{Report, report_of};
 use binaryfile::{Day, Feed, Sink, read_to_end, send};
-use day_core::Piece;
-use day_replay::Summary;
+use day_replay::{RefusedMessage, Summary};
 use engine_rules::ProgFault;
 use engine_rules::limits::{MOST_FILE_BYTES, MOST_MESSAGES};
 use file_replay::FileSummary;
@@ -36,22 +35,21 @@ fn passed_among(found: &[Outcome]) -> u32
     passed
 }
 
-// The refused ones of the messages of a day whose outcomes these are, by rising number.
+// The refused ones of the messages of a day, whose outcomes these are, by rising number.
 fn refused_among<A: Allocator + Copy>(
     alloc: A,
+    day: &Day<A>,
     found: &[Outcome],
-) -> Result<Vec<Piece, A>, AllocError>
-    requires { length found.now < 2 ^ 32 }
-    ensures { IfOk result (λ refused. (day : List (List ℕ)) → found.now ≡ outcomes day
-        → refused.items ≡ refused_of day) }
+) -> Result<Vec<RefusedMessage, A>, AllocError>
+    requires few { length found.now < 2 ^ 32 }
+    requires are { found.now ≡ outcomes day.now.payloads }
+    ensures { IfOk result (λ refused. refused.items ≡ refused_of day.now.payloads) }
 {
     let mut refused = Vec::new(alloc);
     for (before, outcome) in found.iter().enumerate() {
         if let Outcome::Refused(_) = outcome {
-            refused.push(Piece {
-                message: before as u32 + 1,
-                outcome: *outcome,
-            })?;
+            let message = before as u32 + 1;
+            refused.push(RefusedMessage::of(message, day.payload(message), *outcome))?;
         }
     }
     Ok(refused)
@@ -78,7 +76,7 @@ fn replay_day<R: Threads + Wait + Sync, A: Allocator + Copy + Send + Sync, G: Ga
         summary: Summary {
             messages: day.len(),
             passed: passed_among(&made.outcomes),
-            refused: refused_among(alloc, &made.outcomes)?,
+            refused: refused_among(alloc, day, &made.outcomes)?,
             stocks: made.stocks,
             event: made.event,
         },

@@ -9,7 +9,7 @@ ghost use Rattle.file_replay.specs.Files.{IsFileSummary};
 ghost use Rattle.itch_engine.specs.Report.{counts, file_line, mark, refused_line};
 ghost use Rattle.itch_engine.specs.Tallies.{IsTally};
 
-use day_core::Piece;
+use day_replay::RefusedMessage;
 use file_replay::FileSummary;
 use itch_table::Outcome;
 use std::alloc::{AllocError, Allocator};
@@ -42,11 +42,14 @@ pub(crate) fn tally_of<A: Allocator>(file: &FileSummary<A>) -> Tally
 }
 
 // Adds the line of a message, where it was refused.
-fn put_refused<A: Allocator>(text: &mut Vec<u8, A>, piece: Piece) -> Result<(), AllocError>
-    ensures { Extends text.old text.new (refused_line piece.message piece.outcome) result }
+fn put_refused<A: Allocator>(
+    text: &mut Vec<u8, A>,
+    refused: RefusedMessage,
+) -> Result<(), AllocError>
+    ensures { Extends text.old text.new (refused_line refused.message refused.outcome) result }
 {
-    if let Outcome::Refused(fault) = piece.outcome {
-        put_count(text, b"message ", piece.message)?;
+    if let Outcome::Refused(fault) = refused.outcome {
+        put_count(text, b"message ", refused.message)?;
         put_count(text, b" refused F", fault.number())?;
         text.push(b'\n')?;
     }
@@ -56,13 +59,13 @@ fn put_refused<A: Allocator>(text: &mut Vec<u8, A>, piece: Piece) -> Result<(), 
 /// Adds the lines of the refused messages of a file.
 pub(crate) fn put_refused_lines<A: Allocator>(
     text: &mut Vec<u8, A>,
-    refused: &[Piece],
+    refused: &[RefusedMessage],
 ) -> Result<(), AllocError>
     ensures { Extends text.old text.new
-        (flat_map (λ p. refused_line p.message p.outcome) refused.now) result }
+        (flat_map (λ r. refused_line r.message r.outcome) refused.now) result }
 {
-    for piece in refused {
-        put_refused(text, *piece)?;
+    for message in refused {
+        put_refused(text, *message)?;
     }
     Ok(())
 }

@@ -3,6 +3,6 @@ use Rattle.std.specs.List.{flat_map}
 use Rattle.itch_engine.specs.Report.{refused_line}
 use Rattle.itch_engine.proofs.report.messages.put_refused_lines.Given as goal
 
-abbrev pub invariant-loop-piece : goal.invariant-loop-piece
-invariant-loop-piece g l =
-    l.text.items ≡ l.fn.text.items ++ flat_map (λ p. refused_line p.message p.outcome) (take l.piece-index l.refused)
+abbrev pub invariant-loop-message : goal.invariant-loop-message
+invariant-loop-message g l =
+    l.text.items ≡ l.fn.text.items ++ flat_map (λ r. refused_line r.message r.outcome) (take l.message-index l.refused)
