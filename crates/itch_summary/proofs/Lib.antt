@@ -1,0 +1,2 @@
+mod OneRefusedMore
+mod SummaryLines

@@ -1,0 +1,4 @@
+pub mod Lines
+pub mod RefusedCounts
+pub mod Summaries
+pub mod Engines
