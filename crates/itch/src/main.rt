@@ -18,7 +18,7 @@ use engine_rules::{ProgFault, status};
 use files::Ended;
 use itch_arguments::Task;
 use readings::{list_stocks, print_order, print_tops, print_trades};
-use replays::{replay, replay_digits, watch};
+use replays::{replay, replay_digits, summarize, watch};
 use sessions::debug;
 use std::env;
 use std::io::{self, IsTerminal};
@@ -87,6 +87,7 @@ where
             workers,
             progress,
         } => replay(rt, terminals, file, workers, progress),
+        Task::Summarize { file, workers } => summarize(rt, terminals, file, workers),
         Task::Disassemble { file } => disassemble(rt, terminals, file),
         Task::DisassembleBetween { file, first, last } => {
             disassemble_between(rt, terminals, file, first, last)

@@ -5,6 +5,7 @@ use crate::terminals::Terminals;
 use binaryfile::{Feed, Sink};
 use day_segments::SEGMENT_BYTES;
 use itch_engine::{hex_run, report_run};
+use itch_summary::summary_run;
 use itch_watch::watch_run;
 use named_files::Named;
 use std::rt::Runtime;
@@ -48,6 +49,28 @@ where
         lines.say();
     }
     ended(run, &day, &output)
+}
+
+/// Replays a file by this many threads while it is read, and writes a line for each of its stocks on standard output.
+pub fn summarize<'a, R: Runtime + AllocGlobal + Threads + Sync>(
+    rt: &R,
+    terminals: Terminals,
+    path: &'a str,
+    workers: u32,
+) -> Ended<'a>
+where
+    R::File: Send,
+{
+    let mut day = open_day(rt, terminals, path)?;
+    let mut output = standard_output(rt);
+    let run = summary_run(
+        rt,
+        rt.alloc(),
+        &mut Feed::new(&mut day),
+        &mut Sink::new(&mut output),
+        number_of_workers(workers),
+    );
+    ended(run.map(|()| 0), &day, &output)
 }
 
 /// Replays a file, and writes what a screen of one of its stocks sees meanwhile on standard output.

@@ -1,11 +1,12 @@
 -- The commands of the program, by what they ask for. All is of this project.
 use Rattle.std.specs.Prelude.{ℕ, List, codes, Option, Some, None}
 use Rattle.itch_arguments.specs.declared.Task.{Task}
-use Rattle.itch_arguments.specs.declared.Task.TheVariants.{Replay, Disassemble, DisassembleBetween, Stocks, Tops, Order, Trades, Watch, Assemble, Debug, ReplayDigits}
+use Rattle.itch_arguments.specs.declared.Task.TheVariants.{Replay, Summarize, Disassemble, DisassembleBetween, Stocks, Tops, Order, Trades, Watch, Assemble, Debug, ReplayDigits}
 
 -- the command that asks for a task; none where a program without one is asked for it
 abbrev pub command_of : Task → Option (List ℕ)
 command_of (Replay file workers progress) = Some (codes "replay")
+command_of (Summarize file workers) = Some (codes "summary")
 command_of (Disassemble file) = Some (codes "dis")
 command_of (DisassembleBetween file first last) = Some (codes "dis")
 command_of (Stocks file) = Some (codes "stocks")

@@ -47,6 +47,11 @@ pub enum Task<'a> {
         /// Whether to say how far the replay is.
         progress: bool,
     },
+    /// To replay a file, by as many workers as the arguments say, and write a line for each of its stocks.
+    Summarize {
+        file: &'a str,
+        workers: u32,
+    },
     /// To write a file's text.
     Disassemble {
         file: &'a str,
@@ -113,6 +118,14 @@ fn workers<'a>(alloc: Global, help: &'a str) -> Arg<'a> {
         .default_value("1")
 }
 
+// The number of threads that replay a day while it is read.
+fn threads<'a>(alloc: Global) -> Arg<'a> {
+    workers(
+        alloc,
+        "How many threads replay the day, from 1 to 64, while one more reads it",
+    )
+}
+
 // The number of a message.
 fn number<'a>(alloc: Global, name: &'a str, help: &'a str) -> Arg<'a> {
     Arg::new(alloc, name)
@@ -124,17 +137,21 @@ fn number<'a>(alloc: Global, name: &'a str, help: &'a str) -> Arg<'a> {
 
 // The arguments that replay a file.
 fn replay_command<'a>(alloc: Global) -> Result<Command<'a>, AllocError> {
-    let workers = workers(
-        alloc,
-        "How many threads replay the day, from 1 to 64, while one more reads it",
-    );
     let progress = Arg::new(alloc, "progress")
         .long("progress")
         .action(ArgAction::SetTrue)
         .help("Says on standard error how far it is, at most once a second and at the end");
-    let args = vec![in alloc; path(alloc, "FILE", DAY_HELP), workers, progress]?;
+    let args = vec![in alloc; path(alloc, "FILE", DAY_HELP), threads(alloc), progress]?;
     Command::new(alloc, "replay")
         .about("Replays a day and prints its report, which is the same for every number of workers")
+        .args(args)
+}
+
+// The arguments that print a report as a table.
+fn summary_command<'a>(alloc: Global) -> Result<Command<'a>, AllocError> {
+    let args = vec![in alloc; path(alloc, "FILE", DAY_HELP), threads(alloc)]?;
+    Command::new(alloc, "summary")
+        .about("Replays a day and prints a comma-separated line for each of its stocks")
         .args(args)
 }
 
@@ -256,6 +273,7 @@ fn add<'a>(
 // Adds the commands that the program has, in the order of its help.
 fn add_all<'a>(alloc: Global, commands: &mut Vec<Command<'a>>) -> Result<(), AllocError> {
     add(commands, replay_command(alloc))?;
+    add(commands, summary_command(alloc))?;
     add(commands, dis_command(alloc))?;
     add(commands, stocks_command(alloc))?;
     add(commands, tops_command(alloc))?;
@@ -308,6 +326,18 @@ fn replaying<'a>(matches: &ArgMatches<'a>) -> Option<Task<'a>>
         file: replay.get_str("FILE")?,
         workers: replay.get_one("workers").unwrap_or(1),
         progress: replay.get_flag("progress"),
+    })
+}
+
+// To write a line for each stock, where the arguments ask for it.
+fn summarizing<'a>(matches: &ArgMatches<'a>) -> Option<Task<'a>>
+    ensures { IfSome result (λ task. (command_of task ≡ Some (codes "summary"))
+        × (subcommand_name_of matches.now ≡ Some (codes "summary"))) }
+{
+    let summary = matches.subcommand_matches("summary")?;
+    Some(Task::Summarize {
+        file: summary.get_str("FILE")?,
+        workers: summary.get_one("workers").unwrap_or(1),
     })
 }
 
@@ -367,6 +397,9 @@ pub fn chosen_task<'a>(matches: &ArgMatches<'a>) -> Task<'a>
     ensures { IfSome (command_of result) (λ command. subcommand_name_of matches.now ≡ Some command) }
 {
     if let Some(task) = replaying(matches) {
+        return task;
+    }
+    if let Some(task) = summarizing(matches) {
         return task;
     }
     if let Some(task) = printing_tops(matches) {
