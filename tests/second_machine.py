@@ -239,16 +239,18 @@ def side_fields(levels):
     return ["%d" % number for number in levels[0]] if levels else ["", ""]
 
 
-def tops(payloads, locate):
-    """A stock's best bid and ask after each of its messages."""
+def tops(payloads, locate, every):
+    """A stock's best bid and ask after each of its messages, or each that changes them."""
     yield "message,time,bid_price,bid_shares,ask_price,ask_shares"
-    day = Day()
+    day, before = Day(), ["", "", "", ""]
     for payload in payloads:
         day.take(payload)
         message = day.messages[-1]
         if is_of_stock(message) and message["locate"] == locate:
             sides = side_fields(day.levels(locate, b"B")) + side_fields(day.levels(locate, b"S"))
-            yield ",".join(["%d" % day.number, "%d" % message["time"], *sides])
+            if every or sides != before:
+                yield ",".join(["%d" % day.number, "%d" % message["time"], *sides])
+            before = sides
 
 
 def trades(day, locate=None):

@@ -5,7 +5,7 @@ ghost use Rattle.itch_readings.specs.TradeLaws.{AllTradesAreRows, StockTradesAre
 /// its match number, its shares, its price and whether it is printed, and broken exactly where the line names a message that
 /// broke it. That holds of those of all stocks (`all`), and of those of a stock that is named (`stock`).
 ///
-/// So the sums over the printed lines of a stock that no message broke are the stock's totals (`totals`).
+/// So the sums over a stock's trades that no message broke, printed ones and others apart, are its totals (`totals`).
 #[tactic(auto, using(crate::proofs::TradeRows::trades_are_rows))]
 pub fn trades_are_rows()
     ensures all { AllTradesAreRows }

@@ -53,7 +53,8 @@ pub(crate) struct Trade {
     pub broken: Option<u32>,
 }
 
-/// A message that breaks all unbroken trades of its stock with a match number (Nasdaq TotalView-ITCH 5.0, "Broken Trade").
+/// A message that breaks trades (Nasdaq TotalView-ITCH 5.0, "Broken Trade"): all unbroken ones of its stock with a match
+/// number, which is a rule of this project.
 #[derive(Debug, Clone, Copy, PartialEq, Eq)]
 pub(crate) struct TradeBreak {
     /// The message.

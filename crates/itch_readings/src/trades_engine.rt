@@ -58,8 +58,8 @@ pub fn trades_of_file<A: Allocator + Copy, R: Read>(
 /// number.
 ///
 /// The file is read once, by one thread, and in memory are no more than a segment of 1 MiB, the machines of all stocks with
-/// 8 bytes for each locate code, about 64 bytes for each trade and each message that breaks some, and the text, which is
-/// made before it is sent. Faults are those of [`stocks_run`].
+/// 8 bytes for each locate code, about 64 bytes for each trade and each message that breaks some, about 50 for each match
+/// number that was broken, and the text, which is made before it is sent. Faults are those of [`stocks_run`].
 ///
 /// [`stocks_run`]: crate::stocks_run
 pub fn trades_run<A: Allocator + Copy, R: Read, W: Write>(
@@ -113,8 +113,8 @@ pub fn stock_trades_of_file<A: Allocator + Copy, R: Read>(
 ///
 /// The stock is the one that [`tops_run`] finds by this name, and its messages are the same. The file is read once, and in
 /// memory are no more than a segment of 1 MiB, a byte for each locate code, the machine of this stock, about 64 bytes for
-/// each of its trades and of its messages that break some, and the text, which is made before it is sent. Faults are those
-/// of [`tops_run`].
+/// each of its trades and of its messages that break some, about 50 for each match number that was broken, and the text,
+/// which is made before it is sent. Faults are those of [`tops_run`].
 ///
 /// [`tops_run`]: crate::tops_run
 pub fn stock_trades_run<A: Allocator + Copy, R: Read, W: Write>(

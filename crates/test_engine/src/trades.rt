@@ -5,7 +5,7 @@ use itch_layouts::{Head, Msg, Nanos};
 use itch_readings::{
     StockFault, StockName, stock_trades_of_file, stock_trades_run, trades_of_file, trades_run,
 };
-use std::alloc::{AllocError, Allocator};
+use std::alloc::Allocator;
 use std::io::{ErrorKind, Read};
 use std::test::Fail;
 use test_refusing::{Refusal, Refusing, Tried, refuse_each};
