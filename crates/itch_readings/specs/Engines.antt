@@ -27,7 +27,8 @@ pub record ListsStocks (text : List ℕ) (day : List (List ℕ)) : Type 0 where
 
 -- The day has the stock that is named, and the text is that of the stock's moments from the message on with which it
 -- begins.
-pub record PrintsTops (name : StockName) (selection : Selection) (text : List ℕ) (day : List (List ℕ)) : Type 0 where
+pub record PrintsTops (name : StockName) (selection : Selection) (text : List ℕ)
+    (day : List (List ℕ)) : Type 0 where
   pub message : ℕ
   pub locate : ℕ
   pub named : NamesStock day name message locate

@@ -23,14 +23,15 @@ pub record NotesNext {N : Type 0} (AreOf : Noting N) (number : ℕ) (payload : L
       → AreOf first notes before → AreOf first more (before ++ next_message number payload stock ∷ [])
 
 -- the machine has taken the stock's messages of a day, and those from message n on were noted
-pub record HasNoted {N : Type 0} (AreOf : Noting N) (first : N) (day : List (List ℕ)) (n : ℕ) (stock : StockMachine)
-    (notes : N) : Type 0 where
+pub record HasNoted {N : Type 0} (AreOf : Noting N) (first : N) (day : List (List ℕ)) (n : ℕ)
+    (stock : StockMachine) (notes : N) : Type 0 where
   pub world : stock.world ≡ only stock.locate (after day (length day))
   pub steps : stock.steps ≤ length day
   pub noted : AreOf first notes (own_from day stock.locate n)
 
 -- the stock hasn't begun and nothing was noted, or it has begun with one of the day's messages
-abbrev pub NotesSoFar : {N : Type 0} → Noting N → N → List (List ℕ) → Search → Option StockMachine → N → Type 0
+abbrev pub NotesSoFar : {N : Type 0} → Noting N → N → List (List ℕ) → Search → Option StockMachine → N
+    → Type 0
 NotesSoFar AreOf first day search None notes = HasSearched day search × AreOf first notes []
 NotesSoFar AreOf first day search (Some stock) notes =
     (n : ℕ) × NamesStock day search.name n stock.locate × HasNoted AreOf first day n stock notes
@@ -44,7 +45,8 @@ pub record HasTaken {N : Type 0} (AreOf : Noting N) (first : N) (day : List (Lis
 
 -- with the next payload the stock hasn't begun either, or it begins with it, or it has begun before: the notes are those of
 -- the day as it was
-abbrev pub NotesBefore : {N : Type 0} → Noting N → N → List (List ℕ) → List ℕ → Search → Option StockMachine → N → Type 0
+abbrev pub NotesBefore : {N : Type 0} → Noting N → N → List (List ℕ) → List ℕ → Search
+    → Option StockMachine → N → Type 0
 NotesBefore AreOf first day payload search None notes =
     HasSearched (day ++ payload ∷ []) search × AreOf first notes []
 NotesBefore AreOf first day payload search (Some stock) notes =
@@ -53,7 +55,8 @@ NotesBefore AreOf first day payload search (Some stock) notes =
 
 -- the next payload was counted and looked at, and is still to be noted
 pub record TakesNext {N : Type 0} (AreOf : Noting N) (first : N) (day : List (List ℕ)) (payload : List ℕ)
-    (name : StockName) (search : Search) (messages : ℕ) (stock : Option StockMachine) (notes : N) : Type 0 where
+    (name : StockName) (search : Search) (messages : ℕ) (stock : Option StockMachine)
+    (notes : N) : Type 0 where
   pub name_is : search.name ≡ name
   pub counted : messages ≡ length day + 1
   pub so_far : NotesBefore AreOf first day payload search stock notes

@@ -65,7 +65,8 @@ end_line None false reference = codes "no order " ++ decimal reference ++ codes 
 abbrev pub life_text : (ℕ → ℕ) → List OwnMessage → World → ℕ → ℕ → List ℕ
 life_text first messages world locate reference =
     flat_map (λ m. life_line first reference m.number m.outcome m.payload) messages
-    ++ end_line (living_order first reference (orders_of world locate)) (is_spent world locate reference) reference
+    ++ end_line (living_order first reference (orders_of world locate))
+    (is_spent world locate reference) reference
 
 abbrev pub order_text : List OwnMessage → World → ℕ → ℕ → List ℕ
 order_text messages = life_text (first_reference messages) messages

@@ -5,6 +5,7 @@ use Rattle.itch_table.specs.declared.order.Top.{Top}
 use Rattle.itch_table.specs.Levels.{top}
 use Rattle.itch_table.specs.Shows.{no_top}
 use Rattle.itch_table.specs.World.{orders_of}
+use Rattle.stock_text.specs.Fields.{level_fields}
 use Rattle.itch_readings.specs.OwnMessages.{OwnMessage}
 use Rattle.itch_readings.specs.Tops.{time_of}
 use Rattle.itch_readings.specs.declared.moments.Moment.{Moment}
@@ -22,16 +23,11 @@ abbrev pub is_shown : Selection → Top → Top → Bool
 is_shown Changes before after = differs before after
 is_shown Every before after = true
 
--- the fields of a side: its price and its shares, or nothing where it is empty
-abbrev pub side_fields : ℕ → ℕ → List ℕ
-side_fields price shares =
-    if shares == 0 then codes ",," else codes "," ++ decimal price ++ codes "," ++ decimal shares
-
 -- the line of a moment: the number of its message, its time in nanoseconds since midnight, the bid and the ask
 abbrev pub moment_line : Moment → List ℕ
 moment_line at =
-    decimal at.message ++ codes "," ++ decimal at.time ++ side_fields at.top.bid_price at.top.bid_shares
-    ++ side_fields at.top.ask_price at.top.ask_shares ++ codes "\n"
+    decimal at.message ++ codes "," ++ decimal at.time ++ level_fields at.top.bid_price at.top.bid_shares
+    ++ level_fields at.top.ask_price at.top.ask_shares ++ codes "\n"
 
 -- the line of a moment, if it has one, by the top before it
 abbrev pub shown_line : Selection → Top → Moment → List ℕ

@@ -2,13 +2,14 @@
 ghost use Rattle.std.specs.Prelude.{◌≡◌, ◌++◌, ◌∷◌, [], IfOk, List, OnOk};
 ghost use Rattle.byte_strings.specs.Extending.{Extends};
 ghost use Rattle.itch_readings.specs.OwnMessages.{OwnMessage};
-ghost use Rattle.itch_readings.specs.TopLines.{AreLines, differs, field_names, is_shown, moment_line, shown_line, side_fields};
+ghost use Rattle.itch_readings.specs.TopLines.{AreLines, differs, field_names, is_shown, moment_line, shown_line};
 
 use crate::moments::{Moment, time_in};
 use crate::notes::Notes;
 use itch_table::{Order, Outcome, Top};
 use std::alloc::{AllocError, Allocator};
 use stock_machine::Stock;
+use stock_text::put_level_fields;
 use text_fields::put_count;
 
 /// Which of a stock's messages have a line.
@@ -40,25 +41,14 @@ fn is_shown(selection: Selection, before: &Top, after: &Top) -> bool
     }
 }
 
-// Adds the price and the shares of a side, each after a comma; nothing after the commas where it is empty.
-fn put_side<A: Allocator>(text: &mut Vec<u8, A>, price: u32, shares: u64) -> Result<(), AllocError>
-    ensures { Extends text.old text.new (side_fields price shares) result }
-{
-    if shares == 0 {
-        return text.extend_from_slice(b",,");
-    }
-    put_count(text, b",", price)?;
-    put_count(text, b",", shares)
-}
-
 // Adds the line of a moment.
 fn put_moment<A: Allocator>(text: &mut Vec<u8, A>, moment: &Moment) -> Result<(), AllocError>
     ensures { Extends text.old text.new (moment_line moment.now) result }
 {
     put_count(text, b"", moment.message)?;
     put_count(text, b",", moment.time)?;
-    put_side(text, moment.top.bid_price, moment.top.bid_shares)?;
-    put_side(text, moment.top.ask_price, moment.top.ask_shares)?;
+    put_level_fields(text, moment.top.bid_price, moment.top.bid_shares)?;
+    put_level_fields(text, moment.top.ask_price, moment.top.ask_shares)?;
     text.push(b'\n')?;
     Ok(())
 }
