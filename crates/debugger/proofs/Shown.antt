@@ -19,7 +19,7 @@ use Rattle.stock_machine.specs.StockRows.{StockMachine}
 use Rattle.day_core.specs.Owners.{machine_of}
 use Rattle.day_core.proofs.MachineSteps.{machine_stepped, steps_most}
 use Rattle.debugger.specs.Finding.{IsLatest}
-use Rattle.debugger.specs.Sessions.{is_system, outcome_at}
+use Rattle.debugger.specs.Sessions.{is_system}
 
 -- ---- the event
 

@@ -6,7 +6,7 @@ use Rattle.itch_layouts.specs.declared.message.Msg.TheVariants.{System}
 use Rattle.itch_layouts.specs.declared.shape.Shape.{Shape}
 use Rattle.itch_layouts.specs.declared.shape.Shape.TheVariants.{Known}
 use Rattle.itch_table.specs.declared.outcome.Outcome.{Outcome}
-use Rattle.itch_table.specs.After.{outcome}
+use Rattle.itch_table.specs.After.{outcome_at}
 use Rattle.day_core.specs.Owners.{last_or}
 use Rattle.checkpoints.specs.Copies.{Tracked, numbers_of}
 use Rattle.checkpoints.specs.Filtering.{numbers_where}
@@ -51,11 +51,6 @@ next_stop s =
 -- the last message before a session's position at which a breakpoint stops, or 0
 abbrev pub previous_stop : Session → ℕ
 previous_stop s = last_or 0 (filter (stops_at s.breaks s.day) (range_with_len 1 (s.position - 1)))
-
--- the outcome of the message at a position, none before the first
-abbrev pub outcome_at : List (List ℕ) → ℕ → Option Outcome
-outcome_at day zero = None
-outcome_at day (suc before) = Some (outcome day (suc before))
 
 -- whether a payload is a system event message
 abbrev pub is_system : Shape → Bool

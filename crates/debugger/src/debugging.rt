@@ -3,7 +3,7 @@ ghost use Rattle.std.specs.Prelude.{◌≡◌, ◌≢◌, ◌↔◌, ◌+◌, �
 ghost use Rattle.itch_table.specs.After.{after};
 ghost use Rattle.day_core.specs.Owners.{machine_of};
 ghost use Rattle.debugger.specs.FaultNumbers.{number_of};
-ghost use Rattle.debugger.specs.Sessions.{moved_to, new_session, next_stop, outcome_at, previous_stop, with_break, without_break};
+ghost use Rattle.debugger.specs.Sessions.{moved_to, new_session, next_stop, previous_stop, with_break, without_break};
 ghost use Rattle.debugger.specs.Stops.{hit};
 ghost use Rattle.debugger.specs.declared.debugging.DebugFault.TheVariants.{Memory};
 

@@ -1,6 +1,6 @@
 //! What became of a message.
 ghost use Rattle.std.specs.Prelude.{◌≡◌, ◌≤◌, IfOk, length};
-ghost use Rattle.debugger.specs.Sessions.{outcome_at};
+ghost use Rattle.itch_table.specs.After.{outcome_at};
 
 use crate::tracks::Tracks;
 use binaryfile::Day;

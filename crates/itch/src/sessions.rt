@@ -2,9 +2,9 @@
 use crate::files::{Ended, ended, open_day, standard_output};
 use crate::prompt::Prompting;
 use crate::terminals::Terminals;
-use binaryfile::{Day, Feed, Limits, Sink};
+use binaryfile::{Day, Feed, Sink};
 use engine_rules::ProgFault;
-use engine_rules::limits::{MOST_FILE_BYTES, MOST_MESSAGES};
+use engine_rules::limits::FILE_LIMITS;
 use itch_debug::debug_run;
 use named_files::Named;
 use std::rt::Runtime;
@@ -17,11 +17,7 @@ pub fn debug<'a, R: Runtime + AllocGlobal>(
 ) -> Ended<'a> {
     let mut output = standard_output(rt);
     let mut file = open_day(rt, terminals, path)?;
-    let limits = Limits {
-        bytes: MOST_FILE_BYTES,
-        messages: MOST_MESSAGES,
-    };
-    let day = match Day::load(rt.alloc(), &mut Feed::new(&mut file), limits) {
+    let day = match Day::load(rt.alloc(), &mut Feed::new(&mut file), FILE_LIMITS) {
         Ok(day) => day,
         Err(fault) => return ended(Err(ProgFault::from(fault)), &file, &output),
     };

@@ -1,18 +1,12 @@
 -- The answer of each command. The lines are of this project; each ends with a line feed, and its numbers are decimal.
 use Rattle.std.specs.Prelude.{◌≡◌, ◌⊎◌, ℕ, ◌+◌, ◌-◌, ◌==◌, ◌&&◌, nat_le, Bool, false, if◌then◌else◌, zero, suc, List, [], ◌∷◌, ◌++◌, length, position, codes, decimal, slice_get, Option, Some, None, Result, OnErr, OnOk}
 use Rattle.std.specs.declared.vec.Vec.{Vec}
-use Rattle.std.specs.List.{flat_map}
-use Rattle.itch_layouts.specs.declared.message.Directory.{Directory}
-use Rattle.itch_table.specs.declared.outcome.Outcome.{Outcome}
-use Rattle.itch_table.specs.declared.order.Side.TheVariants.{Buy, Sell}
-use Rattle.itch_table.specs.declared.status.Status.{Status}
 use Rattle.itch_table.specs.After.{after}
-use Rattle.itch_table.specs.Levels.{levels, same_side}
-use Rattle.itch_table.specs.World.{World, orders_of, status, totals}
+use Rattle.itch_table.specs.Levels.{same_side}
 use Rattle.text_fields.specs.Quoted.{quoted_byte}
-use Rattle.stock_text.specs.Orders.{order_line, outcome_words, side_text}
-use Rattle.stock_text.specs.Stocks.{ask_line, bid_line, stock_line, trades_line}
-use Rattle.debugger.specs.Sessions.{Session, moved_to, next_stop, outcome_at, previous_stop, with_break, without_break}
+use Rattle.stock_text.specs.Orders.{side_text}
+use Rattle.stock_text.specs.Sessions.{position_text, stock_text}
+use Rattle.debugger.specs.Sessions.{Session, moved_to, next_stop, previous_stop, with_break, without_break}
 use Rattle.debugger.specs.Stops.{hit}
 use Rattle.debugger.specs.declared.breakpoint.Break.{Break}
 use Rattle.debugger.specs.declared.breakpoint.Break.TheVariants.{Price, Reference, Time}
@@ -22,15 +16,6 @@ use Rattle.itch_debug.specs.declared.command.Command.{Command}
 use Rattle.itch_debug.specs.declared.command.Command.TheVariants.{Blank, Goto, Step, Back, Onward, Rearward, AddBreak, ListBreaks, RemoveBreak, Event, Show, Quit}
 
 -- ---- lines
-
--- what became of the message at a position, or `start` at 0
-abbrev pub outcome_text : Option Outcome → List ℕ
-outcome_text None = codes "start"
-outcome_text (Some outcome) = outcome_words outcome
-
--- a position of a day
-abbrev pub position_text : List (List ℕ) → ℕ → List ℕ
-position_text day n = codes "at " ++ decimal n ++ codes " " ++ outcome_text (outcome_at day n)
 
 -- the number of the breakpoint at an index, which counts from 1
 abbrev pub hit_text : Option ℕ → List ℕ
@@ -66,29 +51,6 @@ breaks_text (b ∷ bs) = break_lines 1 (b ∷ bs)
 -- the line of the last event
 abbrev pub event_line : Option ℕ → List ℕ
 event_line event = codes "event " ++ quoted_byte event ++ codes "\n"
-
--- ---- stocks
-
--- the levels of a stock: its bids and its asks
-abbrev pub sides_of : World → ℕ → List ℕ
-sides_of w locate =
-    flat_map bid_line (levels (orders_of w locate) Buy)
-    ++ flat_map ask_line (levels (orders_of w locate) Sell)
-
--- the levels, the orders and the totals of a stock
-abbrev pub book_of : World → ℕ → List ℕ
-book_of w locate =
-    sides_of w locate ++ flat_map order_line (orders_of w locate) ++ trades_line (totals w locate)
-
--- a stock with this directory row, or that there is none
-abbrev pub listed_text : ℕ → Option Directory → Status → List ℕ → List ℕ
-listed_text locate None known book = codes "no stock " ++ decimal locate ++ codes "\n"
-listed_text locate (Some row) known book = stock_line locate row.stock known.trading known.regsho ++ book
-
--- the lines of a stock, as the world has it
-abbrev pub stock_text : World → ℕ → List ℕ
-stock_text w locate =
-    let known = status w locate in listed_text locate known.directory known (book_of w locate)
 
 -- ---- breakpoints
 

@@ -2,26 +2,13 @@
 ghost use Rattle.std.specs.Prelude.{◌≢◌, ◌+◌, ◌++◌, OnOk, codes};
 ghost use Rattle.byte_strings.specs.Extending.{Extends};
 ghost use Rattle.itch_table.specs.After.{after};
-ghost use Rattle.itch_debug.specs.Answering.{break_line, break_text, breaks_text, event_line, hit_text, numbered_break, outcome_text, position_text, refusal_text};
+ghost use Rattle.itch_debug.specs.Answering.{break_line, break_text, breaks_text, event_line, hit_text, numbered_break, refusal_text};
+ghost use Rattle.stock_text.specs.Sessions.{position_text};
 
 use debugger::{Break, DebugFault, Debugger};
-use itch_table::Outcome;
 use std::alloc::{AllocError, Allocator};
 use stock_text::put_side;
 use text_fields::{put_count, put_quoted_byte};
-
-// Adds what became of the message at a position, or `start` at 0.
-fn put_outcome<A: Allocator>(
-    text: &mut Vec<u8, A>,
-    outcome: Option<Outcome>,
-) -> Result<(), AllocError>
-    ensures { Extends text.old text.new (outcome_text outcome) result }
-{
-    match outcome {
-        None => text.extend_from_slice(b"start"),
-        Some(outcome) => stock_text::put_outcome(text, outcome),
-    }
-}
 
 /// Adds the position and what became of its message.
 pub(crate) fn put_position<A: Allocator>(
@@ -30,9 +17,7 @@ pub(crate) fn put_position<A: Allocator>(
 ) -> Result<(), AllocError>
     ensures { Extends text.old text.new (position_text debugger.now.day debugger.now.position) result }
 {
-    put_count(text, b"at ", debugger.position())?;
-    text.push(b' ')?;
-    put_outcome(text, debugger.outcome())
+    stock_text::put_position(text, debugger.position(), debugger.outcome())
 }
 
 /// Adds the line of the position.
@@ -43,9 +28,7 @@ pub(crate) fn put_position_line<A: Allocator>(
     ensures { Extends text.old text.new
         (position_text debugger.now.day debugger.now.position ++ codes "\n") result }
 {
-    put_position(text, debugger)?;
-    text.push(b'\n')?;
-    Ok(())
+    stock_text::put_position_line(text, debugger.position(), debugger.outcome())
 }
 
 /// Adds the number of the breakpoint at an index.

@@ -4,7 +4,7 @@ mod NextMoment
 mod Listing
 mod WordNames
 mod DirectoryRows
-mod LongerDays
+pub mod LongerDays
 mod Searched
 mod OwnMore
 mod TopLinesMore
@@ -12,7 +12,7 @@ mod LinkedLives
 mod KeptHistory
 mod Found
 mod TakenNext
-mod TakenAlong
+pub mod TakenAlong
 mod FileTaken
 mod MarkedTrades
 mod AllTaken

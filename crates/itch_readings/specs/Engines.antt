@@ -14,7 +14,7 @@ use Rattle.itch_readings.specs.TopLines.{tops_text}
 use Rattle.itch_readings.specs.Tops.{tops_from}
 use Rattle.itch_readings.specs.TradeLines.{trades_text}
 use Rattle.itch_readings.specs.declared.fault.StockFault.{StockFault}
-use Rattle.itch_readings.specs.declared.fault.StockFault.TheVariants.{NoStock, Engine as OfEngine}
+use Rattle.itch_readings.specs.declared.fault.StockFault.TheVariants.{NoStock, PastEnd, Changed, Engine as OfEngine}
 use Rattle.itch_readings.specs.declared.naming.Listed.{Listed}
 use Rattle.itch_readings.specs.declared.naming.StockName.{StockName}
 use Rattle.itch_readings.specs.declared.top_lines.Selection.{Selection}
@@ -81,6 +81,8 @@ RunsOnStock engine name left taken feed fed sink sent (Err (OfEngine fault)) =
     Runs engine left taken feed fed sink sent (Err fault)
 RunsOnStock engine name left taken feed fed sink sent (Err NoStock) =
     FindsNoStock engine name left feed fed sink sent
+RunsOnStock engine name left taken feed fed sink sent (Err PastEnd) = ⊥
+RunsOnStock engine name left taken feed fed sink sent (Err Changed) = ⊥
 
 -- the engine that reads a day file and writes the lines of its stocks
 abbrev pub stock_lister : Engine (Unit {0})

@@ -11,7 +11,7 @@ use std::alloc::{AllocError, Allocator};
 use stock_machine::Stock;
 
 /// Takes note of the messages of a stock, in their order.
-pub(crate) trait Notes {
+pub trait Notes {
     /// How notes come from others by these messages.
     ghost noted: { Self → Self → List OwnMessage → Type 0 };
 

@@ -33,13 +33,15 @@ fn begun_by<A: Allocator + Copy>(
 
 /// A stock that is named, as far as a day was read, and the notes of its messages.
 #[derive(Drop)]
-pub(crate) struct Noted<A: Allocator, N: Drop> {
-    search: StockSearch<A>,
-    // How many messages were taken.
-    messages: u32,
-    // The stock's machine, from the message on with which the stock begins.
-    stock: Option<Stock<A>>,
-    notes: N,
+pub struct Noted<A: Allocator, N: Drop> {
+    /// The search for the stock, which ends where the stock begins.
+    pub search: StockSearch<A>,
+    /// How many messages were taken.
+    pub messages: u32,
+    /// The stock's machine, from the message on with which the stock begins.
+    pub stock: Option<Stock<A>>,
+    /// The notes of its messages.
+    pub notes: N,
 }
 
 impl<A: Allocator + Copy, N: Notes + Drop> Noted<A, N> {
@@ -95,8 +97,9 @@ impl<A: Allocator + Copy, N: Notes + Drop> Noted<A, N> {
         note_next(&mut self.notes, self.messages, payload, stock)
     }
 
-    // Takes the next message of the day.
-    fn take(&mut self, alloc: A, payload: &[u8]) -> Result<(), AllocError>
+    /// Takes the next message of the day. With those before it they are fewer than 2^32. After an error, which says that
+    /// memory was refused, what was taken is of no use.
+    pub fn take(&mut self, alloc: A, payload: &[u8]) -> Result<(), AllocError>
         requires { (first : N) × (day : List (List ℕ)) × (name : StockName)
             × HasTaken N.noted first day name self.old.search self.old.messages self.old.stock self.old.notes
             × (length day + 1 < 2 ^ 32) }

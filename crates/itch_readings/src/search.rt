@@ -38,7 +38,7 @@ fn begun_with(listed: &mut [bool], symbol: &[u8; 8], payload: &[u8]) -> Option<u
 /// message (Nasdaq TotalView-ITCH 5.0, "Stock Directory") that gives the symbol and is applied; the stock begins with that
 /// message, and its messages before are all refused.
 #[derive(Drop)]
-pub(crate) struct StockSearch<A: Allocator> {
+pub struct StockSearch<A: Allocator> {
     name: StockName,
     // By locate code, whether the stock has had a directory message; where the stock is named by its symbol.
     listed: Vec<bool, A>,

@@ -6,15 +6,8 @@ ghost use Rattle.itch_readings.specs.Files.{GaveFile};
 
 use binaryfile::{Day, Feed, Limits, LoadFault};
 use day_segments::SegmentReader;
-use engine_rules::limits::{MOST_FILE_BYTES, MOST_MESSAGES};
 use std::alloc::{AllocError, Allocator};
 use std::io::Read;
-
-/// The most bytes and messages of a day file.
-pub(crate) const FILE_LIMITS: Limits = Limits {
-    bytes: MOST_FILE_BYTES,
-    messages: MOST_MESSAGES,
-};
 
 /// Takes the messages of a day, segment by segment.
 pub(crate) trait TakesSegments<A: Allocator + Copy> {

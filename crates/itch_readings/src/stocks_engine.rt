@@ -8,11 +8,12 @@ ghost use Rattle.itch_readings.specs.Files.{GaveFile};
 ghost use Rattle.itch_readings.specs.Naming.{AreListed};
 
 use crate::naming::{Listed, list_more, unlisted};
-use crate::segments::{FILE_LIMITS, TakesSegments, read_segments};
+use crate::segments::{TakesSegments, read_segments};
 use crate::stock_lines::put_stocks;
 use binaryfile::{Day, Feed, Limits, LoadFault, Sink, send};
 use day_segments::SEGMENT_BYTES;
 use engine_rules::ProgFault;
+use engine_rules::limits::FILE_LIMITS;
 use std::alloc::{AllocError, Allocator};
 use std::io::{Read, Write};
 

@@ -11,11 +11,12 @@ use crate::all_noting::AllNoted;
 use crate::fault::StockFault;
 use crate::naming::StockName;
 use crate::noting::Noted;
-use crate::segments::{FILE_LIMITS, read_segments};
+use crate::segments::read_segments;
 use crate::trade_lines::TradeNotes;
 use binaryfile::{Feed, Limits, LoadFault, Sink, send};
 use day_segments::SEGMENT_BYTES;
 use engine_rules::ProgFault;
+use engine_rules::limits::FILE_LIMITS;
 use std::alloc::Allocator;
 use std::io::{Read, Write};
 

@@ -9,7 +9,7 @@ use crate::summary::summary_of;
 use binaryfile::{Feed, Limits, LoadFault, Sink, send};
 use day_segments::SEGMENT_BYTES;
 use engine_rules::ProgFault;
-use engine_rules::limits::{MOST_FILE_BYTES, MOST_MESSAGES};
+use engine_rules::limits::FILE_LIMITS;
 use file_replay::{Silent, replay_file};
 use std::alloc::Allocator;
 use std::io::{Read, Write};
@@ -68,9 +68,8 @@ where
 /// The file is replayed while it is read, by `threads` threads and one more that reads; where none can be made, the work
 /// is done all the same. It is read to its end before anything is written, and the whole text is made in memory before it
 /// is sent. After [`ProgFault::Write`] the bytes that were taken are a prefix of the text; after another fault none was
-/// sent. [`ProgFault::Read`] comes exactly where the feed has failed, [`ProgFault::TooManyBytes`] above
-/// [`MOST_FILE_BYTES`] bytes, and [`ProgFault::TooManyMessages`] above [`MOST_MESSAGES`] messages, once the whole input
-/// was read.
+/// sent. [`ProgFault::Read`] comes exactly where the feed has failed, [`ProgFault::TooManyBytes`] above 2^40 bytes, and
+/// [`ProgFault::TooManyMessages`] above 2^32 - 1 messages, once the whole input was read.
 pub fn summary_run<T, A, R, W>(
     rt: &T,
     alloc: A,
@@ -85,11 +84,7 @@ where
     W: Write,
     ensures { Runs summary_printer R.remaining W.contents feed.old feed.new sink.old sink.new result }
 {
-    let limits = Limits {
-        bytes: MOST_FILE_BYTES,
-        messages: MOST_MESSAGES,
-    };
-    let text = summary_of_file(rt, alloc, feed, limits, SEGMENT_BYTES, threads)?;
+    let text = summary_of_file(rt, alloc, feed, FILE_LIMITS, SEGMENT_BYTES, threads)?;
     send(sink, &text)?;
     Ok(())
 }

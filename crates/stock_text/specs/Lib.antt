@@ -1,3 +1,4 @@
 pub mod Stocks
 pub mod Orders
 pub mod Fields
+pub mod Sessions

@@ -6,10 +6,10 @@ ghost use Rattle.engine_rules.specs.Runs.{HasMade, Runs, StopsReading};
 ghost use Rattle.itch_engine.specs.ReplayEngines.{replayer};
 
 use crate::report::file::{Report, report_of};
-use binaryfile::{Feed, Limits, Sink, send};
+use binaryfile::{Feed, Sink, send};
 use day_core::WorkerCount;
 use engine_rules::ProgFault;
-use engine_rules::limits::{MOST_FILE_BYTES, MOST_MESSAGES};
+use engine_rules::limits::{FILE_LIMITS, MOST_FILE_BYTES};
 use file_replay::{Progress, replay_file};
 use std::alloc::Allocator;
 use std::io::{Read, Write};
@@ -40,11 +40,7 @@ where
     ensures failed { IsErrOf result ProgFault.Read ↔ HasFailed feed.new }
     ensures for_good { HasFailed feed.old → feed.new ≡ feed.old }
 {
-    let limits = Limits {
-        bytes: MOST_FILE_BYTES,
-        messages: MOST_MESSAGES,
-    };
-    let file = replay_file(rt, alloc, feed, limits, segment, threads, progress)?;
+    let file = replay_file(rt, alloc, feed, FILE_LIMITS, segment, threads, progress)?;
     Ok(report_of(alloc, &file)?)
 }
 
@@ -59,7 +55,7 @@ where
 /// The file is read to its end before anything is written, and the whole report is made in memory before it is sent.
 /// After [`ProgFault::Write`] the bytes that were taken are a prefix of the report; after another fault none was sent.
 /// [`ProgFault::Read`] comes exactly where the feed has failed, [`ProgFault::TooManyBytes`] above [`MOST_FILE_BYTES`]
-/// bytes, and [`ProgFault::TooManyMessages`] above [`MOST_MESSAGES`] messages, once the whole input was read.
+/// bytes, and [`ProgFault::TooManyMessages`] above 2^32 - 1 messages, once the whole input was read.
 ///
 /// ```text
 /// let mut feed = Feed::new(file);
