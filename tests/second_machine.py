@@ -292,13 +292,57 @@ def life(day, payloads, locate, reference):
     for n, m, outcome in own:
         named = [m[name] for name in ("reference", "new_reference") if name in m]
         if any(first.get(other, other) == begins for other in named):
-            words = outcome if outcome == "applied" else "refused " + outcome
-            yield "%d %s %s" % (n, words, text_line(payloads[n - 1], m))
+            yield "%d %s %s" % (n, outcome_words(outcome), text_line(payloads[n - 1], m))
     alive = [other for under, other in day.orders if under == locate and first.get(other, other) == begins]
     if alive:
         yield order_line(alive[0], day.orders[locate, alive[0]])
     else:
         yield "gone" if (locate, reference) in day.spent else "no order %d" % reference
+
+
+def outcome_words(outcome):
+    return "refused " + outcome if outcome.startswith("F") else outcome
+
+
+def stock_line(day, locate):
+    state = day.trading.get(locate)
+    regsho = day.regsho.get(locate)
+    return "stock %d %s state %s reason %s regsho %s" % (
+        locate, quoted(day.directory[locate]), quoted(state[0]) if state else "none",
+        quoted(state[2]) if state else "none", "none" if regsho is None else quoted(regsho))
+
+
+def level_lines(day, locate):
+    for word, side in ("bid", b"B"), ("ask", b"S"):
+        for price, shares in day.levels(locate, side):
+            yield "%s %d %d" % (word, price, shares)
+
+
+def trades_line(day, locate):
+    return "trades %d shares %d notional %d unprinted %d" % day.totals(locate)
+
+
+def position_at(payloads, time):
+    """How many messages come before the first that is later than a time."""
+    for number, message in enumerate(map(parse, payloads)):
+        if message and message["time"] > time:
+            return number
+    return len(payloads)
+
+
+def shown(payloads, position, locate):
+    """A stock after so many messages."""
+    day = replayed(payloads[:position])
+    yield "at %d %s" % (position, outcome_words(day.outcomes[-1]) if position else "start")
+    if locate not in day.directory:
+        yield "no stock %d" % locate
+        return
+    yield stock_line(day, locate)
+    yield from level_lines(day, locate)
+    for under, reference in sorted(day.orders):
+        if under == locate:
+            yield order_line(reference, day.orders[under, reference])
+    yield trades_line(day, locate)
 
 
 def report(day, marked, tail):
@@ -311,13 +355,6 @@ def report(day, marked, tail):
         len(day.outcomes), day.outcomes.count("applied"), day.outcomes.count("passed"), refused,
         "yes" if marked else "no", len(tail), "none" if day.event is None else quoted(day.event))
     for locate in sorted(day.directory):
-        state = day.trading.get(locate)
-        regsho = day.regsho.get(locate)
-        yield "stock %d %s state %s reason %s regsho %s" % (
-            locate, quoted(day.directory[locate]), quoted(state[0]) if state else "none",
-            quoted(state[2]) if state else "none", "none" if regsho is None else quoted(regsho))
-        for price, shares in day.levels(locate, b"B"):
-            yield "bid %d %d" % (price, shares)
-        for price, shares in day.levels(locate, b"S"):
-            yield "ask %d %d" % (price, shares)
-        yield "trades %d shares %d notional %d unprinted %d" % day.totals(locate)
+        yield stock_line(day, locate)
+        yield from level_lines(day, locate)
+        yield trades_line(day, locate)

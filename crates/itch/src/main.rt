@@ -3,11 +3,13 @@
 
 mod assembling;
 mod files;
+mod kept;
 mod progress;
 mod prompt;
 mod readings;
 mod replays;
 mod sessions;
+mod showing;
 mod stop;
 mod terminals;
 mod texts;
@@ -20,6 +22,7 @@ use itch_arguments::Task;
 use readings::{list_stocks, print_order, print_tops, print_trades};
 use replays::{replay, replay_digits, summarize, watch};
 use sessions::debug;
+use showing::show;
 use std::env;
 use std::io::{self, IsTerminal};
 use std::process::ExitCode;
@@ -94,6 +97,12 @@ where
         }
         Task::Stocks { file } => list_stocks(rt, terminals, file),
         Task::Tops { file, stock, every } => print_tops(rt, terminals, file, stock, every),
+        Task::Show {
+            file,
+            stock,
+            after,
+            at,
+        } => show(rt, terminals, file, stock, after, at),
         Task::Order {
             file,
             stock,

@@ -73,6 +73,13 @@ pub enum Task<'a> {
         /// Whether after each of its messages, and not only where they change.
         every: bool,
     },
+    /// To show one of a file's stocks after so many messages, at a time, or else at the end.
+    Show {
+        file: &'a str,
+        stock: &'a str,
+        after: Option<u64>,
+        at: Option<&'a str>,
+    },
     /// To write the life of an order of one of a file's stocks.
     Order {
         file: &'a str,
@@ -203,6 +210,22 @@ fn tops_command<'a>(alloc: Global) -> Result<Command<'a>, AllocError> {
         .args(args)
 }
 
+// The arguments that show a stock at a place of a day.
+fn show_command<'a>(alloc: Global) -> Result<Command<'a>, AllocError> {
+    let after = Arg::new(alloc, "after")
+        .long("after")
+        .value_name("N")
+        .help("Shows it after the first N messages of the day, and not after all")
+        .value_parser(value_parser!(u64));
+    let at = Arg::new(alloc, "at").long("at").value_name("TIME").help(
+        "Shows it as it was at a time, such as 09:30:00 or 34200000000000 (nanoseconds since midnight)",
+    );
+    let args = vec![in alloc; path(alloc, "FILE", DAY_HELP), stock(alloc), after, at]?;
+    Command::new(alloc, "show")
+        .about("Prints a stock with its levels, orders and trades after any message, or at a time")
+        .args(args)
+}
+
 // The arguments that print an order's life.
 fn order_command<'a>(alloc: Global) -> Result<Command<'a>, AllocError> {
     let reference = path(alloc, "REFERENCE", "Any reference that the order has had").value_parser(
@@ -277,6 +300,7 @@ fn add_all<'a>(alloc: Global, commands: &mut Vec<Command<'a>>) -> Result<(), All
     add(commands, dis_command(alloc))?;
     add(commands, stocks_command(alloc))?;
     add(commands, tops_command(alloc))?;
+    add(commands, show_command(alloc))?;
     add(commands, order_command(alloc))?;
     add(commands, trades_command(alloc))?;
     add(commands, watch_command(alloc))?;
@@ -354,6 +378,20 @@ fn printing_tops<'a>(matches: &ArgMatches<'a>) -> Option<Task<'a>>
     })
 }
 
+// To show a stock, where the arguments ask for it.
+fn showing<'a>(matches: &ArgMatches<'a>) -> Option<Task<'a>>
+    ensures { IfSome result (λ task. (command_of task ≡ Some (codes "show"))
+        × (subcommand_name_of matches.now ≡ Some (codes "show"))) }
+{
+    let show = matches.subcommand_matches("show")?;
+    Some(Task::Show {
+        file: show.get_str("FILE")?,
+        stock: show.get_str("STOCK")?,
+        after: show.get_one("after"),
+        at: show.get_str("at"),
+    })
+}
+
 // To write an order's life, where the arguments ask for it.
 fn printing_order<'a>(matches: &ArgMatches<'a>) -> Option<Task<'a>>
     ensures { IfSome result (λ task. (command_of task ≡ Some (codes "order"))
@@ -403,6 +441,9 @@ pub fn chosen_task<'a>(matches: &ArgMatches<'a>) -> Task<'a>
         return task;
     }
     if let Some(task) = printing_tops(matches) {
+        return task;
+    }
+    if let Some(task) = showing(matches) {
         return task;
     }
     if let Some(task) = printing_order(matches) {

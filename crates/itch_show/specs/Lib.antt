@@ -1,0 +1,5 @@
+pub mod Places
+pub mod Parts
+pub mod Shown
+pub mod Engine
+pub mod Times
