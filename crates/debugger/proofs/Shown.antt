@@ -7,7 +7,7 @@ use Rattle.itch_layouts.specs.declared.shape.Shape.{Shape}
 use Rattle.itch_layouts.specs.declared.shape.Shape.TheVariants.{Known}
 use Rattle.itch_table.specs.declared.outcome.Outcome.{Outcome}
 use Rattle.itch_table.specs.declared.outcome.Part.TheVariants.{Locate, Nowhere}
-use Rattle.itch_table.specs.After.{after, outcome}
+use Rattle.itch_table.specs.After.{after, outcome, outcome_at}
 use Rattle.itch_table.specs.Parts.{part, part_of_shape}
 use Rattle.itch_table.specs.Projection.{event_with, payload_at}
 use Rattle.itch_table.specs.Table.{step}

@@ -1,6 +1,6 @@
 //! A position in a day, and breakpoints.
 ghost use Rattle.std.specs.Prelude.{◌≡◌, ◌≢◌, ◌↔◌, ◌+◌, ◌-◌, ◌<◌, ◌≤◌, Contains, Err, IfNone, IfOk, IfSome, IsErrOf, None, OnErr, OnOk, Some, length, slice_get, ℕ};
-ghost use Rattle.itch_table.specs.After.{after};
+ghost use Rattle.itch_table.specs.After.{after, outcome_at};
 ghost use Rattle.day_core.specs.Owners.{machine_of};
 ghost use Rattle.debugger.specs.FaultNumbers.{number_of};
 ghost use Rattle.debugger.specs.Sessions.{moved_to, new_session, next_stop, previous_stop, with_break, without_break};

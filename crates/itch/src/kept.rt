@@ -3,6 +3,7 @@ use itch_show::TakesMessages;
 use std::alloc::{AllocError, Global};
 
 /// The messages that were taken, as the bytes of a file that has these alone.
+#[derive(Drop)]
 pub struct Kept {
     bytes: Vec<u8>,
 }
