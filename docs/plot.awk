@@ -1,11 +1,19 @@
 # Draws the lines of `itch tops` as a picture (SVG) that any browser shows: the best bid in green and the best ask in
-# red, message by message from left to right, each price as a step that lasts until the next line. Prices stand below zero in
-# the picture, so that greater ones are higher. Numbers may be too great for %d of some awks.
+# red, message by message from left to right, each price as a step that lasts until the next line. The lines of `itch trades`,
+# in a file of their own, are drawn over them as blue dots. Prices stand below zero in the picture, so that greater ones are
+# higher. Numbers may be too great for %d of some awks.
 BEGIN { FS = "," }
-NR > 1 {
-    if (NR == 2)
-        first = $1
-    last = $1
+FNR == 1 {
+    trades = $6 == "price"
+    next
+}
+{
+    first = first == "" || $1 < first ? $1 : first
+    last = last == "" || $1 > last ? $1 : last
+}
+# One of no shares, as a cross without orders is, has no price to show.
+trades && $7 > 0 { dots = dots "M" $1 " " place($6) "h0" }
+!trades {
     step("bid", $3)
     step("ask", $5)
 }
@@ -15,21 +23,27 @@ END {
     print " preserveAspectRatio=\"none\" fill=\"none\">"
     draw("bid", "green")
     draw("ask", "red")
+    if (dots)
+        printf "<path stroke=\"blue\" stroke-width=\"5\" stroke-linecap=\"round\" vector-effect=\"non-scaling-stroke\" d=\"%s\"/>\n", dots
     print "</svg>"
 }
+# The height of a price, for which the picture makes room.
+function place(price,    height) {
+    height = 0 - price
+    top = top == "" || height < top ? height : top
+    bottom = bottom == "" || height > bottom ? height : bottom
+    return sprintf("%.0f", height)
+}
 # Goes on with a side's line, which stops where the side is empty.
-function step(side, price,    height) {
+function step(side, price) {
     if (price == "") {
         if (open[side])
             path[side] = path[side] "H" $1
         open[side] = 0
         return
     }
-    height = 0 - price
-    path[side] = path[side] (open[side] ? "H" $1 "V" : "M" $1 " ") sprintf("%.0f", height)
+    path[side] = path[side] (open[side] ? "H" $1 "V" : "M" $1 " ") place(price)
     open[side] = 1
-    top = top == "" || height < top ? height : top
-    bottom = bottom == "" || height > bottom ? height : bottom
 }
 function draw(side, colour) {
     if (open[side])

@@ -222,7 +222,9 @@ fn show_command<'a>(alloc: Global) -> Result<Command<'a>, AllocError> {
     );
     let args = vec![in alloc; path(alloc, "FILE", DAY_HELP), stock(alloc), after, at]?;
     Command::new(alloc, "show")
-        .about("Prints a stock with its levels, orders and trades after any message, or at a time")
+        .about(
+            "Prints a stock's levels, orders and sums over its trades after any message, or at a time",
+        )
         .args(args)
 }
 

@@ -60,7 +60,8 @@ Refuses name place limits input file Changed = ⊥
 Refuses name place limits input file (Engine fault) = Shows limits input file fault
 
 -- what is returned of a file
-abbrev pub Answers : {A : Type 0} → StockName → Place → Limits → List ℕ → Contents → Result (Vec ℕ A) StockFault → Type 0
+abbrev pub Answers : {A : Type 0} → StockName → Place → Limits → List ℕ → Contents → Result (Vec ℕ A) StockFault
+    → Type 0
 Answers name place limits input file (Ok text) = PrintsShown name place text.items file.payloads
 Answers name place limits input file (Err fault) = Refuses name place limits input file fault
 

@@ -41,7 +41,7 @@ fn text_of<A: Allocator + Copy>(
 /// In the course of reading the first of these is returned, where `feed` or `again` comes to it: [`ProgFault::Read`] where it
 /// fails (at once, and with no memory, where `feed` had failed before), [`ProgFault::Memory`] where memory is refused,
 /// [`ProgFault::TooManyBytes`] where the reader gave more than `limits.bytes` bytes, which are no more than 2^40, and
-/// [`ProgFault::TooManyMessages`] as soon as there are more than `limits.messages` messages. After the first reading come
+/// [`ProgFault::TooManyMessages`] as soon as more than `limits.messages` messages were read. After the first reading come
 /// [`StockFault::PastEnd`] and [`StockFault::NoStock`], after the second one [`StockFault::Changed`]. Whatever the result, at
 /// most `limits.bytes + 1` bytes are taken from each reader.
 pub fn show_of_file<A: Allocator + Copy, R: Read, S: Read>(
@@ -58,7 +58,8 @@ pub fn show_of_file<A: Allocator + Copy, R: Read, S: Read>(
     ensures answer { GaveParts (R.remaining feed.old.device) (R.remaining feed.new.device)
         (S.remaining again.old.device) (S.remaining again.new.device)
         (λ input file. Answers name place limits input file result) }
-    ensures read { IsErrOf result (StockFault.Engine ReadFailed) → (HasFailed feed.new ⊎ HasFailed again.new) }
+    ensures read { IsErrOf result (StockFault.Engine ReadFailed)
+        → (HasFailed feed.new ⊎ HasFailed again.new) }
     ensures not_write { result ≢ Err (StockFault.Engine WriteFailed) }
     ensures failed { HasFailed feed.new → IsErrOf result (StockFault.Engine ReadFailed) }
     ensures failed_again { HasFailed again.new
@@ -96,8 +97,9 @@ pub fn show_of_file<A: Allocator + Copy, R: Read, S: Read>(
 /// `feed` is read up to the place, and `again` gives the same file once more: what became of the last message before the place
 /// is known only to the machine of that message's stock, so where it isn't the stock that is shown, the file is read again for
 /// it. What is written is right for each file of which both gave the beginning, and all where they ended. Of such a file
-/// [`StockFault::Changed`], which says that the second reading had fewer messages, isn't returned. In memory are no more than
-/// a segment of 1 MiB, a byte for each locate code, the machine of one stock, and the text, which is made before it is sent.
+/// [`StockFault::Changed`], which says that the second reading had too few messages, isn't returned. In memory are no more than
+/// a segment of 1 MiB, a byte for each locate code, the machine of the stock, that of the other one during a second reading,
+/// and the text, which is made before it is sent.
 /// [`ProgFault::Write`] comes only where the sink fails, and then a prefix of the text was sent; after another fault nothing
 /// was. The other faults are those of [`show_of_file`], with the limits of day files.
 pub fn show_run<A: Allocator + Copy, R: Read, S: Read, W: Write>(

@@ -19,7 +19,8 @@ pub trait TakesMessages<A: Allocator + Copy> {
     /// Takes the next message. With those before it they are fewer than 2^32. After an error, which says that memory was
     /// refused, what was taken is of no use.
     fn take(&mut self, alloc: A, payload: &[u8]) -> Result<(), AllocError>
-        requires { (first : Self) × (day : List (List ℕ)) × has_taken first self.old day × (length day + 1 < 2 ^ 32) }
+        requires { (first : Self) × (day : List (List ℕ)) × has_taken first self.old day
+            × (length day + 1 < 2 ^ 32) }
         ensures { OnOk result ((first : Self) (day : List (List ℕ)) → has_taken first self.old day
             → has_taken first self.new (day ++ payload.now ∷ [])) };
 }
@@ -52,7 +53,8 @@ fn take_part<A: Allocator + Copy, T: TakesMessages<A>>(
         × ComesUpTo place.now day × (length day + length segment.now.payloads < 2 ^ 32) }
     ensures { IfOk result (λ part. (first : T) (day : List (List ℕ)) → T.has_taken first taker.old day
         → before ≡ length day → ComesUpTo place.now day
-        → TakesUpTo place.now day segment.now.payloads part.messages part.reached (T.has_taken first taker.new)) }
+        → TakesUpTo place.now day segment.now.payloads part.messages part.reached
+        (T.has_taken first taker.new)) }
 {
     let mut messages = 0;
     for payload in segment.payloads() {
@@ -77,7 +79,8 @@ impl<A: Allocator + Copy> LastMessage<A> {
         requires few { messages ≤ length segment.now.payloads }
         requires fits { self.old.number + messages < 2 ^ 32 }
         ensures number { OnOk result (self.new.number ≡ self.old.number + messages) }
-        ensures payload { OnOk result ((day : List (List ℕ)) → self.old.payload.items ≡ payload_at day (length day)
+        ensures payload { OnOk result ((day : List (List ℕ))
+            → self.old.payload.items ≡ payload_at day (length day)
             → let taken = day ++ take messages segment.now.payloads in
             self.new.payload.items ≡ payload_at taken (length taken)) }
     {
@@ -96,7 +99,7 @@ impl<A: Allocator + Copy> LastMessage<A> {
 /// In the course of reading the first of these is returned: [`LoadFault::Read`] where the feed fails (at once, and with no
 /// memory, where it had failed before), [`LoadFault::Memory`] where memory is refused, [`LoadFault::TooManyBytes`] where
 /// the reader gave more than `limits.bytes` bytes, which are no more than 2^40, and [`LoadFault::TooManyMessages`] as soon as
-/// there are more than `limits.messages` messages. Whatever the result, at most `limits.bytes + 1` bytes are taken from the
+/// more than `limits.messages` messages were read. Whatever the result, at most `limits.bytes + 1` bytes are taken from the
 /// reader, and no more of the file is in memory than a segment.
 pub fn read_up_to<A: Allocator + Copy, R: Read, T: TakesMessages<A>>(
     alloc: A,
@@ -109,10 +112,11 @@ pub fn read_up_to<A: Allocator + Copy, R: Read, T: TakesMessages<A>>(
     requires none { T.has_taken taker.old taker.old [] }
     requires bytes { limits.bytes ≤ 2 ^ 40 }
     requires segment { (0 < segment) × (segment ≤ 2 ^ 30) }
-    ensures read { IfOk result (λ last. HasReadUpTo (R.remaining feed.old.device) (R.remaining feed.new.device)
+    ensures read { IfOk result (λ last.
+        HasReadUpTo (R.remaining feed.old.device) (R.remaining feed.new.device)
         limits place.now last.number last.payload.items (T.has_taken taker.old taker.new)) }
-    ensures fault { IfErr result (λ fault. GavePart (R.remaining feed.old.device) (R.remaining feed.new.device)
-        (Exceeds limits fault)) }
+    ensures fault { IfErr result (λ fault.
+        GavePart (R.remaining feed.old.device) (R.remaining feed.new.device) (Exceeds limits fault)) }
     ensures failed { IsErrOf result LoadFault.Read ↔ HasFailed feed.new }
     ensures for_good { HasFailed feed.old → feed.new ≡ feed.old }
     ensures taken { GaveUpTo (R.remaining feed.old.device) (R.remaining feed.new.device) (limits.bytes + 1) }

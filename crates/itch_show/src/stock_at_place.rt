@@ -59,11 +59,12 @@ pub(crate) fn stock_at_place<A: Allocator + Copy, R: Read>(
 ) -> Result<StockAtPlace<A>, LoadFault>
     requires bytes { limits.bytes ≤ 2 ^ 40 }
     requires segment { (0 < segment) × (segment ≤ 2 ^ 30) }
-    ensures read { IfOk result (λ found. HasReadUpTo (R.remaining feed.old.device) (R.remaining feed.new.device)
+    ensures read { IfOk result (λ found.
+        HasReadUpTo (R.remaining feed.old.device) (R.remaining feed.new.device)
         limits place.now found.last.number found.last.payload.items (λ day.
         MatchOption found.stock (StandsForNone day name) (λ stock. IsShownAfter day name stock.0 stock.1))) }
-    ensures fault { IfErr result (λ fault. GavePart (R.remaining feed.old.device) (R.remaining feed.new.device)
-        (Exceeds limits fault)) }
+    ensures fault { IfErr result (λ fault.
+        GavePart (R.remaining feed.old.device) (R.remaining feed.new.device) (Exceeds limits fault)) }
     ensures failed { IsErrOf result LoadFault.Read ↔ HasFailed feed.new }
     ensures for_good { HasFailed feed.old → feed.new ≡ feed.old }
     ensures taken { GaveUpTo (R.remaining feed.old.device) (R.remaining feed.new.device) (limits.bytes + 1) }
@@ -78,7 +79,7 @@ pub(crate) fn stock_at_place<A: Allocator + Copy, R: Read>(
 }
 
 // The outcome of the last message before a place, which is of the stock with this locate code, by reading the file once more;
-// none where that gave fewer messages.
+// none where that gave fewer messages than come before it.
 fn outcome_again<A: Allocator + Copy, S: Read>(
     alloc: A,
     again: &mut Feed<S>,
@@ -91,13 +92,15 @@ fn outcome_again<A: Allocator + Copy, S: Read>(
     requires own { part last.now.payload.items ≡ Part.Locate locate }
     requires bytes { limits.bytes ≤ 2 ^ 40 }
     requires segment { (0 < segment) × (segment ≤ 2 ^ 30) }
-    ensures outcome { IfOk result (λ found. GavePart (S.remaining again.old.device) (S.remaining again.new.device)
+    ensures outcome { IfOk result (λ found.
+        GavePart (S.remaining again.old.device) (S.remaining again.new.device)
         (HasOutcome last.now.number last.now.payload.items found)) }
-    ensures fault { IfErr result (λ fault. GavePart (S.remaining again.old.device) (S.remaining again.new.device)
-        (Exceeds limits fault)) }
+    ensures fault { IfErr result (λ fault.
+        GavePart (S.remaining again.old.device) (S.remaining again.new.device) (Exceeds limits fault)) }
     ensures failed { IsErrOf result LoadFault.Read ↔ HasFailed again.new }
     ensures for_good { HasFailed again.old → again.new ≡ again.old }
-    ensures taken { GaveUpTo (S.remaining again.old.device) (S.remaining again.new.device) (limits.bytes + 1) }
+    ensures taken { GaveUpTo (S.remaining again.old.device) (S.remaining again.new.device)
+        (limits.bytes + 1) }
 {
     // Laws that the proof cites: they do nothing.
     stocks_are_independent();
@@ -118,8 +121,8 @@ fn outcome_again<A: Allocator + Copy, S: Read>(
 }
 
 /// What became of the last message before a place, `Some(None)` where there is none, where a stock's last message is known; the
-/// file is read once more where the message is another stock's. None where that gave fewer messages. The faults are those of
-/// [`read_up_to`] over `again`.
+/// file is read once more where the message is another stock's. None where that gave fewer messages than come before it. The
+/// faults are those of [`read_up_to`] over `again`.
 pub(crate) fn last_outcome<A: Allocator + Copy, S: Read>(
     alloc: A,
     again: &mut Feed<S>,
@@ -134,12 +137,13 @@ pub(crate) fn last_outcome<A: Allocator + Copy, S: Read>(
         → last.now.payload.items ≡ payload_at day (length day) → IsLastOf day noted
         → GavePart (S.remaining again.old.device) (S.remaining again.new.device)
         (λ _ file. StartsWith day file.payloads → IsKnownAt file.payloads (length day) found)) }
-    ensures fault { IfErr result (λ fault. GavePart (S.remaining again.old.device) (S.remaining again.new.device)
-        (Exceeds limits fault)) }
+    ensures fault { IfErr result (λ fault.
+        GavePart (S.remaining again.old.device) (S.remaining again.new.device) (Exceeds limits fault)) }
     ensures failed { IsErrOf result LoadFault.Read → HasFailed again.new }
     ensures fails { HasFailed again.new → (HasFailed again.old ⊎ IsErrOf result LoadFault.Read) }
     ensures for_good { HasFailed again.old → again.new ≡ again.old }
-    ensures taken { GaveUpTo (S.remaining again.old.device) (S.remaining again.new.device) (limits.bytes + 1) }
+    ensures taken { GaveUpTo (S.remaining again.old.device) (S.remaining again.new.device)
+        (limits.bytes + 1) }
 {
     if last.number == 0 {
         return Ok(Some(None));

@@ -1,5 +1,5 @@
 //! Times of day, as users write them.
-ghost use Rattle.std.specs.Prelude.{◌≡◌, ◌<◌, ◌≤◌, ◌^◌, IfSome, length};
+ghost use Rattle.std.specs.Prelude.{◌≡◌, ◌<◌, ◌≤◌, ◌^◌, ℕ, IfNone, IfSome, length};
 ghost use Rattle.itch_show.specs.Times.{ClockText, Decimals, TimeText, TwoDigits};
 
 use itch_layouts::Nanos;
@@ -25,7 +25,8 @@ const UNITS: [u64; 10] = [
 // The number below another that two digits write.
 fn two_digits(digits: &[u8], limit: u64) -> Option<u64>
     requires { length digits.now ≡ 2 }
-    ensures { IfSome result (λ number. TwoDigits digits.now number limit) }
+    ensures some { IfSome result (λ number. TwoDigits digits.now number limit) }
+    ensures none { IfNone result ((number : ℕ) → TwoDigits digits.now number limit → ⊥) }
 {
     let number = number_of_text(digits)?;
     if number < limit { Some(number) } else { None }
@@ -33,8 +34,9 @@ fn two_digits(digits: &[u8], limit: u64) -> Option<u64>
 
 // The nanoseconds of the decimals of a second.
 fn decimals(rest: &[u8]) -> Option<u64>
-    ensures nanos { IfSome result (Decimals rest.now) }
+    ensures some { IfSome result (Decimals rest.now) }
     ensures below { IfSome result (λ nanos. nanos < 10 ^ 9) }
+    ensures none { IfNone result ((nanos : ℕ) → Decimals rest.now nanos → ⊥) }
 {
     let Some((point, digits)) = rest.split_first() else {
         return Some(0);
@@ -48,7 +50,9 @@ fn decimals(rest: &[u8]) -> Option<u64>
 
 // The nanoseconds since midnight of a time of the clock.
 fn clock_time(word: &[u8]) -> Option<u64>
-    ensures { IfSome result (ClockText word.now) }
+    ensures some { IfSome result (ClockText word.now) }
+    ensures below { IfSome result (λ nanos. nanos < 2 ^ 48) }
+    ensures none { IfNone result ((nanos : ℕ) → ClockText word.now nanos → ⊥) }
 {
     if word.len() < 8 || word[2] != b':' || word[5] != b':' {
         return None;
@@ -60,10 +64,11 @@ fn clock_time(word: &[u8]) -> Option<u64>
     Some(((hour * 60 + minute) * 60 + second) * SECOND + fraction)
 }
 
-/// The time that a word writes: nanoseconds since midnight in digits, or `HH:MM:SS` with up to nine decimals of a second after a
-/// point, as in `09:30:00.5`. None where it is neither, or no time of six bytes.
+/// The time that a word writes: nanoseconds since midnight in digits, or `HH:MM:SS` of a day of 24 hours, with up to nine
+/// decimals of a second after a point, as in `09:30:00.5`. None where it is neither, or no time of six bytes.
 pub fn time_of_word(word: &[u8]) -> Option<Nanos>
-    ensures { IfSome result (TimeText word.now) }
+    ensures some { IfSome result (TimeText word.now) }
+    ensures none { IfNone result ((nanos : ℕ) → TimeText word.now nanos → nanos < 2 ^ 48 → ⊥) }
 {
     if let Some(nanos) = clock_time(word) {
         return Nanos::new(nanos);

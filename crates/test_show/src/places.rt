@@ -101,13 +101,11 @@ fn a_file_has_no_more_than_its_limits(rt: HostRuntime) -> Result<(), Fail> {
     Ok(())
 }
 
-// Message 7 is of another stock, so what became of it is known by the second reading alone.
-#[test]
-fn a_second_reading_of_fewer_messages_is_a_fault(rt: HostRuntime) -> Result<(), Fail> {
-    let alloc = rt.alloc();
+// What becomes of a second reading of so many bytes.
+fn try_again<A: Allocator + Copy>(alloc: A, end: usize, is_shown: bool) -> Result<(), Fail> {
     let file = file(alloc)?;
-    let (mut feed, mut again) = (Feed::new(file.as_slice()), Feed::new(b"".as_slice()));
-    let place = Place::After(7);
+    let second = file.get(..end).unwrap_or(&file);
+    let (mut feed, mut again) = (Feed::new(file.as_slice()), Feed::new(second));
     let found = show(
         alloc,
         &mut feed,
@@ -115,21 +113,25 @@ fn a_second_reading_of_fewer_messages_is_a_fault(rt: HostRuntime) -> Result<(), 
         AMPLE,
         100,
         symbol(MSFT),
-        place,
-    )?
-    .err();
-    same("a shorter file", &found, &Some(StockFault::Changed))?;
-    let (mut feed, mut again) = (Feed::new(file.as_slice()), Feed::new(file.as_slice()));
-    match show(
-        alloc,
-        &mut feed,
-        &mut again,
-        AMPLE,
-        100,
-        symbol(MSFT),
-        place,
-    )? {
-        Ok(text) => same_bytes("the same file", &text, MSFT_AT_7),
-        Err(fault) => Err(Fail::new(format_args!("the same file: {fault:?}"))),
+        Place::After(7),
+    )?;
+    match found {
+        Ok(text) if is_shown => same_bytes("what is shown", &text, MSFT_AT_7),
+        Err(fault) if !is_shown => same("a shorter file", &fault, &StockFault::Changed),
+        _ => Err(Fail::new(format_args!("another end by {end} bytes"))),
     }
+}
+
+// Message 7 is of another stock, so what became of it is known by the second reading alone. The sixth entry, which is the last
+// one before it, ends at byte 183.
+#[test]
+fn a_second_reading_of_too_few_messages_is_a_fault(rt: HostRuntime) -> Result<(), Fail> {
+    let alloc = rt.alloc();
+    for end in [0, 162, 182] {
+        try_again(alloc, end, false)?;
+    }
+    for end in [183, 204, 1_000] {
+        try_again(alloc, end, true)?;
+    }
+    Ok(())
 }

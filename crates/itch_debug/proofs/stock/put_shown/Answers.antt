@@ -10,5 +10,5 @@ returns-clause-text g c =
     let session = c.args.debugger.now in
     let machine = machine_of session.day c.args.locate session.position in
     let is : c.in_ok-stock.stock ≡ machine = search rules in
-    subst (λ (text : List ℕ). OnOk c.put_stock.result (c.put_stock.new.text.items ≡ c.args.text.now.items ++ text))
-    (shown c.in_ok-stock.stock (after session.day session.position) c.args.locate machine.steps is) c.put_stock.ensures
+    subst (λ (text : List ℕ). OnOk c.put_shown_stock.result (c.put_shown_stock.new.text.items ≡ c.args.text.now.items ++ text))
+    (shown c.in_ok-stock.stock (after session.day session.position) c.args.locate machine.steps is) c.put_shown_stock.ensures
