@@ -23,7 +23,7 @@ fn place_of<'a>(after: Option<u64>, at: Option<&str>) -> Result<Option<Place>, S
         (None, Some(word)) => match time_of_word(word.as_bytes()) {
             Some(time) => Ok(Some(Place::At(time))),
             None => Err(Stop::Misuse(
-                "--at is no time: 00:00:00 to 23:59:59.999999999, or nanoseconds since midnight below 2^48",
+                "--at is no time: write HH:MM:SS, from 00:00:00 to 23:59:59.999999999, or nanoseconds since midnight below 2^48",
             )),
         },
         (None, None) => Ok(Some(Place::End)),

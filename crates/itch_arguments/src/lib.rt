@@ -12,30 +12,14 @@ ghost use Rattle.clap.specs.Values.{kind_of};
 ghost use Rattle.clap.specs.declared.error.kind.ErrorKind.TheVariants.{DisplayHelp, DisplayVersion};
 ghost use Rattle.itch_arguments.specs.Tasks.{command_of};
 
+mod help;
+
 use clap::{Arg, ArgAction, ArgMatches, Command, Error, value_parser};
 use std::alloc::{AllocError, Global};
 use worker_count::WorkerCount;
 
 /// What FILE is.
 const DAY_HELP: &str = "A Nasdaq TotalView-ITCH 5.0 day in Nasdaq BinaryFILE form";
-
-/// The commands of a debugging session, with an example each.
-const DEBUG_COMMANDS: &str = "Commands, a line each:
-  goto 1000                  to the position after that many messages
-  step                       one message on
-  back                       one message back
-  onward                     to the next message at which a breakpoint stops
-  rearward                   to the one before
-  break price 1 B 1500000    stop where the shares bid (B) or asked (S) at a price of a stock change
-  break reference 1 42       stop at each message of a stock with that order reference
-  break time 34200000000000  stop at the first message from that time on, in nanoseconds since midnight
-  breaks                     list the breakpoints
-  remove 1                   remove a breakpoint
-  event                      show the last system event
-  show 1                     show a stock
-  quit                       end
-
-Stocks are named by locate code, which `itch stocks FILE` lists. Prices are in 1/10,000 of a currency unit.";
 
 /// What the arguments ask for.
 #[derive(Drop)]
@@ -151,6 +135,7 @@ fn replay_command<'a>(alloc: Global) -> Result<Command<'a>, AllocError> {
     let args = vec![in alloc; path(alloc, "FILE", DAY_HELP), threads(alloc), progress]?;
     Command::new(alloc, "replay")
         .about("Replays a day and prints its report, which is the same for every number of workers")
+        .after_help(help::REPORT)
         .args(args)
 }
 
@@ -159,6 +144,7 @@ fn summary_command<'a>(alloc: Global) -> Result<Command<'a>, AllocError> {
     let args = vec![in alloc; path(alloc, "FILE", DAY_HELP), threads(alloc)]?;
     Command::new(alloc, "summary")
         .about("Replays a day and prints a comma-separated line for each of its stocks")
+        .after_help(help::SUMMARY)
         .args(args)
 }
 
@@ -177,6 +163,7 @@ fn dis_command<'a>(alloc: Global) -> Result<Command<'a>, AllocError> {
     let args = vec![in alloc; path(alloc, "FILE", DAY_HELP), from, to]?;
     Command::new(alloc, "dis")
         .about("Prints a day as text, one line a message")
+        .after_help(help::TEXT)
         .args(args)
 }
 
@@ -207,6 +194,7 @@ fn tops_command<'a>(alloc: Global) -> Result<Command<'a>, AllocError> {
         .about(
             "Prints the best bid and ask of a stock wherever they change, as comma-separated lines",
         )
+        .after_help(help::TOPS)
         .args(args)
 }
 
@@ -225,6 +213,7 @@ fn show_command<'a>(alloc: Global) -> Result<Command<'a>, AllocError> {
         .about(
             "Prints a stock's levels, orders and sums over its trades after any message, or at a time",
         )
+        .after_help(help::SHOWN)
         .args(args)
 }
 
@@ -238,6 +227,7 @@ fn order_command<'a>(alloc: Global) -> Result<Command<'a>, AllocError> {
         .about(
             "Prints each message that names an order, through its replacements, and how it stands at the end",
         )
+        .after_help(help::ORDER)
         .args(args)
 }
 
@@ -246,6 +236,7 @@ fn trades_command<'a>(alloc: Global) -> Result<Command<'a>, AllocError> {
     let args = vec![in alloc; path(alloc, "FILE", DAY_HELP), stock(alloc).required(false)]?;
     Command::new(alloc, "trades")
         .about("Prints the trades of a day, or of one of its stocks, as comma-separated lines")
+        .after_help(help::TRADES)
         .args(args)
 }
 
@@ -282,7 +273,7 @@ fn asm_command<'a>(alloc: Global) -> Result<Command<'a>, AllocError> {
 fn debug_command<'a>(alloc: Global) -> Result<Command<'a>, AllocError> {
     Command::new(alloc, "debug")
         .about("Goes through a day both ways, by commands on standard input")
-        .after_help(DEBUG_COMMANDS)
+        .after_help(help::SESSION)
         .arg(path(alloc, "FILE", DAY_HELP))
 }
 
@@ -315,9 +306,8 @@ fn itch_command<'a>(alloc: Global) -> Result<Command<'a>, AllocError> {
     let mut commands = Vec::new(alloc);
     add_all(alloc, &mut commands)?;
     Command::new(alloc, "itch")
-        .about(
-            "Replays a Nasdaq TotalView-ITCH 5.0 day; without words, one in hexadecimal digits on standard input",
-        )
+        .about("Replays a Nasdaq TotalView-ITCH 5.0 day file, and answers questions about it")
+        .after_help(help::PROGRAM)
         .disable_help_subcommand(true)
         .subcommands(commands)
 }
