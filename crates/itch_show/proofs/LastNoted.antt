@@ -38,7 +38,7 @@ code_in : Part → ℕ
 code_in (OfStock locate) = locate
 code_in (Nowhere fixed) = 0
 
-stands_for : (day : List (List ℕ)) (name : StockName) (n locate : ℕ) → NamesStock day name n locate → StandsFor day name locate
+pub stands_for : (day : List (List ℕ)) (name : StockName) (n locate : ℕ) → NamesStock day name n locate → StandsFor day name locate
 unfolding code_in
 stands_for day (Locate code) n locate named = ap code_in (sym named.own ∙ named.begins)
 stands_for day (Symbol symbol) n locate named = (n, named)

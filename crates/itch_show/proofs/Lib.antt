@@ -3,6 +3,7 @@ mod ReadingParts
 mod PartsTaken
 mod LastNoted
 mod ClockWords
-mod Outcomes
+pub mod Outcomes
+mod OwnParts
 mod ShownFiles
-mod ShownRuns
+pub mod TwiceRuns

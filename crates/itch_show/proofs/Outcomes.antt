@@ -1,17 +1,16 @@
 -- The outcome of the last message before a place, of a day that may go on after it.
-use Rattle.std.proofs.Common.{◌≡◌, ℕ, zero, suc, ◌-◌, ◌<◌, ◌≤◌, List, [], ◌++◌, length, drop, Some, None, refl, sym, ap, ◌∙◌, arith}
+use Rattle.std.proofs.Common.{◌≡◌, ℕ, zero, suc, ◌-◌, ◌<◌, ◌≤◌, List, [], ◌++◌, length, take, drop, Some, None, refl, sym, ap, ◌∙◌, arith}
 use Rattle.std.specs.Prelude.{Option}
 use Rattle.std.proofs.KnownBytes.{Consumes-nil}
-use Rattle.std.proofs.lemmas.List.{length-append, length-take, take-append-drop}
-use Rattle.binaryfile.specs.declared.day.Limits.{Limits}
+use Rattle.std.proofs.lemmas.List.{length-append, length-take-le, take-append-drop}
 use Rattle.itch_readings.proofs.LongerDays.{after_more, outcome_more, payload_more}
-use Rattle.itch_readings.specs.declared.naming.StockName.TheVariants.{Locate}
-use Rattle.itch_show.specs.Parts.{GavePart, HasReadUpTo}
+use Rattle.itch_readings.specs.Noting.{Noting}
+use Rattle.itch_show.specs.Before.{IsBefore}
+use Rattle.itch_show.specs.Parts.{GavePart}
 use Rattle.itch_show.specs.Places.{position_of, up_to}
-use Rattle.itch_show.specs.Shown.{HasOutcome, IsKnownAt, IsLastOf, IsShownAfter, StartsWith}
+use Rattle.itch_show.specs.Shown.{HasOutcome, IsKnownAt, IsLastOf, StartsWith}
 use Rattle.itch_show.specs.declared.last_outcome.LastOutcome.{LastOutcome}
 use Rattle.itch_show.specs.declared.place.Place.{Place}
-use Rattle.itch_show.specs.declared.place.Place.TheVariants.{After}
 use Rattle.itch_table.specs.declared.outcome.Outcome.{Outcome}
 use Rattle.itch_table.specs.declared.outcome.Part.TheVariants.{Locate as OfStock, Nowhere}
 use Rattle.itch_table.specs.After.{after, outcome, outcome_at}
@@ -81,33 +80,25 @@ module _ (start : Option (List ℕ)) (day : List (List ℕ)) where
       each = λ input file are split begins starts. part.each input file are split begins (within file.payloads starts);
     }
 
-module _ (start now : Option (List ℕ)) (limits : Limits) (n number : ℕ) (payload last : List ℕ) (Holds : List (List ℕ) → Type 0)
-    (read : HasReadUpTo start now limits (After (n - 1)) number last Holds) (some : 0 < n) where
-  -- a file of fewer messages hasn't the one that is asked for
-  pub fewer_again : number < n - 1 → GavePart start now (HasOutcome n payload None)
-  fewer_again few = record {
-    given = read.part.given;
-    gave = read.part.gave;
-    each = λ input file are split begins within.
-        omega (arith, few, read.number_is, within, some, ap length (read.part.each input file are split begins), length-take (n - 1) file.payloads);
-  }
+-- a day's rows after its first messages
+pub after_taken : (day : List (List ℕ)) (n : ℕ) → n ≤ length day → after (take n day) (length (take n day)) ≡ after day n
+after_taken day n within =
+    let long : length (take n day) ≡ n = length-take-le n day within in
+    sym (after_more (take n day) (drop n day) (length (take n day)) (omega arith))
+    ∙ (λ i. after (take-append-drop n day i) (long i))
 
-  -- the machine of the message's stock tells its outcome
-  pub step_again : StepsAreOwn → (locate : ℕ) (stock : StockMachine) (noted : LastOutcome) (found : Outcome) (next : World) → IsShownAfter read.day (Locate locate) stock noted
-      → n - 1 ≤ number → part payload ≡ OfStock locate → (found, next) ≡ step stock.world payload → GavePart start now (HasOutcome n payload (Some found))
-  unfolding outcome
-  step_again own locate stock noted found next shown enough at stepped = record {
-    given = read.part.given;
-    gave = read.part.gave;
-    each = λ input file are split begins within there.
-        let cut : up_to (After (n - 1)) file.payloads ≡ read.day = read.part.each input file are split begins in
-        let long : length read.day ≡ n - 1 = omega (arith, read.number_is, enough, read.comes_up) in
-        let whole : file.payloads ≡ read.day ++ drop (n - 1) file.payloads =
-        sym (take-append-drop (n - 1) file.payloads) ∙ ap (λ (d : List (List ℕ)). d ++ drop (n - 1) file.payloads) cut in
-        let before : after file.payloads (n - 1) ≡ after read.day (length read.day) =
-        (λ i. after (whole i) (sym long i)) ∙ after_more read.day (drop (n - 1) file.payloads) (length read.day) (omega arith) in
-        let rows : stock.world ≡ only locate (after file.payloads (n - 1)) =
-        shown.world ∙ (λ i. only (shown.stands i) (sym before i)) in
-        ap (λ (r : Outcome × World). r.0) (stepped ∙ ap (λ (w : World). step w payload) rows ∙ own (after file.payloads (n - 1)) payload locate at)
-        ∙ ap (λ (p : List ℕ). (step (after file.payloads (n - 1)) p).0) there;
-  }
+-- the machine of a message's stock tells its outcome
+pub step_before : {N : Type 0} (AreOf : Noting N) (first : N) (start now : Option (List ℕ)) (locate n : ℕ) (payload : List ℕ) (stock : StockMachine) (notes : N)
+    (found : Outcome) (next : World) → StepsAreOwn → 0 < n → part payload ≡ OfStock locate → GavePart start now (IsBefore AreOf first locate n (Some (stock, notes)))
+    → (found, next) ≡ step stock.world payload → GavePart start now (HasOutcome n payload (Some found))
+unfolding outcome
+step_before AreOf first start now locate n payload stock notes found next own some at part stepped = record {
+  given = part.given;
+  gave = part.gave;
+  each = λ input file are split begins within there.
+      let taken = part.each input file are split begins within in
+      let rows : stock.world ≡ only locate (after file.payloads (n - 1)) =
+      taken.world ∙ ap (only locate) (after_taken file.payloads (n - 1) (omega (arith, within))) in
+      ap (λ (r : Outcome × World). r.0) (stepped ∙ ap (λ (w : World). step w payload) rows ∙ own (after file.payloads (n - 1)) payload locate at)
+      ∙ ap (λ (p : List ℕ). (step (after file.payloads (n - 1)) p).0) there;
+}

@@ -1,7 +1,10 @@
--- What the engine reads, writes and returns that shows a stock at a place of a day. All is of this project.
+-- What an engine reads, writes and returns that answers a question about a day file that two readers give, where a part of the
+-- file may suffice. All is of this project.
 use Rattle.std.specs.Prelude.{◌≡◌, ◌≢◌, ◌⊎◌, ◌+◌, ◌-◌, ◌^◌, ◌<◌, ℕ, List, length, take, Option, Result, Ok, Err, IsErr, IsErrOf}
 use Rattle.std.specs.Io.KnownBytes.{Appends}
+use Rattle.std.specs.declared.vec.Vec.{Vec}
 use Rattle.binaryfile.specs.Devices.{Device, GaveUpTo, HasFailed}
+use Rattle.binaryfile.specs.Entries.{Contents}
 use Rattle.binaryfile.specs.declared.day.Limits.{Limits}
 use Rattle.engine_rules.specs.declared.fault.ProgFault.TheVariants.{Read, Write}
 use Rattle.itch_readings.specs.declared.fault.StockFault.{StockFault}
@@ -14,6 +17,16 @@ use Rattle.itch_show.specs.declared.place.Place.{Place}
 abbrev pub file_limits : Limits
 file_limits = record { bytes = 2 ^ 40; messages = 2 ^ 32 - 1 }
 
+-- A question: which text answers it of a file, and by which fault none does, where the file has these bytes and contents.
+pub record Question : Type 1 where
+  pub Answers : List ℕ → Contents → Type 0
+  pub Refuses : List ℕ → Contents → StockFault → Type 0
+
+-- what is returned of a file
+abbrev pub Returns : {A : Type 0} → Question → List ℕ → Contents → Result (Vec ℕ A) StockFault → Type 0
+Returns question input file (Ok text) = question.Answers text.items file
+Returns question input file (Err fault) = question.Refuses input file fault
+
 -- The bytes that both readers have left before and after a run, and those that the writer has taken before and after it.
 pub record Traffic : Type 0 where
   pub left : Option (List ℕ)
@@ -23,50 +36,48 @@ pub record Traffic : Type 0 where
   pub taken : Option (List ℕ)
   pub taken_after : Option (List ℕ)
 
--- The readers gave a file of which this text shows the stock at the place.
-abbrev pub GaveShown : StockName → Place → Traffic → List ℕ → Type 0
-GaveShown name place traffic text =
-    GaveParts traffic.left traffic.left_after traffic.again traffic.again_after
-    (λ _ file. PrintsShown name place text file.payloads)
+-- What came in and went out, where `left` and `again` read off the readers the bytes that they have left, and `taken` off the
+-- writer those that it has taken.
+abbrev pub traffic_of : {R S W : Type 0} → (R → Option (List ℕ)) → (S → Option (List ℕ)) → (W → Option (List ℕ))
+    → Device R → Device R → Device S → Device S → Device W → Device W → Traffic
+traffic_of left again taken feed fed second seconded sink sent = record {
+  left = left feed.device;
+  left_after = left fed.device;
+  again = again second.device;
+  again_after = again seconded.device;
+  taken = taken sink.device;
+  taken_after = taken sent.device;
+}
 
--- The writer took that text, and nothing else.
-pub record Writes (name : StockName) (place : Place) (traffic : Traffic) : Type 0 where
+-- The readers gave a file of which this holds.
+abbrev pub Gave : Traffic → (List ℕ → Contents → Type 0) → Type 0
+Gave traffic = GaveParts traffic.left traffic.left_after traffic.again traffic.again_after
+
+-- The writer took the text that answers, and nothing else.
+pub record Writes (question : Question) (traffic : Traffic) : Type 0 where
   pub text : List ℕ
-  pub shown : GaveShown name place traffic text
+  pub answers : Gave traffic (λ _ file. question.Answers text file)
   pub wrote : Appends traffic.taken traffic.taken_after text
 
 -- The writer took a prefix of that text, not all of it, and nothing else.
-pub record WritesPrefix (name : StockName) (place : Place) (traffic : Traffic) : Type 0 where
+pub record WritesPrefix (question : Question) (traffic : Traffic) : Type 0 where
   pub text : List ℕ
-  pub shown : GaveShown name place traffic text
+  pub answers : Gave traffic (λ _ file. question.Answers text file)
   pub count : ℕ
   pub less : count < length text
   pub wrote : Appends traffic.taken traffic.taken_after (take count text)
 
--- The readers gave a file of which nothing is shown, for this reason.
-abbrev pub ShowsNothing : StockName → Place → Traffic → StockFault → Type 0
-ShowsNothing name place traffic fault =
-    GaveParts traffic.left traffic.left_after traffic.again traffic.again_after
-    (λ input file. Refuses name place file_limits input file fault)
+abbrev pub Ends : Question → Traffic → Result (Unit {0}) StockFault → Type 0
+Ends question traffic (Ok _) = Writes question traffic
+Ends question traffic (Err (Engine Write)) = WritesPrefix question traffic
+Ends question traffic (Err fault) = Gave traffic (λ input file. question.Refuses input file fault)
 
-abbrev pub Ends : StockName → Place → Traffic → Result (Unit {0}) StockFault → Type 0
-Ends name place traffic (Ok _) = Writes name place traffic
-Ends name place traffic (Err (Engine Write)) = WritesPrefix name place traffic
-Ends name place traffic (Err fault) = ShowsNothing name place traffic fault
-
--- A run that shows a stock at a place, from its feeds and its sink as they were to what they are after it.
-pub record RunsShow {R S W : Type 0} (name : StockName) (place : Place)
+-- A run that answers a question, from its feeds and its sink as they were to what they are after it.
+pub record RunsTwice {R S W : Type 0} (question : Question)
     (left : R → Option (List ℕ)) (again : S → Option (List ℕ)) (taken : W → Option (List ℕ))
     (feed fed : Device R) (second seconded : Device S) (sink sent : Device W)
     (result : Result (Unit {0}) StockFault) : Type 0 where
-  pub ends : Ends name place (record {
-    left = left feed.device;
-    left_after = left fed.device;
-    again = again second.device;
-    again_after = again seconded.device;
-    taken = taken sink.device;
-    taken_after = taken sent.device;
-  }) result
+  pub ends : Ends question (traffic_of left again taken feed fed second seconded sink sent) result
   -- Whatever the result, no more is taken from each reader than the limit and one byte.
   pub takes_at_most : GaveUpTo (left feed.device) (left fed.device) (2 ^ 40 + 1)
   pub again_at_most : GaveUpTo (again second.device) (again seconded.device) (2 ^ 40 + 1)
@@ -81,3 +92,22 @@ pub record RunsShow {R S W : Type 0} (name : StockName) (place : Place)
   pub feed_for_good : HasFailed feed → fed ≡ feed
   pub again_for_good : HasFailed second → seconded ≡ second
   pub sink_for_good : HasFailed sink → sent ≡ sink
+
+-- what a stock is at a place of a file
+abbrev pub shown_at : StockName → Place → Limits → Question
+shown_at name place limits = record {
+  Answers = λ text file. PrintsShown name place text file.payloads;
+  Refuses = Refuses name place limits;
+}
+
+-- ---- a text that was made, or a fault by which none was
+
+-- The text was sent, or a prefix where the sink has failed; a fault is returned, and nothing was sent.
+abbrev pub SendsMade : {A W : Type 0} → (W → Option (List ℕ)) → Device W → Device W
+    → Result (Vec ℕ A) StockFault → Result (Unit {0}) StockFault → Type 0
+SendsMade taken sink sent (Ok text) (Ok _) = Appends (taken sink.device) (taken sent.device) text.items
+SendsMade taken sink sent (Ok text) (Err fault) =
+    (fault ≡ Engine Write) × HasFailed sent × (count : ℕ) × (count < length text.items)
+    × Appends (taken sink.device) (taken sent.device) (take count text.items)
+SendsMade taken sink sent (Err fault) (Ok _) = ⊥
+SendsMade taken sink sent (Err fault) (Err other) = (other ≡ fault) × (sent ≡ sink)

@@ -3,3 +3,4 @@ pub mod Parts
 pub mod Shown
 pub mod Engine
 pub mod Times
+pub mod Before

@@ -1,7 +1,6 @@
 -- A stock at a place of a day, and the outcome of the last message before the place. All is of this project.
-use Rattle.std.specs.Prelude.{◌≡◌, ◌<◌, ◌≤◌, ◌++◌, ℕ, List, [], ◌∷◌, length, Option, Some, None, Result, Ok, Err}
+use Rattle.std.specs.Prelude.{◌≡◌, ◌<◌, ◌≤◌, ◌++◌, ℕ, List, [], ◌∷◌, length, Option, Some, None}
 use Rattle.std.specs.Io.KnownBytes.{Consumes}
-use Rattle.std.specs.declared.vec.Vec.{Vec}
 use Rattle.byte_strings.specs.Bytes.{AreBytes}
 use Rattle.binaryfile.specs.Entries.{Contents, Splits}
 use Rattle.binaryfile.specs.declared.day.Limits.{Limits}
@@ -58,12 +57,6 @@ Refuses name place limits input file NoStock =
 Refuses name place limits input file PastEnd = IsPast place file.payloads
 Refuses name place limits input file Changed = ⊥
 Refuses name place limits input file (Engine fault) = Shows limits input file fault
-
--- what is returned of a file
-abbrev pub Answers : {A : Type 0} → StockName → Place → Limits → List ℕ → Contents → Result (Vec ℕ A) StockFault
-    → Type 0
-Answers name place limits input file (Ok text) = PrintsShown name place text.items file.payloads
-Answers name place limits input file (Err fault) = Refuses name place limits input file fault
 
 -- ---- what is known after the messages before a place
 

@@ -3,13 +3,14 @@ ghost use Rattle.std.specs.Prelude.{◌≡◌, ◌≢◌, ◌⊎◌, Err, ◌+�
 ghost use Rattle.binaryfile.specs.Devices.{GaveUpTo, HasFailed};
 ghost use Rattle.engine_rules.specs.declared.fault.ProgFault.TheVariants.{Read as ReadFailed, Write as WriteFailed};
 ghost use Rattle.stock_text.specs.Sessions.{position_words, stock_text};
-ghost use Rattle.itch_show.specs.Engine.{RunsShow};
+ghost use Rattle.itch_show.specs.Engine.{Returns, RunsTwice, file_limits, shown_at};
 ghost use Rattle.itch_show.specs.Places.{IsPast, up_to};
-ghost use Rattle.itch_show.specs.Shown.{Answers, GaveParts};
+ghost use Rattle.itch_show.specs.Shown.{GaveParts};
 
 use crate::place::Place;
+use crate::sending::send_made;
 use crate::stock_at_place::{StockAtPlace, last_outcome, stock_at_place};
-use binaryfile::{Feed, Limits, Sink, send};
+use binaryfile::{Feed, Limits, Sink};
 use day_segments::SEGMENT_BYTES;
 use engine_rules::ProgFault;
 use engine_rules::limits::FILE_LIMITS;
@@ -57,7 +58,7 @@ pub fn show_of_file<A: Allocator + Copy, R: Read, S: Read>(
     requires segment { (0 < segment) × (segment ≤ 2 ^ 30) }
     ensures answer { GaveParts (R.remaining feed.old.device) (R.remaining feed.new.device)
         (S.remaining again.old.device) (S.remaining again.new.device)
-        (λ input file. Answers name place limits input file result) }
+        (λ input file. Returns (shown_at name place limits) input file result) }
     ensures read { IsErrOf result (StockFault.Engine ReadFailed)
         → (HasFailed feed.new ⊎ HasFailed again.new) }
     ensures not_write { result ≢ Err (StockFault.Engine WriteFailed) }
@@ -110,10 +111,9 @@ pub fn show_run<A: Allocator + Copy, R: Read, S: Read, W: Write>(
     name: StockName,
     place: Place,
 ) -> Result<(), StockFault>
-    ensures { RunsShow name place R.remaining S.remaining W.contents
+    ensures { RunsTwice (shown_at name place file_limits) R.remaining S.remaining W.contents
         feed.old feed.new again.old again.new sink.old sink.new result }
 {
-    let text = show_of_file(alloc, feed, again, FILE_LIMITS, SEGMENT_BYTES, name, place)?;
-    send(sink, &text)?;
-    Ok(())
+    let made = show_of_file(alloc, feed, again, FILE_LIMITS, SEGMENT_BYTES, name, place);
+    send_made(sink, made)
 }

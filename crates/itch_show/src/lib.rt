@@ -19,15 +19,19 @@
 //! refused.
 #![tactic(auto)]
 
+mod before;
 mod engine;
 mod last_outcome;
 mod place;
 mod reading;
+mod sending;
 mod stock_at_place;
 mod taking;
 mod time;
 
+pub use before::stock_before;
 pub use engine::{show_of_file, show_run};
 pub use place::Place;
 pub use reading::{LastMessage, TakesMessages, read_up_to};
+pub use sending::send_made;
 pub use time::time_of_word;

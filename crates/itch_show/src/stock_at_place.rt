@@ -8,6 +8,7 @@ ghost use Rattle.itch_table.specs.declared.outcome.Part.{Part};
 ghost use Rattle.itch_show.specs.Parts.{Exceeds, GavePart, HasReadUpTo};
 ghost use Rattle.itch_show.specs.Shown.{HasOutcome, IsKnownAt, IsLastOf, IsShownAfter, StandsForNone, StartsWith, last_noted};
 
+use crate::before::stock_before;
 use crate::last_outcome::LastOutcome;
 use crate::place::Place;
 use crate::reading::{LastMessage, read_up_to};
@@ -102,18 +103,11 @@ fn outcome_again<A: Allocator + Copy, S: Read>(
     ensures taken { GaveUpTo (S.remaining again.old.device) (S.remaining again.new.device)
         (limits.bytes + 1) }
 {
-    // Laws that the proof cites: they do nothing.
+    // A law that the proof cites: it does nothing.
     stocks_are_independent();
-    let before = last.number - 1;
-    let (name, place) = (StockName::Locate(locate), Place::After(before));
-    let StockAtPlace {
-        last: previous,
-        stock,
-    } = stock_at_place(alloc, again, limits, segment, name, &place)?;
-    if previous.number < before {
-        return Ok(None);
-    }
-    let Some((mut stock, _)) = stock else {
+    let none = LastOutcome::of_none();
+    let before = stock_before(alloc, again, limits, segment, locate, last.number, none)?;
+    let Some((mut stock, _)) = before else {
         return Ok(None);
     };
     let outcome = stock.step(&last.payload)?;

@@ -2,7 +2,8 @@ use Rattle.std.proofs.Common.{◌∙◌, Err, ap, length, subst, sym}
 use Rattle.std.proofs.lemmas.Result.{err_from_is_err_and}
 use Rattle.std.specs.Prelude.{MatchOption}
 use Rattle.itch_show.specs.Parts.{GavePart}
-use Rattle.itch_show.specs.Shown.{Answers, GaveParts, IsKnownAt, IsShownAfter, StandsForNone, StartsWith}
+use Rattle.itch_show.specs.Engine.{Returns, shown_at}
+use Rattle.itch_show.specs.Shown.{GaveParts, IsKnownAt, IsShownAfter, StandsForNone, StartsWith}
 use Rattle.itch_show.proofs.ShownFiles.{changed, first_stopped, no_stock, past_end, second_stopped, shown}
 use Rattle.itch_show.proofs.engine.show_of_file.Goals as goal
 
@@ -12,7 +13,7 @@ returns-in_err-last-clause-answer g c =
     let new = g.R.Read.remaining c.stock_at_place.new.feed.device in
     let again = g.S.Read.remaining c.args.again.now.device in
     let same = err_from_is_err_and c.from_residual.result c.from_residual.ensures.1 in
-    subst (λ r. GaveParts old new again again (λ input file. Answers c.args.name c.args.place c.args.limits input file r)) (sym (same.1 ∙ ap Err same.2))
+    subst (λ r. GaveParts old new again again (λ input file. Returns (shown_at c.args.name c.args.place c.args.limits) input file r)) (sym (same.1 ∙ ap Err same.2))
     (first_stopped c.args.name c.args.place c.args.limits old new again _ ((c.in_err-last.ensures {u = tt}).fault))
 
 pub returns-then-is_past-clause-answer : goal.returns-then-is_past-clause-answer
@@ -36,7 +37,7 @@ returns-in_err-outcome-clause-answer g c =
     let later = g.S.Read.remaining c.last_outcome.new.again.device in
     let read = (c.in_ok-last.ensures {u = tt}).read in
     let same = err_from_is_err_and c.from_residual-in_err-outcome.result c.from_residual-in_err-outcome.ensures.1 in
-    subst (λ r. GaveParts old new again later (λ input file. Answers c.args.name c.args.place c.args.limits input file r)) (sym (same.1 ∙ ap Err same.2))
+    subst (λ r. GaveParts old new again later (λ input file. Returns (shown_at c.args.name c.args.place c.args.limits) input file r)) (sym (same.1 ∙ ap Err same.2))
     (second_stopped c.args.name c.args.place c.args.limits old new again _ _ _ read later _ ((c.in_err-outcome.ensures {u = tt}).fault))
 
 pub returns-in_default-2-clause-answer : goal.returns-in_default-2-clause-answer

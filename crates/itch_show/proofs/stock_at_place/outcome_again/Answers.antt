@@ -1,23 +1,32 @@
-use Rattle.std.proofs.Common.{◌≡◌, arith, ap, subst}
-use Rattle.std.specs.Prelude.{MatchOption}
-use Rattle.itch_readings.specs.declared.naming.StockName.TheVariants.{Locate}
-use Rattle.itch_show.specs.Shown.{IsShownAfter, StandsForNone}
-use Rattle.itch_show.proofs.Outcomes.{fewer_again, step_again}
+use Rattle.std.proofs.Common.{◌≡◌, ◌-◌, ◌<◌, ◌^◌, ◌∙◌, IfSome, ap, subst, sym}
+use Rattle.itch_show.specs.Before.{IsBefore}
+use Rattle.itch_show.specs.Parts.{GavePart}
+use Rattle.itch_show.specs.Shown.{last_noted}
+use Rattle.itch_show.proofs.Outcomes.{step_before}
+use Rattle.itch_table.specs.declared.outcome.Part.TheVariants.{Locate}
+use Rattle.itch_table.specs.Parts.{part}
 use Rattle.itch_table.specs.Table.{step}
 use Rattle.itch_show.proofs.stock_at_place.outcome_again.Goals as goal
 
-pub returns-then-previous-before-clause-outcome : goal.returns-then-previous-before-clause-outcome
-returns-then-previous-before-clause-outcome g c =
-    let read = (c.in_ok-previous.ensures {u = tt}).read in
-    fewer_again _ _ c.args.limits c.args.last.now.number _ c.args.last.now.payload.items _ _ read c.requires.some
-    (omega (arith, c.if-previous-before.true, ap (λ l. l.number) c.in_ok-previous.previous-is))
-
 pub returns-clause-outcome : goal.returns-clause-outcome
 returns-clause-outcome g c =
-    let read = (c.in_ok-previous.ensures {u = tt}).read in
-    let shown = subst (λ o. MatchOption o (StandsForNone read.day (Locate c.args.locate)) (λ s. IsShownAfter read.day (Locate c.args.locate) s.0 s.1))
-    c.in-Some.is read.holds in
-    step_again _ _ c.args.limits c.args.last.now.number _ c.args.last.now.payload.items _ _ read c.requires.some
-    c.stocks_are_independent.ensures.own c.args.locate _ _ c.in_ok-outcome.outcome _ shown
-    (omega (arith, c.if-previous-before.false, ap (λ l. l.number) c.in_ok-previous.previous-is)) c.requires.own
+    let start = g.S.Read.remaining c.args.again.now.device in
+    let next = g.S.Read.remaining c.stock_before.new.feed.device in
+    let none = c.of_none-none.result in
+    step_before (λ _ now messages. now ≡ last_noted messages) none start next c.args.locate c.args.last.now.number c.args.last.now.payload.items _ _ _ _
+    c.stocks_are_independent.ensures.own c.requires.some c.requires.own
+    (subst (λ found. GavePart start next (IsBefore (λ _ now messages. now ≡ last_noted messages) none c.args.locate c.args.last.now.number found)) c.in-Some.is ((c.in_ok-before.ensures {u = tt}).stock))
     (subst (λ p. (c.in_ok-outcome.outcome, c.step.new.self.world) ≡ step c.in-Some.stock.world p) c.deref.ensures.value ((c.in_ok-outcome.ensures {u = tt}).ok))
+
+pub returns-in_default-clause-outcome : goal.returns-in_default-clause-outcome
+returns-in_default-clause-outcome g c =
+    let start = g.S.Read.remaining c.args.again.now.device in
+    let next = g.S.Read.remaining c.stock_before.new.feed.device in
+    let none = c.of_none-none.result in
+    subst (λ found. GavePart start next (IsBefore (λ _ now messages. now ≡ last_noted messages) none c.args.locate c.args.last.now.number found)) c.in_default.is
+    ((c.in_ok-before.ensures {u = tt}).stock)
+
+pub step-requires-clause-own : goal.step-requires-clause-own
+step-requires-clause-own g c =
+    let found = subst (λ found. IfSome found (λ parts. (parts.0.locate ≡ c.args.locate) × (parts.0.steps < 2 ^ 32 - 1))) c.in-Some.is ((c.in_ok-before.ensures {u = tt}).machine) in
+    ap part c.deref.ensures.value ∙ c.requires.own ∙ ap Locate (sym found.0)
