@@ -5,5 +5,5 @@ mod LastNoted
 mod ClockWords
 pub mod Outcomes
 mod OwnParts
-mod ShownFiles
+pub mod ShownFiles
 pub mod TwiceRuns

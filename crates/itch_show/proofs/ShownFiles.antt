@@ -25,7 +25,7 @@ use Rattle.stock_text.specs.Sessions.{position_words, stock_text}
 use Rattle.stock_text.proofs.OwnRows.{stock_text-only}
 
 -- the fault of a reading is that of the engine
-exceeds_shows : (limits : Limits) (fault : LoadFault) (input : List ℕ) (file : Contents) → Exceeds limits fault input file
+pub exceeds_shows : (limits : Limits) (fault : LoadFault) (input : List ℕ) (file : Contents) → Exceeds limits fault input file
     → Shows limits input file (fault_of_load fault)
 exceeds_shows limits Memory input file exceeds = tt
 exceeds_shows limits Read input file exceeds = tt

@@ -1,0 +1,2 @@
+mod OwnLines
+mod WhyFiles
