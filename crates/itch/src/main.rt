@@ -6,6 +6,7 @@ mod files;
 mod kept;
 mod progress;
 mod prompt;
+mod questions;
 mod readings;
 mod replays;
 mod sessions;
@@ -19,6 +20,7 @@ use clap::error::ErrorKind;
 use engine_rules::{ProgFault, status};
 use files::Ended;
 use itch_arguments::Task;
+use questions::why;
 use readings::{list_stocks, print_order, print_tops, print_trades};
 use replays::{replay, replay_digits, summarize, watch};
 use sessions::debug;
@@ -103,6 +105,7 @@ where
             after,
             at,
         } => show(rt, terminals, file, stock, after, at),
+        Task::Why { file, number } => why(rt, terminals, file, number),
         Task::Order {
             file,
             stock,

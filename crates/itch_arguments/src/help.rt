@@ -2,8 +2,10 @@
 
 /// What the program is asked for most, and how it ends.
 pub(crate) const PROGRAM: &str =
-    "For example a stock's book at a time, an order's life, and a stock's trades:
+    "For example a stock's book at a time, why a message was refused, an order's life, and a stock's
+trades:
   itch show DAY AAPL --at 09:30:00
+  itch why DAY 100000
   itch order DAY AAPL 4711
   itch trades DAY AAPL
 
@@ -56,6 +58,18 @@ pub(crate) const SHOWN: &str = "Lines:
   no stock  where the locate code has no directory message yet
 
 Prices are in 1/10,000 of a currency unit. A time has the messages of that very time.";
+
+/// The lines of a message.
+pub(crate) const WHY: &str = "Lines:
+  at        the message's number, and what became of it; after it the message's text
+  F1 .. F12 where it was refused: the fault's number, its name, and why
+  order     each order that it names as it was before: reference, side (B or S), shares, price,
+            participant
+  no order  where none lived under a reference; `spent` where one had lived there before
+  456 add   the applied messages before it that name one of these orders: number and text; where
+            it breaks a trade, those that have its match number
+
+Prices are in 1/10,000 of a currency unit, times in nanoseconds since midnight.";
 
 /// The lines of an order's life.
 pub(crate) const ORDER: &str =

@@ -64,6 +64,11 @@ pub enum Task<'a> {
         after: Option<u64>,
         at: Option<&'a str>,
     },
+    /// To write why a message of a file came to be what it is.
+    Why {
+        file: &'a str,
+        number: u32,
+    },
     /// To write the life of an order of one of a file's stocks.
     Order {
         file: &'a str,
@@ -217,6 +222,20 @@ fn show_command<'a>(alloc: Global) -> Result<Command<'a>, AllocError> {
         .args(args)
 }
 
+// The arguments that print why a message came to be what it is.
+fn why_command<'a>(alloc: Global) -> Result<Command<'a>, AllocError> {
+    let number = path(alloc, "N", "The number of the message, counted from 1").value_parser(
+        value_parser!(u32).range(1..=4_294_967_295),
+    );
+    let args = vec![in alloc; path(alloc, "FILE", DAY_HELP), number]?;
+    Command::new(alloc, "why")
+        .about(
+            "Prints what became of a message, why it was refused, and the messages that led there",
+        )
+        .after_help(help::WHY)
+        .args(args)
+}
+
 // The arguments that print an order's life.
 fn order_command<'a>(alloc: Global) -> Result<Command<'a>, AllocError> {
     let reference = path(alloc, "REFERENCE", "Any reference that the order has had").value_parser(
@@ -294,6 +313,7 @@ fn add_all<'a>(alloc: Global, commands: &mut Vec<Command<'a>>) -> Result<(), All
     add(commands, stocks_command(alloc))?;
     add(commands, tops_command(alloc))?;
     add(commands, show_command(alloc))?;
+    add(commands, why_command(alloc))?;
     add(commands, order_command(alloc))?;
     add(commands, trades_command(alloc))?;
     add(commands, watch_command(alloc))?;
@@ -384,6 +404,18 @@ fn showing<'a>(matches: &ArgMatches<'a>) -> Option<Task<'a>>
     })
 }
 
+// To write why a message came to be what it is, where the arguments ask for it.
+fn explaining<'a>(matches: &ArgMatches<'a>) -> Option<Task<'a>>
+    ensures { IfSome result (λ task. (command_of task ≡ Some (codes "why"))
+        × (subcommand_name_of matches.now ≡ Some (codes "why"))) }
+{
+    let why = matches.subcommand_matches("why")?;
+    Some(Task::Why {
+        file: why.get_str("FILE")?,
+        number: why.get_one("N")?,
+    })
+}
+
 // To write an order's life, where the arguments ask for it.
 fn printing_order<'a>(matches: &ArgMatches<'a>) -> Option<Task<'a>>
     ensures { IfSome result (λ task. (command_of task ≡ Some (codes "order"))
@@ -436,6 +468,9 @@ pub fn chosen_task<'a>(matches: &ArgMatches<'a>) -> Task<'a>
         return task;
     }
     if let Some(task) = showing(matches) {
+        return task;
+    }
+    if let Some(task) = explaining(matches) {
         return task;
     }
     if let Some(task) = printing_order(matches) {
