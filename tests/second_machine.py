@@ -345,6 +345,70 @@ def shown(payloads, position, locate):
     yield trades_line(day, locate)
 
 
+NAMES = ["WrongLength", "NoDirectory", "StockDiffers", "LocateTaken", "ReferenceInUse", "ReferenceUnknown", "BadSide",
+         "ZeroShares", "TooManyShares", "BadPrintable", "NoTrade", "ReferenceSpent"]
+
+
+def reason(day, number, payload, m):
+    """Why a message is refused by the check of this number, where it comes next in a day."""
+    if number == 1:
+        kind = chr(payload[0])
+        return "a message of type %s has %d bytes, and this one %d" % (kind, SIZES[kind], len(payload))
+    if number == 2:
+        return "locate code %d has no directory message before it" % m["locate"]
+    if number in (3, 4):
+        return "stock %s, and locate code %d is %s" % (quoted(m["stock"]), m["locate"], quoted(day.directory[m["locate"]]))
+    if number in (5, 12):
+        words = "order %d lives" if number == 5 else "an order %d was here before"
+        return words % m.get("new_reference", m["reference"])
+    if number == 6:
+        return "no order %d lives" % m["reference"]
+    if number == 7:
+        return 'side %s, which is neither "B" nor "S"' % quoted(m["side"])
+    if number == 8:
+        return "order %d of no shares" % m.get("new_reference", m["reference"])
+    if number == 9:
+        return "%d shares %s of order %d, which has %d" % (
+            m["shares"], "cancelled" if m["type"] == "X" else "executed", m["reference"],
+            day.orders[m["locate"], m["reference"]]["shares"])
+    if number == 10:
+        return 'printable %s, which is neither "Y" nor "N"' % quoted(m["printable"])
+    return "no unbroken trade has match number %d" % m["match_no"]
+
+
+def references_in(m):
+    """The references by which a message names orders, each once."""
+    return list(dict.fromkeys(m[name] for name in ("reference", "new_reference") if name in m))
+
+
+def why(payloads, number):
+    """Why a message came to be what it is."""
+    payload = payloads[number - 1]
+    day, m = replayed(payloads[:number - 1]), parse(payload)
+    outcome = day.outcome(m)
+    yield "at %d %s" % (number, outcome_words(outcome))
+    yield text_line(payload, m)
+    if outcome.startswith("F"):
+        check = int(outcome[1:])
+        yield "%s %s: %s" % (outcome, NAMES[check - 1], reason(day, check, payload, m))
+    if not is_of_stock(m):
+        return
+    for reference in references_in(m):
+        key = (m["locate"], reference)
+        if key in day.orders:
+            yield order_line(reference, day.orders[key])
+        else:
+            yield "no order %d%s" % (reference, " spent" if key in day.spent else "")
+    for n in day.own.get(m["locate"], []):
+        earlier = day.messages[n - 1]
+        if m["type"] == "B":
+            led = earlier.get("match_no") == m["match_no"]
+        else:
+            led = set(references_in(earlier)) & set(references_in(m))
+        if led and day.outcomes[n - 1] == "applied":
+            yield "%d %s" % (n, text_line(payloads[n - 1], earlier))
+
+
 def report(day, marked, tail):
     """The lines of a day's report."""
     for number, outcome in enumerate(day.outcomes, 1):

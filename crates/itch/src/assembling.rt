@@ -18,7 +18,7 @@ fn assemble_to<'a, T: AllocGlobal, R: Read, W: Write>(
 ) -> Ended<'a> {
     let (mut feed, mut sink) = (Feed::new(&mut *input), Sink::new(&mut *output));
     let run = asm_run(rt.alloc(), &mut feed, &mut sink);
-    ended(run.map(|()| 0), input, output)
+    ended(run, input, output)
 }
 
 // Gives a file that was made of a text its name, or takes it away where the text is faulty.

@@ -10,15 +10,32 @@ use std::{fs, io};
 /// How a run ended: with the number of refused messages, or before its work was done.
 pub type Ended<'a> = Result<u32, Stop<'a>>;
 
-/// How a run ended whose input and output are these: they know why they failed.
+// Why a run stopped whose input and output are these: they know why they failed.
+fn stopped<'a, D, W>(fault: StockFault, input: &Named<'a, D>, output: &Named<'a, W>) -> Stop<'a> {
+    Stop::Fault(fault, input.failure().or(output.failure()))
+}
+
+/// How a run ended that refuses no messages, by its input and its output.
 pub fn ended<'a, F: Into<StockFault>, D, W>(
-    run: Result<u32, F>,
+    run: Result<(), F>,
+    input: &Named<'a, D>,
+    output: &Named<'a, W>,
+) -> Ended<'a> {
+    match run {
+        Ok(()) => Ok(0),
+        Err(fault) => Err(stopped(fault.into(), input, output)),
+    }
+}
+
+/// How a replay ended, by its input and its output.
+pub fn replayed<'a, D, W>(
+    run: Result<u32, ProgFault>,
     input: &Named<'a, D>,
     output: &Named<'a, W>,
 ) -> Ended<'a> {
     match run {
         Ok(refused) => Ok(refused),
-        Err(fault) => Err(Stop::Fault(fault.into(), input.failure().or(output.failure()))),
+        Err(fault) => Err(stopped(fault.into(), input, output)),
     }
 }
 

@@ -71,7 +71,7 @@ fn answer_of_file<'a, R: Runtime + AllocGlobal>(
         &mut Sink::new(&mut output),
     );
     let failed = if day.failure().is_some() { day } else { again };
-    ended(run.map(|()| 0), &failed, &output)
+    ended(run, &failed, &output)
 }
 
 // Answers a question of a pipe, whose messages up to the question's place are kept, since it can't be opened again.
@@ -101,7 +101,7 @@ fn answer_of_pipe<'a, R: Runtime + AllocGlobal>(
         &mut Feed::new(kept.bytes()),
         &mut Sink::new(&mut output),
     );
-    ended(run.map(|()| 0), &day, &output)
+    ended(run, &day, &output)
 }
 
 /// Writes the answer to a question of a file, which was opened, on standard output.

@@ -18,7 +18,7 @@ pub fn list_stocks<'a, R: Runtime + AllocGlobal>(
         &mut Feed::new(&mut day),
         &mut Sink::new(&mut output),
     );
-    ended(run.map(|()| 0), &day, &output)
+    ended(run, &day, &output)
 }
 
 /// Writes the best bid and ask of one of a file's stocks along it on standard output.
@@ -39,7 +39,7 @@ pub fn print_tops<'a, R: Runtime + AllocGlobal>(
     let mut output = standard_output(rt);
     let (mut feed, mut sink) = (Feed::new(&mut day), Sink::new(&mut output));
     let run = tops_run(rt.alloc(), &mut feed, &mut sink, name, selection);
-    ended(run.map(|()| 0), &day, &output)
+    ended(run, &day, &output)
 }
 
 /// Writes the life of an order of one of a file's stocks on standard output.
@@ -55,7 +55,7 @@ pub fn print_order<'a, R: Runtime + AllocGlobal>(
     let mut output = standard_output(rt);
     let (mut feed, mut sink) = (Feed::new(&mut day), Sink::new(&mut output));
     let run = order_run(rt.alloc(), &mut feed, &mut sink, name, reference);
-    ended(run.map(|()| 0), &day, &output)
+    ended(run, &day, &output)
 }
 
 // Writes the trades of one of a file's stocks on standard output.
@@ -70,7 +70,7 @@ fn print_stock_trades<'a, R: Runtime + AllocGlobal>(
     let mut output = standard_output(rt);
     let (mut feed, mut sink) = (Feed::new(&mut day), Sink::new(&mut output));
     let run = stock_trades_run(rt.alloc(), &mut feed, &mut sink, name);
-    ended(run.map(|()| 0), &day, &output)
+    ended(run, &day, &output)
 }
 
 /// Writes the trades of a file, or of one of its stocks, on standard output.
@@ -90,5 +90,5 @@ pub fn print_trades<'a, R: Runtime + AllocGlobal>(
         &mut Feed::new(&mut day),
         &mut Sink::new(&mut output),
     );
-    ended(run.map(|()| 0), &day, &output)
+    ended(run, &day, &output)
 }

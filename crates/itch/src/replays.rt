@@ -1,5 +1,5 @@
 //! Replays of whole days.
-use crate::files::{Ended, ended, named_stock, open_day, standard_output};
+use crate::files::{Ended, ended, named_stock, open_day, replayed, standard_output};
 use crate::progress::ProgressLines;
 use crate::terminals::Terminals;
 use binaryfile::{Feed, Sink};
@@ -48,7 +48,7 @@ where
     if let Some(lines) = &lines {
         lines.say();
     }
-    ended(run, &day, &output)
+    replayed(run, &day, &output)
 }
 
 /// Replays a file by this many threads while it is read, and writes a line for each of its stocks on standard output.
@@ -70,7 +70,7 @@ where
         &mut Sink::new(&mut output),
         number_of_workers(workers),
     );
-    ended(run.map(|()| 0), &day, &output)
+    ended(run, &day, &output)
 }
 
 /// Replays a file, and writes what a screen of one of its stocks sees meanwhile on standard output.
@@ -92,7 +92,7 @@ pub fn watch<'a, R: Runtime + AllocGlobal + Threads + Wait + Sync>(
         name,
         number_of_workers(workers),
     );
-    ended(run.map(|()| 0), &day, &output)
+    ended(run, &day, &output)
 }
 
 /// Replays the file whose hexadecimal digits are standard input, and writes its report on standard output. At a terminal
@@ -110,5 +110,5 @@ pub fn replay_digits<R: Runtime + AllocGlobal + Threads + Wait + Sync>(
         &mut Feed::new(&mut input),
         &mut Sink::new(&mut output),
     );
-    ended(run, &input, &output)
+    replayed(run, &input, &output)
 }

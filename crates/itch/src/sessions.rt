@@ -28,5 +28,5 @@ pub fn debug<'a, R: Runtime + AllocGlobal>(
         &mut Feed::new(&mut commands),
         &mut Sink::new(&mut output),
     );
-    ended(run.map(|()| 0), &commands, &output)
+    ended(run, &commands, &output)
 }

@@ -21,7 +21,7 @@ pub fn disassemble<'a, R: Runtime + AllocGlobal>(
         &mut Sink::new(&mut output),
         SEGMENT_BYTES,
     );
-    ended(run.map(|()| 0), &day, &output)
+    ended(run, &day, &output)
 }
 
 /// Writes the lines of a file's messages from one number on, to another or to the file's end, on standard output, while it
@@ -42,5 +42,5 @@ pub fn disassemble_between<'a, R: Runtime + AllocGlobal>(
     let mut output = standard_output(rt);
     let (mut feed, mut sink) = (Feed::new(&mut day), Sink::new(&mut output));
     let run = dis_part_run(rt.alloc(), &mut feed, &mut sink, SEGMENT_BYTES, first, last);
-    ended(run.map(|()| 0), &day, &output)
+    ended(run, &day, &output)
 }
