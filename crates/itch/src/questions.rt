@@ -95,12 +95,12 @@ fn answer_of_pipe<'a, R: Runtime + AllocGlobal>(
     if let Err(fault) = read {
         return ended(Err(StockFault::from(fault)), &day, &output);
     }
-    let run = question.answer(
-        alloc,
-        &mut Feed::new(kept.bytes()),
-        &mut Feed::new(kept.bytes()),
-        &mut Sink::new(&mut output),
+    let (mut feed, mut again, mut sink) = (
+        Feed::new(kept.bytes()),
+        Feed::new(kept.bytes()),
+        Sink::new(&mut output),
     );
+    let run = question.answer(alloc, &mut feed, &mut again, &mut sink);
     ended(run, &day, &output)
 }
 

@@ -5,5 +5,5 @@ mod LastNoted
 mod ClockWords
 pub mod Outcomes
 mod OwnParts
-pub mod ShownFiles
+mod ShownFiles
 pub mod TwiceRuns

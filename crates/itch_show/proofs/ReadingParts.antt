@@ -14,6 +14,7 @@ use Rattle.binaryfile.proofs.Splitting.{splits_contents}
 use Rattle.day_segments.specs.Reading.{HasRead, IsWholeFile, Reading, followed_by, nothing_read}
 use Rattle.day_segments.proofs.Following.{every_file_goes_on}
 use Rattle.itch_table.specs.Projection.{payload_at}
+use Rattle.engine_rules.specs.FaultOrigins.{fault_of_load}
 use Rattle.itch_show.specs.Parts.{Exceeds, GavePart, HasReadUpTo}
 use Rattle.itch_show.specs.Places.{ComesUpTo, TakesUpTo, is_reached, up_to}
 use Rattle.itch_show.specs.declared.place.Place.{Place}
@@ -137,16 +138,16 @@ along_first start reading limits place reached payload Taken read first empty no
 }
 
 -- a device that had failed gives nothing
-pub had_failed : (start : Option (List ℕ)) (limits : Limits) → GavePart start start (Exceeds limits Read)
+pub had_failed : (start : Option (List ℕ)) (limits : Limits) → GavePart start start (Exceeds limits (fault_of_load Read))
 had_failed start limits = record { given = []; gave = Consumes-nil start; each = λ input file are split begins. tt }
 
 -- out of memory and a failed device say nothing of a file
-pub says_nothing : (start now : Option (List ℕ)) (limits : Limits) (most : ℕ) → GaveUpTo start now most → GavePart start now (Exceeds limits Memory)
+pub says_nothing : (start now : Option (List ℕ)) (limits : Limits) (most : ℕ) → GaveUpTo start now most → GavePart start now (Exceeds limits (fault_of_load Memory))
 says_nothing start now limits most gave = record { given = gave.bytes; gave = gave.gave; each = λ input file are split begins. tt }
 
 -- why a segment isn't read
 pub stopped : (start now : Option (List ℕ)) (limits : Limits) (most : ℕ) (fault : LoadFault) → GaveUpTo start now most
-    → (fault ≡ TooManyBytes → GaveMore start now limits.bytes) → ¬ (fault ≡ TooManyMessages) → GavePart start now (Exceeds limits fault)
+    → (fault ≡ TooManyBytes → GaveMore start now limits.bytes) → ¬ (fault ≡ TooManyMessages) → GavePart start now (Exceeds limits (fault_of_load fault))
 stopped start now limits most Memory gave more few = says_nothing start now limits most gave
 stopped start now limits most Read gave more few = record { given = gave.bytes; gave = gave.gave; each = λ input file are split begins. tt }
 stopped start now limits most TooManyMessages gave more few = absurd (few refl)
@@ -160,7 +161,7 @@ stopped start now limits most TooManyBytes gave more few =
 
 -- a file has more messages than the limit where its beginning has
 pub too_many : (start now : Option (List ℕ)) (limits : Limits) (reading : Reading) (contents : Contents) → HasRead start now contents reading
-    → limits.messages < reading.messages → GavePart start now (Exceeds limits TooManyMessages)
+    → limits.messages < reading.messages → GavePart start now (Exceeds limits (fault_of_load TooManyMessages))
 too_many start now limits reading contents read more = record {
   given = read.read.bytes;
   gave = read.read.gave;

@@ -5,14 +5,13 @@ use Rattle.std.proofs.KnownBytes.{Consumes-nil}
 use Rattle.binaryfile.specs.Entries.{Contents}
 use Rattle.binaryfile.specs.declared.day.Limits.{Limits}
 use Rattle.binaryfile.specs.declared.load.LoadFault.{LoadFault}
-use Rattle.binaryfile.specs.declared.load.LoadFault.TheVariants.{Memory, Read, TooManyBytes, TooManyMessages}
 use Rattle.engine_rules.specs.FaultOrigins.{fault_of_load}
 use Rattle.itch_readings.proofs.LongerDays.{after_more}
 use Rattle.itch_readings.specs.declared.fault.StockFault.TheVariants.{NoStock, PastEnd, Changed, Engine}
 use Rattle.itch_readings.specs.declared.naming.StockName.{StockName}
 use Rattle.itch_show.specs.Parts.{Exceeds, GavePart, HasReadUpTo}
 use Rattle.itch_show.specs.Places.{is_past, position_of, up_to}
-use Rattle.itch_show.specs.Shown.{GaveParts, IsKnownAt, IsShownAfter, PrintsShown, Refuses, Shows, StandsFor, StandsForNone, StartsWith}
+use Rattle.itch_show.specs.Shown.{GaveParts, IsKnownAt, IsShownAfter, PrintsShown, Refuses, StandsFor, StandsForNone, StartsWith}
 use Rattle.itch_show.specs.declared.last_outcome.LastOutcome.{LastOutcome}
 use Rattle.itch_show.specs.declared.place.Place.{Place}
 use Rattle.itch_show.proofs.Outcomes.{starts}
@@ -24,23 +23,15 @@ use Rattle.stock_machine.specs.StockRows.{StockMachine}
 use Rattle.stock_text.specs.Sessions.{position_words, stock_text}
 use Rattle.stock_text.proofs.OwnRows.{stock_text-only}
 
--- the fault of a reading is that of the engine
-pub exceeds_shows : (limits : Limits) (fault : LoadFault) (input : List ℕ) (file : Contents) → Exceeds limits fault input file
-    → Shows limits input file (fault_of_load fault)
-exceeds_shows limits Memory input file exceeds = tt
-exceeds_shows limits Read input file exceeds = tt
-exceeds_shows limits TooManyBytes input file exceeds = exceeds
-exceeds_shows limits TooManyMessages input file exceeds = exceeds
-
 module _ (name : StockName) (place : Place) (limits : Limits) (old new again : Option (List ℕ)) where
-  pub first_stopped : (fault : LoadFault) → GavePart old new (Exceeds limits fault)
+  pub first_stopped : (fault : LoadFault) → GavePart old new (Exceeds limits (fault_of_load fault))
       → GaveParts old new again again (λ input file. Refuses name place limits input file (Engine (fault_of_load fault)))
   first_stopped fault part = record {
     given = part.given;
     gave = part.gave;
     again = [];
     gave_again = Consumes-nil again;
-    each = λ input file are split begins second. exceeds_shows limits fault input file (part.each input file are split begins);
+    each = λ input file are split begins second. part.each input file are split begins;
   }
 
   module _ (number : ℕ) (payload : List ℕ) (Holds : List (List ℕ) → Type 0) (read : HasReadUpTo old new limits place number payload Holds) where
@@ -71,14 +62,14 @@ module _ (name : StockName) (place : Place) (limits : Limits) (old new again : O
     }
 
     module _ (after_it : Option (List ℕ)) where
-      pub second_stopped : (fault : LoadFault) → GavePart again after_it (Exceeds limits fault)
+      pub second_stopped : (fault : LoadFault) → GavePart again after_it (Exceeds limits (fault_of_load fault))
           → GaveParts old new again after_it (λ input file. Refuses name place limits input file (Engine (fault_of_load fault)))
       second_stopped fault part = record {
         given = read.part.given;
         gave = read.part.gave;
         again = part.given;
         gave_again = part.gave;
-        each = λ input file are split begins second. exceeds_shows limits fault input file (part.each input file are split second);
+        each = λ input file are split begins second. part.each input file are split second;
       }
 
       starts_with : (day : List (List ℕ)) → up_to place day ≡ read.day → StartsWith read.day day

@@ -4,8 +4,8 @@ use Rattle.std.specs.Io.KnownBytes.{Consumes, IsAtEnd}
 use Rattle.byte_strings.specs.Bytes.{AreBytes}
 use Rattle.binaryfile.specs.Entries.{Contents, Splits}
 use Rattle.binaryfile.specs.declared.day.Limits.{Limits}
-use Rattle.binaryfile.specs.declared.load.LoadFault.{LoadFault}
-use Rattle.binaryfile.specs.declared.load.LoadFault.TheVariants.{Memory, Read, TooManyBytes, TooManyMessages}
+use Rattle.engine_rules.specs.declared.fault.ProgFault.{ProgFault}
+use Rattle.engine_rules.specs.declared.fault.ProgFault.TheVariants.{Memory, Read, TooManyBytes, TooManyMessages}
 use Rattle.itch_table.specs.Projection.{payload_at}
 use Rattle.itch_show.specs.Places.{ComesUpTo, up_to}
 use Rattle.itch_show.specs.declared.place.Place.{Place}
@@ -37,8 +37,9 @@ pub record HasReadUpTo (old new : Option (List ℕ)) (limits : Limits) (place : 
 
 -- why a file isn't read up to a place: it has more bytes or messages than the limits say; out of memory and a failed device
 -- say nothing of it
-abbrev pub Exceeds : Limits → LoadFault → List ℕ → Contents → Type 0
+abbrev pub Exceeds : Limits → ProgFault → List ℕ → Contents → Type 0
 Exceeds limits Memory input file = Unit {0}
 Exceeds limits Read input file = Unit {0}
 Exceeds limits TooManyBytes input file = limits.bytes < length input
 Exceeds limits TooManyMessages input file = limits.messages < length file.payloads
+Exceeds limits other input file = ⊥

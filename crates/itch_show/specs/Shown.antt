@@ -4,15 +4,13 @@ use Rattle.std.specs.Io.KnownBytes.{Consumes}
 use Rattle.byte_strings.specs.Bytes.{AreBytes}
 use Rattle.binaryfile.specs.Entries.{Contents, Splits}
 use Rattle.binaryfile.specs.declared.day.Limits.{Limits}
-use Rattle.engine_rules.specs.declared.fault.ProgFault.{ProgFault}
-use Rattle.engine_rules.specs.declared.fault.ProgFault.TheVariants.{Memory, Read, TooManyBytes, TooManyMessages, BadHex, Write, Asm}
 use Rattle.itch_readings.specs.Naming.{NamesNone, NamesStock}
 use Rattle.itch_readings.specs.OwnMessages.{OwnMessage}
 use Rattle.itch_readings.specs.declared.fault.StockFault.{StockFault}
 use Rattle.itch_readings.specs.declared.fault.StockFault.TheVariants.{NoStock, PastEnd, Changed, Engine}
 use Rattle.itch_readings.specs.declared.naming.StockName.{StockName}
 use Rattle.itch_readings.specs.declared.naming.StockName.TheVariants.{Locate, Symbol}
-use Rattle.itch_show.specs.Parts.{BeginsWith}
+use Rattle.itch_show.specs.Parts.{BeginsWith, Exceeds}
 use Rattle.itch_show.specs.Places.{IsPast, position_of, up_to}
 use Rattle.itch_show.specs.declared.last_outcome.LastOutcome.{LastOutcome}
 use Rattle.itch_show.specs.declared.place.Place.{Place}
@@ -40,23 +38,13 @@ pub record PrintsShown (name : StockName) (place : Place) (text : List ℕ) (day
   pub stands : StandsFor (up_to place day) name locate
   pub printed : text ≡ shown_text day (position_of place day) locate
 
--- what a fault of a reader says of a file; out of memory and a failed device say nothing of it
-abbrev pub Shows : Limits → List ℕ → Contents → ProgFault → Type 0
-Shows limits input file Memory = Unit {0}
-Shows limits input file Read = Unit {0}
-Shows limits input file TooManyBytes = limits.bytes < length input
-Shows limits input file TooManyMessages = limits.messages < length file.payloads
-Shows limits input file BadHex = ⊥
-Shows limits input file Write = ⊥
-Shows limits input file (Asm fault) = ⊥
-
 -- why nothing is shown of a file. That it changed isn't said of one that gave the same twice.
 abbrev pub Refuses : StockName → Place → Limits → List ℕ → Contents → StockFault → Type 0
 Refuses name place limits input file NoStock =
     (¬ IsPast place file.payloads) × StandsForNone (up_to place file.payloads) name
 Refuses name place limits input file PastEnd = IsPast place file.payloads
 Refuses name place limits input file Changed = ⊥
-Refuses name place limits input file (Engine fault) = Shows limits input file fault
+Refuses name place limits input file (Engine fault) = Exceeds limits fault input file
 
 -- ---- what is known after the messages before a place
 

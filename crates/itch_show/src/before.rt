@@ -5,6 +5,7 @@ ghost use Rattle.itch_readings.specs.Noting.{HasTaken};
 ghost use Rattle.itch_readings.specs.declared.naming.StockName.{StockName};
 ghost use Rattle.itch_readings.specs.declared.naming.StockName.TheVariants.{Locate};
 ghost use Rattle.itch_show.specs.Before.{HasTakenOwn, IsBefore};
+ghost use Rattle.engine_rules.specs.FaultOrigins.{fault_of_load};
 ghost use Rattle.itch_show.specs.Parts.{Exceeds, GavePart};
 
 use crate::place::Place;
@@ -59,7 +60,8 @@ pub fn stock_before<A: Allocator + Copy, R: Read, N: Notes + Drop>(
     ensures machine { IfOk result (λ found. IfSome found (λ parts.
         (parts.0.locate ≡ locate) × (parts.0.steps < 2 ^ 32 - 1))) }
     ensures fault { IfErr result (λ fault.
-        GavePart (R.remaining feed.old.device) (R.remaining feed.new.device) (Exceeds limits fault)) }
+        GavePart (R.remaining feed.old.device) (R.remaining feed.new.device)
+        (Exceeds limits (fault_of_load fault))) }
     ensures failed { IsErrOf result LoadFault.Read ↔ HasFailed feed.new }
     ensures for_good { HasFailed feed.old → feed.new ≡ feed.old }
     ensures taken { GaveUpTo (R.remaining feed.old.device) (R.remaining feed.new.device) (limits.bytes + 1) }

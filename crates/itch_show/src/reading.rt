@@ -2,6 +2,7 @@
 ghost use Rattle.std.specs.Prelude.{◌≡◌, ◌+◌, ◌<◌, ◌≤◌, ◌^◌, ◌++◌, ◌∷◌, ◌↔◌, IfErr, IfOk, IsErrOf, List, OnOk, [], length, take, ℕ};
 ghost use Rattle.binaryfile.specs.Devices.{GaveUpTo, HasFailed};
 ghost use Rattle.itch_table.specs.Projection.{payload_at};
+ghost use Rattle.engine_rules.specs.FaultOrigins.{fault_of_load};
 ghost use Rattle.itch_show.specs.Parts.{Exceeds, GavePart, HasReadUpTo};
 ghost use Rattle.itch_show.specs.Places.{ComesUpTo, TakesUpTo};
 
@@ -116,7 +117,8 @@ pub fn read_up_to<A: Allocator + Copy, R: Read, T: TakesMessages<A>>(
         HasReadUpTo (R.remaining feed.old.device) (R.remaining feed.new.device)
         limits place.now last.number last.payload.items (T.has_taken taker.old taker.new)) }
     ensures fault { IfErr result (λ fault.
-        GavePart (R.remaining feed.old.device) (R.remaining feed.new.device) (Exceeds limits fault)) }
+        GavePart (R.remaining feed.old.device) (R.remaining feed.new.device)
+        (Exceeds limits (fault_of_load fault))) }
     ensures failed { IsErrOf result LoadFault.Read ↔ HasFailed feed.new }
     ensures for_good { HasFailed feed.old → feed.new ≡ feed.old }
     ensures taken { GaveUpTo (R.remaining feed.old.device) (R.remaining feed.new.device) (limits.bytes + 1) }

@@ -5,6 +5,7 @@ ghost use Rattle.itch_readings.specs.Noting.{HasTaken};
 ghost use Rattle.itch_table.specs.Parts.{part};
 ghost use Rattle.itch_table.specs.Projection.{payload_at};
 ghost use Rattle.itch_table.specs.declared.outcome.Part.{Part};
+ghost use Rattle.engine_rules.specs.FaultOrigins.{fault_of_load};
 ghost use Rattle.itch_show.specs.Parts.{Exceeds, GavePart, HasReadUpTo};
 ghost use Rattle.itch_show.specs.Shown.{HasOutcome, IsKnownAt, IsLastOf, IsShownAfter, StandsForNone, StartsWith, last_noted};
 
@@ -65,7 +66,8 @@ pub(crate) fn stock_at_place<A: Allocator + Copy, R: Read>(
         limits place.now found.last.number found.last.payload.items (λ day.
         MatchOption found.stock (StandsForNone day name) (λ stock. IsShownAfter day name stock.0 stock.1))) }
     ensures fault { IfErr result (λ fault.
-        GavePart (R.remaining feed.old.device) (R.remaining feed.new.device) (Exceeds limits fault)) }
+        GavePart (R.remaining feed.old.device) (R.remaining feed.new.device)
+        (Exceeds limits (fault_of_load fault))) }
     ensures failed { IsErrOf result LoadFault.Read ↔ HasFailed feed.new }
     ensures for_good { HasFailed feed.old → feed.new ≡ feed.old }
     ensures taken { GaveUpTo (R.remaining feed.old.device) (R.remaining feed.new.device) (limits.bytes + 1) }
@@ -97,7 +99,8 @@ fn outcome_again<A: Allocator + Copy, S: Read>(
         GavePart (S.remaining again.old.device) (S.remaining again.new.device)
         (HasOutcome last.now.number last.now.payload.items found)) }
     ensures fault { IfErr result (λ fault.
-        GavePart (S.remaining again.old.device) (S.remaining again.new.device) (Exceeds limits fault)) }
+        GavePart (S.remaining again.old.device) (S.remaining again.new.device)
+        (Exceeds limits (fault_of_load fault))) }
     ensures failed { IsErrOf result LoadFault.Read ↔ HasFailed again.new }
     ensures for_good { HasFailed again.old → again.new ≡ again.old }
     ensures taken { GaveUpTo (S.remaining again.old.device) (S.remaining again.new.device)
@@ -132,7 +135,8 @@ pub(crate) fn last_outcome<A: Allocator + Copy, S: Read>(
         → GavePart (S.remaining again.old.device) (S.remaining again.new.device)
         (λ _ file. StartsWith day file.payloads → IsKnownAt file.payloads (length day) found)) }
     ensures fault { IfErr result (λ fault.
-        GavePart (S.remaining again.old.device) (S.remaining again.new.device) (Exceeds limits fault)) }
+        GavePart (S.remaining again.old.device) (S.remaining again.new.device)
+        (Exceeds limits (fault_of_load fault))) }
     ensures failed { IsErrOf result LoadFault.Read → HasFailed again.new }
     ensures fails { HasFailed again.new → (HasFailed again.old ⊎ IsErrOf result LoadFault.Read) }
     ensures for_good { HasFailed again.old → again.new ≡ again.old }

@@ -18,7 +18,6 @@ use Rattle.itch_show.specs.Places.{up_to}
 use Rattle.itch_show.specs.Shown.{GaveParts}
 use Rattle.itch_show.specs.declared.place.Place.TheVariants.{After}
 use Rattle.itch_show.proofs.Outcomes.{after_taken}
-use Rattle.itch_show.proofs.ShownFiles.{exceeds_shows}
 use Rattle.itch_table.specs.declared.outcome.Outcome.{Outcome}
 use Rattle.itch_table.specs.declared.outcome.Part.{Part}
 use Rattle.itch_table.specs.declared.outcome.Part.TheVariants.{Locate, Nowhere}
@@ -69,14 +68,14 @@ none_is first start now locate n payload gave =
     record { given = gave.given; gave = gave.gave; each = λ input file are split begins. gave.each input file are split begins }
 
 module _ (n : ℕ) (limits : Limits) (old new again : Option (List ℕ)) where
-  pub first_stopped : (fault : LoadFault) → GavePart old new (Exceeds limits fault)
+  pub first_stopped : (fault : LoadFault) → GavePart old new (Exceeds limits (fault_of_load fault))
       → GaveParts old new again again (λ input file. RefusesWhy n limits input file (Engine (fault_of_load fault)))
   first_stopped fault stopped = record {
     given = stopped.given;
     gave = stopped.gave;
     again = [];
     gave_again = Consumes-nil again;
-    each = λ input file are split begins second. exceeds_shows limits fault input file (stopped.each input file are split begins);
+    each = λ input file are split begins second. stopped.each input file are split begins;
   }
 
   module _ (number : ℕ) (payload : List ℕ) (Holds : List (List ℕ) → Type 0) (read : HasReadUpTo old new limits (After n) number payload Holds) where
@@ -91,14 +90,14 @@ module _ (n : ℕ) (limits : Limits) (old new again : Option (List ℕ)) where
     }
 
     module _ (after_it : Option (List ℕ)) where
-      pub second_stopped : (fault : LoadFault) → GavePart again after_it (Exceeds limits fault)
+      pub second_stopped : (fault : LoadFault) → GavePart again after_it (Exceeds limits (fault_of_load fault))
           → GaveParts old new again after_it (λ input file. RefusesWhy n limits input file (Engine (fault_of_load fault)))
       second_stopped fault stopped = record {
         given = read.part.given;
         gave = read.part.gave;
         again = stopped.given;
         gave_again = stopped.gave;
-        each = λ input file are split begins second. exceeds_shows limits fault input file (stopped.each input file are split second);
+        each = λ input file are split begins second. stopped.each input file are split second;
       }
 
     module _ (some : 0 < n) (enough : n ≤ number) where

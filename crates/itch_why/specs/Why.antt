@@ -16,7 +16,7 @@ use Rattle.itch_readings.specs.OwnMessages.{OwnMessage, first_order, own_from, r
 use Rattle.itch_readings.specs.declared.fault.StockFault.{StockFault}
 use Rattle.itch_readings.specs.declared.fault.StockFault.TheVariants.{NoStock, PastEnd, Changed, Engine as OfEngine}
 use Rattle.itch_show.specs.Engine.{Question}
-use Rattle.itch_show.specs.Shown.{Shows}
+use Rattle.itch_show.specs.Parts.{Exceeds}
 use Rattle.itch_table.specs.declared.order.Order.{Order}
 use Rattle.itch_table.specs.declared.outcome.Outcome.{Outcome}
 use Rattle.itch_table.specs.declared.outcome.Outcome.TheVariants.{Applied}
@@ -164,7 +164,7 @@ abbrev pub RefusesWhy : ℕ → Limits → List ℕ → Contents → StockFault 
 RefusesWhy n limits input file NoStock = ⊥
 RefusesWhy n limits input file PastEnd = 0 < n → length file.payloads < n
 RefusesWhy n limits input file Changed = ⊥
-RefusesWhy n limits input file (OfEngine fault) = Shows limits input file fault
+RefusesWhy n limits input file (OfEngine fault) = Exceeds limits fault input file
 
 -- why message n of a file came to be what it is
 abbrev pub why : ℕ → Limits → Question

@@ -3,6 +3,7 @@ ghost use Rattle.std.specs.Prelude.{◌≡◌, ◌≢◌, ◌⊎◌, ◌+◌, �
 ghost use Rattle.binaryfile.specs.Devices.{GaveUpTo, HasFailed};
 ghost use Rattle.engine_rules.specs.declared.fault.ProgFault.TheVariants.{Read as ReadFailed, Write as WriteFailed};
 ghost use Rattle.itch_show.specs.Engine.{Returns, RunsTwice, file_limits};
+ghost use Rattle.engine_rules.specs.FaultOrigins.{fault_of_load};
 ghost use Rattle.itch_show.specs.Parts.{Exceeds, GavePart};
 ghost use Rattle.itch_show.specs.Shown.{GaveParts};
 ghost use Rattle.itch_table.specs.Parts.{part};
@@ -51,7 +52,8 @@ fn text_again<A: Allocator + Copy, S: Read>(
         GavePart (S.remaining again.old.device) (S.remaining again.new.device)
         (IsOwnText last.now.number last.now.payload.items made)) }
     ensures fault { IfErr result (λ fault.
-        GavePart (S.remaining again.old.device) (S.remaining again.new.device) (Exceeds limits fault)) }
+        GavePart (S.remaining again.old.device) (S.remaining again.new.device)
+        (Exceeds limits (fault_of_load fault))) }
     ensures failed { IsErrOf result LoadFault.Read ↔ HasFailed again.new }
     ensures for_good { HasFailed again.old → again.new ≡ again.old }
     ensures taken { GaveUpTo (S.remaining again.old.device) (S.remaining again.new.device)

@@ -6,6 +6,7 @@ use Rattle.std.specs.Prelude.{IsTrue}
 use Rattle.binaryfile.specs.Devices.{GaveMore}
 use Rattle.binaryfile.specs.Entries.{Contents}
 use Rattle.day_segments.proofs.SegmentCases.{all_of_it, one_more, took_within}
+use Rattle.engine_rules.specs.FaultOrigins.{fault_of_load}
 use Rattle.itch_show.specs.Parts.{Exceeds, GavePart}
 use Rattle.itch_show.proofs.ReadingParts.{along_first, along_segment, enough, had_failed, says_nothing, stopped, too_many, whole}
 use Rattle.itch_show.proofs.reading.read_up_to.Goals as goal
@@ -28,7 +29,7 @@ returns-in_err-next-clause-fault g c =
     let along = c.segments.invariant.so_far in
     let found = c.in_err-next.ensures {u = tt} in
     let same = err_from_is_err_and c.from_residual.result c.from_residual.ensures.1 in
-    rw same.1 (subst (λ fault. GavePart start next (Exceeds c.args.limits fault)) (sym same.2)
+    rw same.1 (subst (λ fault. GavePart start next (Exceeds c.args.limits (fault_of_load fault))) (sym same.2)
     (stopped start next c.args.limits _ c.in_err-next.field-0.0 (c.next.ensures.taken start along.contents along.read)
     (λ is. subst (GaveMore start next) c.segments.invariant.most (found.too_many_bytes (ap Err is) start along.contents along.read))
     (λ is. found.not_messages (ap Err is))))
@@ -88,7 +89,7 @@ returns-in_err-part-clause-fault g c =
     let next = g.R.Read.remaining c.next.new.feed.device in
     let along = c.segments.invariant.so_far in
     let same = err_from_is_err_and c.from_residual-in_err-part.result c.from_residual-in_err-part.ensures.1 in
-    rw same.1 (subst (λ fault. GavePart start next (Exceeds c.args.limits fault)) (sym same.2)
+    rw same.1 (subst (λ fault. GavePart start next (Exceeds c.args.limits (fault_of_load fault))) (sym same.2)
     (says_nothing start next c.args.limits _ (c.next.ensures.taken start along.contents along.read)))
 
 pub returns-in_err-part-clause-taken : goal.returns-in_err-part-clause-taken
@@ -114,7 +115,7 @@ returns-in_err-move_on-clause-fault g c =
     let next = g.R.Read.remaining c.next.new.feed.device in
     let along = c.segments.invariant.so_far in
     let same = err_from_is_err_and c.from_residual-in_err-move_on.result c.from_residual-in_err-move_on.ensures.1 in
-    rw same.1 (subst (λ fault. GavePart start next (Exceeds c.args.limits fault)) (sym same.2)
+    rw same.1 (subst (λ fault. GavePart start next (Exceeds c.args.limits (fault_of_load fault))) (sym same.2)
     (says_nothing start next c.args.limits _ (c.next.ensures.taken start along.contents along.read)))
 
 pub returns-in_err-move_on-clause-taken : goal.returns-in_err-move_on-clause-taken
