@@ -25,8 +25,8 @@ pub enum Question {
 
 impl Question {
     // Up to where a file is read for it.
-    fn place(self) -> Place {
-        match self {
+    fn place(&self) -> Place {
+        match *self {
             Question::Stock(_, place) => place,
             Question::Message(number) => Place::After(number),
         }
@@ -34,13 +34,13 @@ impl Question {
 
     // Writes the answer, of a file that both readers give.
     fn answer<R: Read, S: Read, W: Write>(
-        self,
+        &self,
         alloc: Global,
         feed: &mut Feed<R>,
         again: &mut Feed<S>,
         sink: &mut Sink<W>,
     ) -> Result<(), StockFault> {
-        match self {
+        match *self {
             Question::Stock(name, place) => show_run(alloc, feed, again, sink, name, place),
             Question::Message(number) => why_run(alloc, feed, again, sink, number),
         }
