@@ -1,5 +1,5 @@
 -- The messages of a segment, taken one by one up to a place.
-use Rattle.std.proofs.Common.{◌≡◌, ℕ, ◌+◌, ◌≤◌, true, false, List, [], ◌∷◌, ◌++◌, length, take, refl, sym, ap, subst, ◌∙◌, arith, append-nil}
+use Rattle.std.proofs.Common.{◌≡◌, ℕ, ◌+◌, ◌≤◌, true, false, IsTrue, List, [], ◌∷◌, ◌++◌, length, take, refl, sym, ap, subst, ◌∙◌, arith, append-nil}
 use Rattle.std.proofs.lemmas.List.{append_assoc, length-append, take_at}
 use Rattle.itch_show.specs.Places.{ComesUpTo, TakesUpTo, is_before, is_reached, position_of}
 use Rattle.itch_show.specs.declared.place.Place.{Place}
@@ -87,8 +87,9 @@ module _ (place : Place) (Taken : List (List ℕ) → Type 0) (day segment rest 
             ap (λ (l : List (List ℕ)). position_of place ((day ++ l) ++ after)) (sym all)
             ∙ stops_after place (day ++ along.so_far) after along.up (ap (is_reached place) (sym at) ∙ on)
             ∙ omega (arith, first, at);
-        goes_on = λ _. (
+        goes_on = λ off. (
           omega (arith, along.counted, ap length all),
           subst (λ (l : List (List ℕ)). ComesUpTo place (day ++ l)) all along.up,
+          λ on. off (subst (λ (n : ℕ). IsTrue (is_reached place (n + messages))) (sym first) on),
         );
       }

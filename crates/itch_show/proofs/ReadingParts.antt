@@ -1,5 +1,5 @@
 -- A file that is read up to a place, along its segments.
-use Rattle.std.proofs.Common.{◌≡◌, ℕ, ◌+◌, ◌<◌, ◌≤◌, Bool, List, [], ◌++◌, length, take, refl, sym, ap, subst, ◌∙◌, arith, append-nil}
+use Rattle.std.proofs.Common.{◌≡◌, ℕ, ◌+◌, ◌-◌, ◌<◌, ◌≤◌, Bool, List, [], ◌++◌, length, take, inl, inr, refl, sym, ap, subst, ◌∙◌, arith, append-nil}
 use Rattle.std.proofs.lemmas.List.{append_assoc, length-append, length-take-le, take-append-le, take_all}
 use Rattle.std.proofs.Math.Seq.{take-append-add}
 use Rattle.std.proofs.KnownBytes.{Consumes-nil}
@@ -12,10 +12,11 @@ use Rattle.binaryfile.specs.declared.load.LoadFault.{LoadFault}
 use Rattle.binaryfile.specs.declared.load.LoadFault.TheVariants.{Memory, Read, TooManyBytes, TooManyMessages}
 use Rattle.binaryfile.proofs.Splitting.{splits_contents}
 use Rattle.day_segments.specs.Reading.{HasRead, IsWholeFile, Reading, followed_by, nothing_read}
+use Rattle.day_segments.specs.Segments.{IsSegment}
 use Rattle.day_segments.proofs.Following.{every_file_goes_on}
 use Rattle.itch_table.specs.Projection.{payload_at}
 use Rattle.engine_rules.specs.FaultOrigins.{fault_of_load}
-use Rattle.itch_show.specs.Parts.{Exceeds, GavePart, HasReadUpTo}
+use Rattle.itch_show.specs.Parts.{Exceeds, GavePart, HasReadUpTo, StopsAt}
 use Rattle.itch_show.specs.Places.{ComesUpTo, TakesUpTo, is_reached, up_to}
 use Rattle.itch_show.specs.declared.place.Place.{Place}
 use Rattle.itch_show.proofs.PlacesOfDays.{comes_first, stops_after, up_to_all}
@@ -34,7 +35,7 @@ pub record IsReadAlong (start now : Option (List ℕ)) (reading : Reading) (limi
   pub comes_up : ComesUpTo place day
   pub within : length day ≤ length contents.payloads
   pub closed : IsTrue reached → (more : List (List ℕ)) → up_to place (contents.payloads ++ more) ≡ day
-  pub goes_on : ¬ IsTrue reached → (contents.payloads ≡ day) × ComesUpTo place day
+  pub goes_on : ¬ IsTrue reached → (contents.payloads ≡ day) × ComesUpTo place day × ¬ IsTrue (is_reached place (length day))
 
 module _ (start now : Option (List ℕ)) (reading : Reading) (limits : Limits) (place : Place) (reached : Bool)
     (number : ℕ) (payload : List ℕ) (Taken : List (List ℕ) → Type 0)
@@ -82,6 +83,24 @@ module _ (start now : Option (List ℕ)) (reading : Reading) (limits : Limits) (
         holds = along.taken;
       }
 
+  -- what the next segment takes of the reader
+  pub needs_last : ¬ IsTrue reached → (next : Option (List ℕ)) (segment : Contents) → IsSegment now next reading.carried reading.size (reading.most - reading.given) segment
+      → (size : ℕ) → reading.size ≡ size → StopsAt place size start next
+  needs_last off next segment is_segment size same =
+      let all = along.goes_on off in
+      inr (inr (record {
+        between = now;
+        first = along.read.read.bytes;
+        gave_first = along.read.read.gave;
+        last = is_segment.bytes;
+        gave_last = is_segment.gave;
+        fits = omega (arith, is_segment.fits, same);
+        contents = along.contents;
+        split = along.read.read.split;
+        comes_up = subst (ComesUpTo place) (sym all.0) all.1;
+        unreached = λ on. all.2 (subst (λ (day : List (List ℕ)). IsTrue (is_reached place (length day))) all.0 on);
+      }))
+
   -- a segment more, of which so many messages were taken
   pub along_segment : ¬ IsTrue reached → (next : Option (List ℕ)) (segment : Contents) (reading' : Reading) (messages : ℕ) (reached' : Bool)
       (number' : ℕ) (payload' : List ℕ) (Then : List (List ℕ) → Type 0)
@@ -116,7 +135,7 @@ module _ (start now : Option (List ℕ)) (reading : Reading) (limits : Limits) (
             let rest = takes.goes_on off' in
             let whole : take messages segment.payloads ≡ segment.payloads = take_all messages segment.payloads (omega (arith, rest.0)) in
             let same : along.day ++ segment.payloads ≡ day = ap (λ (l : List (List ℕ)). along.day ++ l) (sym whole) in
-            (payloads ∙ same, subst (ComesUpTo place) same rest.1);
+            (payloads ∙ same, subst (ComesUpTo place) same rest.1, λ on. rest.2 (subst (λ (n : ℕ). IsTrue (is_reached place n)) long on));
       }
 
 -- before the first segment
@@ -134,7 +153,7 @@ along_first start reading limits place reached payload Taken read first empty no
   comes_up = comes_first place;
   within = omega arith;
   closed = λ on more. ap (λ (n : ℕ). take n more) (stops_after place [] more (comes_first place) (sym first ∙ on));
-  goes_on = λ off. (refl, comes_first place);
+  goes_on = λ off. (refl, comes_first place, λ on. off (first ∙ on));
 }
 
 -- a device that had failed gives nothing

@@ -1,6 +1,6 @@
 -- What an engine reads, writes and returns that answers a question about a day file that two readers give, where a part of the
 -- file may suffice. All is of this project.
-use Rattle.std.specs.Prelude.{◌≡◌, ◌≢◌, ◌⊎◌, ◌+◌, ◌-◌, ◌^◌, ◌<◌, ℕ, List, length, take, Option, Result, Ok, Err, IsErr, IsErrOf}
+use Rattle.std.specs.Prelude.{◌≡◌, ◌≢◌, ◌⊎◌, ◌+◌, ◌-◌, ◌^◌, ◌<◌, ℕ, List, length, take, Option, Result, Ok, Err, IsErr, IsErrOf, IsOk}
 use Rattle.std.specs.Io.KnownBytes.{Appends}
 use Rattle.std.specs.declared.vec.Vec.{Vec}
 use Rattle.binaryfile.specs.Devices.{Device, GaveUpTo, HasFailed}
@@ -10,6 +10,7 @@ use Rattle.engine_rules.specs.declared.fault.ProgFault.TheVariants.{Read, Write}
 use Rattle.itch_readings.specs.declared.fault.StockFault.{StockFault}
 use Rattle.itch_readings.specs.declared.fault.StockFault.TheVariants.{Engine}
 use Rattle.itch_readings.specs.declared.naming.StockName.{StockName}
+use Rattle.itch_show.specs.Parts.{StopsAt}
 use Rattle.itch_show.specs.Shown.{GaveParts, PrintsShown, Refuses}
 use Rattle.itch_show.specs.declared.place.Place.{Place}
 
@@ -17,8 +18,10 @@ use Rattle.itch_show.specs.declared.place.Place.{Place}
 abbrev pub file_limits : Limits
 file_limits = record { bytes = 2 ^ 40; messages = 2 ^ 32 - 1 }
 
--- A question: which text answers it of a file, and by which fault none does, where the file has these bytes and contents.
+-- A question: up to where a file is read for it, which text answers it of a file, and by which fault none does, where the file
+-- has these bytes and contents.
 pub record Question : Type 1 where
+  pub place : Place
   pub Answers : List ℕ → Contents → Type 0
   pub Refuses : List ℕ → Contents → StockFault → Type 0
 
@@ -81,6 +84,8 @@ pub record RunsTwice {R S W : Type 0} (question : Question)
   -- Whatever the result, no more is taken from each reader than the limit and one byte.
   pub takes_at_most : GaveUpTo (left feed.device) (left fed.device) (2 ^ 40 + 1)
   pub again_at_most : GaveUpTo (again second.device) (again seconded.device) (2 ^ 40 + 1)
+  -- For an answer the first reader is asked for no more than a segment of 1 MiB after messages that don't come as far.
+  pub needed : IsOk result → StopsAt question.place (2 ^ 20) (left feed.device) (left fed.device)
   -- The fault is Read where the first feed has failed or the second one does, and only there, and Write only where the sink
   -- has failed. After another fault nothing was sent.
   pub read : IsErrOf result (Engine Read) → (HasFailed fed ⊎ HasFailed seconded)
@@ -96,6 +101,7 @@ pub record RunsTwice {R S W : Type 0} (question : Question)
 -- what a stock is at a place of a file
 abbrev pub shown_at : StockName → Place → Limits → Question
 shown_at name place limits = record {
+  place = place;
   Answers = λ text file. PrintsShown name place text file.payloads;
   Refuses = Refuses name place limits;
 }

@@ -1,5 +1,5 @@
 -- What was read of a file of which a part may suffice. All is of this project.
-use Rattle.std.specs.Prelude.{◌≡◌, ◌<◌, ◌≤◌, ◌++◌, ℕ, List, [], length, Option}
+use Rattle.std.specs.Prelude.{◌≡◌, ◌⊎◌, ◌<◌, ◌≤◌, ◌++◌, ℕ, IsTrue, List, [], length, Option}
 use Rattle.std.specs.Io.KnownBytes.{Consumes, IsAtEnd}
 use Rattle.byte_strings.specs.Bytes.{AreBytes}
 use Rattle.binaryfile.specs.Entries.{Contents, Splits}
@@ -7,7 +7,7 @@ use Rattle.binaryfile.specs.declared.day.Limits.{Limits}
 use Rattle.engine_rules.specs.declared.fault.ProgFault.{ProgFault}
 use Rattle.engine_rules.specs.declared.fault.ProgFault.TheVariants.{Memory, Read, TooManyBytes, TooManyMessages}
 use Rattle.itch_table.specs.Projection.{payload_at}
-use Rattle.itch_show.specs.Places.{ComesUpTo, up_to}
+use Rattle.itch_show.specs.Places.{ComesUpTo, is_reached, up_to}
 use Rattle.itch_show.specs.declared.place.Place.{Place}
 
 -- a file begins with these bytes, and is no more than these where the reader has ended after them
@@ -34,6 +34,23 @@ pub record HasReadUpTo (old new : Option (List ℕ)) (limits : Limits) (place : 
   pub number_is : number ≡ length day
   pub payload_is : payload ≡ payload_at day (length day)
   pub holds : Holds day
+
+-- the reader gave these last bytes, no more than so many, after others whose messages don't come as far as a place
+pub record NeedsLast (place : Place) (old new : Option (List ℕ)) (size : ℕ) : Type 0 where
+  pub between : Option (List ℕ)
+  pub first : List ℕ
+  pub gave_first : Consumes old between first
+  pub last : List ℕ
+  pub gave_last : Consumes between new last
+  pub fits : length last ≤ size
+  pub contents : Contents
+  pub split : Splits first contents
+  pub comes_up : ComesUpTo place contents.payloads
+  pub unreached : ¬ IsTrue (is_reached place (length contents.payloads))
+
+-- the reader gave nothing, or all that it had, or no more than a segment after messages that don't come as far as a place
+abbrev pub StopsAt : Place → ℕ → Option (List ℕ) → Option (List ℕ) → Type 0
+StopsAt place segment old new = (new ≡ old) ⊎ (IsAtEnd new ⊎ NeedsLast place old new segment)
 
 -- why a file isn't read up to a place: it has more bytes or messages than the limits say; out of memory and a failed device
 -- say nothing of it

@@ -62,3 +62,4 @@ pub record TakesUpTo (place : Place) (day segment : List (List ℕ)) (messages :
   pub closed : IsTrue reached → (more : List (List ℕ))
       → position_of place ((day ++ segment) ++ more) ≡ length day + messages
   pub goes_on : ¬ IsTrue reached → (messages ≡ length segment) × ComesUpTo place (day ++ segment)
+      × ¬ IsTrue (is_reached place (length day + messages))

@@ -1,9 +1,10 @@
 //! The engine that shows a stock at a place of a day file.
-ghost use Rattle.std.specs.Prelude.{◌≡◌, ◌≢◌, ◌⊎◌, Err, ◌+◌, ◌<◌, ◌≤◌, ◌^◌, ◌++◌, ◌↔◌, IfOk, IsErrOf, IsTrue, List, codes, length, ℕ};
+ghost use Rattle.std.specs.Prelude.{◌≡◌, ◌≢◌, ◌⊎◌, Err, ◌+◌, ◌<◌, ◌≤◌, ◌^◌, ◌++◌, ◌↔◌, IfOk, IsErrOf, IsOk, IsTrue, List, codes, length, ℕ};
 ghost use Rattle.binaryfile.specs.Devices.{GaveUpTo, HasFailed};
 ghost use Rattle.engine_rules.specs.declared.fault.ProgFault.TheVariants.{Read as ReadFailed, Write as WriteFailed};
 ghost use Rattle.stock_text.specs.Sessions.{position_words, stock_text};
 ghost use Rattle.itch_show.specs.Engine.{Returns, RunsTwice, file_limits, shown_at};
+ghost use Rattle.itch_show.specs.Parts.{StopsAt};
 ghost use Rattle.itch_show.specs.Places.{IsPast, up_to};
 ghost use Rattle.itch_show.specs.Shown.{GaveParts};
 
@@ -59,6 +60,8 @@ pub fn show_of_file<A: Allocator + Copy, R: Read, S: Read>(
     ensures answer { GaveParts (R.remaining feed.old.device) (R.remaining feed.new.device)
         (S.remaining again.old.device) (S.remaining again.new.device)
         (λ input file. Returns (shown_at name place limits) input file result) }
+    ensures needed { IsOk result
+        → StopsAt place segment (R.remaining feed.old.device) (R.remaining feed.new.device) }
     ensures read { IsErrOf result (StockFault.Engine ReadFailed)
         → (HasFailed feed.new ⊎ HasFailed again.new) }
     ensures not_write { result ≢ Err (StockFault.Engine WriteFailed) }

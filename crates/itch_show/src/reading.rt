@@ -1,9 +1,9 @@
 //! A day file that is read up to a place.
-ghost use Rattle.std.specs.Prelude.{◌≡◌, ◌+◌, ◌<◌, ◌≤◌, ◌^◌, ◌++◌, ◌∷◌, ◌↔◌, IfErr, IfOk, IsErrOf, List, OnOk, [], length, take, ℕ};
+ghost use Rattle.std.specs.Prelude.{◌≡◌, ◌+◌, ◌<◌, ◌≤◌, ◌^◌, ◌++◌, ◌∷◌, ◌↔◌, IfErr, IfOk, IsErrOf, IsOk, List, OnOk, [], length, take, ℕ};
 ghost use Rattle.binaryfile.specs.Devices.{GaveUpTo, HasFailed};
 ghost use Rattle.itch_table.specs.Projection.{payload_at};
 ghost use Rattle.engine_rules.specs.FaultOrigins.{fault_of_load};
-ghost use Rattle.itch_show.specs.Parts.{Exceeds, GavePart, HasReadUpTo};
+ghost use Rattle.itch_show.specs.Parts.{Exceeds, GavePart, HasReadUpTo, StopsAt};
 ghost use Rattle.itch_show.specs.Places.{ComesUpTo, TakesUpTo};
 
 use crate::place::Place;
@@ -116,6 +116,8 @@ pub fn read_up_to<A: Allocator + Copy, R: Read, T: TakesMessages<A>>(
     ensures read { IfOk result (λ last.
         HasReadUpTo (R.remaining feed.old.device) (R.remaining feed.new.device)
         limits place.now last.number last.payload.items (T.has_taken taker.old taker.new)) }
+    ensures needed { IsOk result
+        → StopsAt place.now segment (R.remaining feed.old.device) (R.remaining feed.new.device) }
     ensures fault { IfErr result (λ fault.
         GavePart (R.remaining feed.old.device) (R.remaining feed.new.device)
         (Exceeds limits (fault_of_load fault))) }

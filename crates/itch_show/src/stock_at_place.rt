@@ -1,12 +1,12 @@
 //! A stock at a place of a day file, and the outcome of the last message before the place.
-ghost use Rattle.std.specs.Prelude.{◌≡◌, ◌+◌, ◌<◌, ◌≤◌, ◌^◌, ◌++◌, ◌↔◌, ◌⊎◌, IfErr, IfOk, IsErrOf, List, MatchOption, length, ℕ};
+ghost use Rattle.std.specs.Prelude.{◌≡◌, ◌+◌, ◌<◌, ◌≤◌, ◌^◌, ◌++◌, ◌↔◌, ◌⊎◌, IfErr, IfOk, IsErrOf, IsOk, List, MatchOption, length, ℕ};
 ghost use Rattle.binaryfile.specs.Devices.{GaveUpTo, HasFailed};
 ghost use Rattle.itch_readings.specs.Noting.{HasTaken};
 ghost use Rattle.itch_table.specs.Parts.{part};
 ghost use Rattle.itch_table.specs.Projection.{payload_at};
 ghost use Rattle.itch_table.specs.declared.outcome.Part.{Part};
 ghost use Rattle.engine_rules.specs.FaultOrigins.{fault_of_load};
-ghost use Rattle.itch_show.specs.Parts.{Exceeds, GavePart, HasReadUpTo};
+ghost use Rattle.itch_show.specs.Parts.{Exceeds, GavePart, HasReadUpTo, StopsAt};
 ghost use Rattle.itch_show.specs.Shown.{HasOutcome, IsKnownAt, IsLastOf, IsShownAfter, StandsForNone, StartsWith, last_noted};
 
 use crate::before::stock_before;
@@ -65,6 +65,8 @@ pub(crate) fn stock_at_place<A: Allocator + Copy, R: Read>(
         HasReadUpTo (R.remaining feed.old.device) (R.remaining feed.new.device)
         limits place.now found.last.number found.last.payload.items (λ day.
         MatchOption found.stock (StandsForNone day name) (λ stock. IsShownAfter day name stock.0 stock.1))) }
+    ensures needed { IsOk result
+        → StopsAt place.now segment (R.remaining feed.old.device) (R.remaining feed.new.device) }
     ensures fault { IfErr result (λ fault.
         GavePart (R.remaining feed.old.device) (R.remaining feed.new.device)
         (Exceeds limits (fault_of_load fault))) }

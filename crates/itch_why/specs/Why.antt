@@ -17,6 +17,7 @@ use Rattle.itch_readings.specs.declared.fault.StockFault.{StockFault}
 use Rattle.itch_readings.specs.declared.fault.StockFault.TheVariants.{NoStock, PastEnd, Changed, Engine as OfEngine}
 use Rattle.itch_show.specs.Engine.{Question}
 use Rattle.itch_show.specs.Parts.{Exceeds}
+use Rattle.itch_show.specs.declared.place.Place.TheVariants.{After}
 use Rattle.itch_table.specs.declared.order.Order.{Order}
 use Rattle.itch_table.specs.declared.outcome.Outcome.{Outcome}
 use Rattle.itch_table.specs.declared.outcome.Outcome.TheVariants.{Applied}
@@ -169,6 +170,7 @@ RefusesWhy n limits input file (OfEngine fault) = Exceeds limits fault input fil
 -- why message n of a file came to be what it is
 abbrev pub why : ℕ → Limits → Question
 why n limits = record {
+  place = After n;
   Answers = λ text file. PrintsWhy n text file.payloads;
   Refuses = RefusesWhy n limits;
 }

@@ -1,10 +1,11 @@
 //! The engine that says why a message came to be what it is.
-ghost use Rattle.std.specs.Prelude.{◌≡◌, ◌≢◌, ◌⊎◌, ◌+◌, ◌<◌, ◌≤◌, ◌^◌, ◌↔◌, Err, IfErr, IfOk, IsErrOf};
+ghost use Rattle.std.specs.Prelude.{◌≡◌, ◌≢◌, ◌⊎◌, ◌+◌, ◌<◌, ◌≤◌, ◌^◌, ◌↔◌, Err, IfErr, IfOk, IsErrOf, IsOk};
 ghost use Rattle.binaryfile.specs.Devices.{GaveUpTo, HasFailed};
 ghost use Rattle.engine_rules.specs.declared.fault.ProgFault.TheVariants.{Read as ReadFailed, Write as WriteFailed};
 ghost use Rattle.itch_show.specs.Engine.{Returns, RunsTwice, file_limits};
 ghost use Rattle.engine_rules.specs.FaultOrigins.{fault_of_load};
-ghost use Rattle.itch_show.specs.Parts.{Exceeds, GavePart};
+ghost use Rattle.itch_show.specs.Parts.{Exceeds, GavePart, StopsAt};
+ghost use Rattle.itch_show.specs.declared.place.Place.TheVariants.{After};
 ghost use Rattle.itch_show.specs.Shown.{GaveParts};
 ghost use Rattle.itch_table.specs.Parts.{part};
 ghost use Rattle.itch_table.specs.declared.outcome.Part.{Part};
@@ -92,6 +93,8 @@ pub fn why_of_file<A: Allocator + Copy, R: Read, S: Read>(
     ensures answer { GaveParts (R.remaining feed.old.device) (R.remaining feed.new.device)
         (S.remaining again.old.device) (S.remaining again.new.device)
         (λ input file. Returns (why number limits) input file result) }
+    ensures needed { IsOk result
+        → StopsAt (After number) segment (R.remaining feed.old.device) (R.remaining feed.new.device) }
     ensures read { IsErrOf result (StockFault.Engine ReadFailed)
         → (HasFailed feed.new ⊎ HasFailed again.new) }
     ensures not_write { result ≢ Err (StockFault.Engine WriteFailed) }

@@ -1,14 +1,15 @@
-use Rattle.std.proofs.Common.{◌∙◌, Err, length, arith, ap, sym, subst}
+use Rattle.std.proofs.Common.{◌∙◌, ◌-◌, Err, IfSome, inl, inr, length, arith, ap, refl, sym, subst}
 use Rattle.std.proofs.lemmas.Bool.{false≢true, false_from_ne_true}
 use Rattle.std.proofs.lemmas.List.{length-append}
 use Rattle.std.proofs.lemmas.Result.{err_from_is_err_and}
 use Rattle.std.specs.Prelude.{IsTrue}
 use Rattle.binaryfile.specs.Devices.{GaveMore}
 use Rattle.binaryfile.specs.Entries.{Contents}
+use Rattle.day_segments.specs.Segments.{IsSegment}
 use Rattle.day_segments.proofs.SegmentCases.{all_of_it, one_more, took_within}
 use Rattle.engine_rules.specs.FaultOrigins.{fault_of_load}
 use Rattle.itch_show.specs.Parts.{Exceeds, GavePart}
-use Rattle.itch_show.proofs.ReadingParts.{along_first, along_segment, enough, had_failed, says_nothing, stopped, too_many, whole}
+use Rattle.itch_show.proofs.ReadingParts.{along_first, along_segment, enough, had_failed, needs_last, says_nothing, stopped, too_many, whole}
 use Rattle.itch_show.proofs.reading.read_up_to.Goals as goal
 
 pub returns-then-failed-clause-fault : goal.returns-then-failed-clause-fault
@@ -19,6 +20,8 @@ segments-init g c = record {
   so_far = along_first (g.R.Read.remaining c.args.feed.now.device) c.new-reader.result c.args.limits c.args.place.now _ _ _
       (c.new-reader.ensures.read (g.R.Read.remaining c.args.feed.now.device)) c.is_reached-reached.ensures c.new.ensures.items c.requires.none;
   most = c.new-reader.ensures.most;
+  size = c.new-reader.ensures.size;
+  needed = inl refl;
   works = sym c.failed.ensures ∙ c.if-failed.false;
 }
 
@@ -139,9 +142,23 @@ segments-preserved g c =
       so_far = along_segment start _ c.segments.reader c.args.limits c.args.place.now _ _ _ _ along off next segment c.next.new.self _ _ _ _ _ read
           (omega (arith, c.if-messages-from.false, c.messages.ensures, c.from.ensures)) takes moved.number (moved.payload along.day along.payload_is);
       most = c.next.ensures.most ∙ c.segments.invariant.most;
+      size = c.next.ensures.size ∙ c.segments.invariant.size;
+      needed = needs_last start _ c.segments.reader c.args.limits c.args.place.now _ _ _ _ along off next segment
+          (subst (λ found. IfSome found (IsSegment (g.R.Read.remaining c.segments.feed.device) next c.segments.reader.carried c.segments.reader.size (c.segments.reader.most - c.segments.reader.given))) c.in-Some.is ((c.in_ok-next.ensures {u = tt}).segment))
+          c.args.segment c.segments.invariant.size;
       works = false_from_ne_true _ (λ failed. let same = sym (c.in_ok-next.was {u = tt}) ∙ c.next.ensures.failed.1 failed in let never : ⊥ = cc in never);
     }
 
 pub returns-clause-read : goal.returns-clause-read
 returns-clause-read g c =
     enough (g.R.Read.remaining c.args.feed.now.device) _ c.segments.reader c.args.limits c.args.place.now _ _ _ _ c.segments.invariant.so_far c.segments-test.false
+
+pub returns-in_default-clause-needed : goal.returns-in_default-clause-needed
+returns-in_default-clause-needed g c =
+    let start = g.R.Read.remaining c.args.feed.now.device in
+    let next = g.R.Read.remaining c.next.new.feed.device in
+    let along = c.segments.invariant.so_far in
+    λ _. inr (inl ((all_of_it start next c.segments.reader.most along.contents c.next.new.self _ c.in_default.is ((c.in_ok-next.ensures {u = tt}).read start along.contents along.read)).gave.ended))
+
+pub returns-clause-needed : goal.returns-clause-needed
+returns-clause-needed g c = λ _. c.segments.invariant.needed
