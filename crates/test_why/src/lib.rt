@@ -1,0 +1,14 @@
+//! Tests of why messages of a day came to be what they are: a worked day with its texts, in segments of any size, within
+//! limits, and where a device fails or memory is refused.
+#![tactic(auto)]
+
+#[cfg(test)]
+mod answers;
+#[cfg(test)]
+mod day;
+#[cfg(test)]
+mod failing;
+#[cfg(test)]
+mod limits;
+#[cfg(test)]
+mod texts;
