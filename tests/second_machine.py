@@ -359,14 +359,14 @@ def reason(day, number, payload, m):
     if number in (3, 4):
         return "stock %s, and locate code %d is %s" % (quoted(m["stock"]), m["locate"], quoted(day.directory[m["locate"]]))
     if number in (5, 12):
-        words = "order %d lives" if number == 5 else "an order %d was here before"
+        words = "order %d lives" if number == 5 else "an earlier order had reference %d"
         return words % m.get("new_reference", m["reference"])
     if number == 6:
         return "no order %d lives" % m["reference"]
     if number == 7:
         return 'side %s, which is neither "B" nor "S"' % quoted(m["side"])
     if number == 8:
-        return "order %d of no shares" % m.get("new_reference", m["reference"])
+        return "order %d would have no shares" % m.get("new_reference", m["reference"])
     if number == 9:
         return "%d shares %s of order %d, which has %d" % (
             m["shares"], "cancelled" if m["type"] == "X" else "executed", m["reference"],
@@ -377,12 +377,14 @@ def reason(day, number, payload, m):
 
 
 def references_in(m):
-    """The references by which a message names orders, each once."""
+    """The references by which a message names orders, each once. That of a trade is none."""
+    if m["type"] == "P":
+        return []
     return list(dict.fromkeys(m[name] for name in ("reference", "new_reference") if name in m))
 
 
 def why(payloads, number):
-    """Why a message came to be what it is."""
+    """What became of a message, and why."""
     payload = payloads[number - 1]
     day, m = replayed(payloads[:number - 1]), parse(payload)
     outcome = day.outcome(m)

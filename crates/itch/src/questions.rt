@@ -19,7 +19,7 @@ use std::rt::Runtime;
 pub enum Question {
     /// What a stock is at a place.
     Stock(StockName, Place),
-    /// Why a message came to be what it is, by its number.
+    /// What became of a message, and why, by its number.
     Message(u32),
 }
 
@@ -118,7 +118,7 @@ pub fn answer<'a, R: Runtime + AllocGlobal>(
     }
 }
 
-/// Writes why a message of a file came to be what it is on standard output.
+/// Writes what became of a message of a file, and why, on standard output.
 pub fn why<'a, R: Runtime + AllocGlobal>(
     rt: &R,
     terminals: Terminals,

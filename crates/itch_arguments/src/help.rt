@@ -62,12 +62,12 @@ Prices are in 1/10,000 of a currency unit. A time has the messages of that very 
 /// The lines of a message.
 pub(crate) const WHY: &str = "Lines:
   at        the message's number, and what became of it; after it the message's text
-  F1 .. F12 where it was refused: the fault's number, its name, and why
-  order     each order that it names as it was before: reference, side (B or S), shares, price,
+  F1 .. F12 where it was refused: the number and the name of the first check that fails, and why
+  order     each order that it names, as it was before: reference, side (B or S), shares, price,
             participant
-  no order  where none lived under a reference; `spent` where one had lived there before
-  456 add   the applied messages before it that name one of these orders: number and text; where
-            it breaks a trade, those that have its match number
+  no order  where no order has had a reference that it names; `spent` where one had it before
+  K LINE    each earlier message of the stock that was applied and names one of these orders:
+            its number and its text; where message N breaks a trade, those of its match number
 
 Prices are in 1/10,000 of a currency unit, times in nanoseconds since midnight.";
 

@@ -64,7 +64,7 @@ pub enum Task<'a> {
         after: Option<u64>,
         at: Option<&'a str>,
     },
-    /// To write why a message of a file came to be what it is.
+    /// To write what became of a message of a file, and why.
     Why {
         file: &'a str,
         number: u32,
@@ -222,7 +222,7 @@ fn show_command<'a>(alloc: Global) -> Result<Command<'a>, AllocError> {
         .args(args)
 }
 
-// The arguments that print why a message came to be what it is.
+// The arguments that print what became of a message, and why.
 fn why_command<'a>(alloc: Global) -> Result<Command<'a>, AllocError> {
     let number = path(alloc, "N", "The number of the message, counted from 1").value_parser(
         value_parser!(u32).range(1..=4_294_967_295),
@@ -230,7 +230,7 @@ fn why_command<'a>(alloc: Global) -> Result<Command<'a>, AllocError> {
     let args = vec![in alloc; path(alloc, "FILE", DAY_HELP), number]?;
     Command::new(alloc, "why")
         .about(
-            "Prints what became of a message, why it was refused, and the messages that led there",
+            "Prints what became of a message, why it was refused, and its orders before it",
         )
         .after_help(help::WHY)
         .args(args)
@@ -404,7 +404,7 @@ fn showing<'a>(matches: &ArgMatches<'a>) -> Option<Task<'a>>
     })
 }
 
-// To write why a message came to be what it is, where the arguments ask for it.
+// To write what became of a message, and why, where the arguments ask for it.
 fn explaining<'a>(matches: &ArgMatches<'a>) -> Option<Task<'a>>
     ensures { IfSome result (λ task. (command_of task ≡ Some (codes "why"))
         × (subcommand_name_of matches.now ≡ Some (codes "why"))) }

@@ -87,6 +87,15 @@ after_taken day n within =
     sym (after_more (take n day) (drop n day) (length (take n day)) (omega arith))
     ∙ (λ i. after (take-append-drop n day i) (long i))
 
+-- a file of too few messages hasn't the message
+pub none_before : {N : Type 0} (AreOf : Noting N) (first : N) (start now : Option (List ℕ)) (locate n : ℕ) (payload : List ℕ)
+    → GavePart start now (IsBefore AreOf first locate n None) → GavePart start now (HasOutcome n payload None)
+none_before AreOf first start now locate n payload part = record {
+  given = part.given;
+  gave = part.gave;
+  each = λ input file are split begins within. omega (arith, within, part.each input file are split begins);
+}
+
 -- the machine of a message's stock tells its outcome
 pub step_before : {N : Type 0} (AreOf : Noting N) (first : N) (start now : Option (List ℕ)) (locate n : ℕ) (payload : List ℕ) (stock : StockMachine) (notes : N)
     (found : Outcome) (next : World) → StepsAreOwn → 0 < n → part payload ≡ OfStock locate → GavePart start now (IsBefore AreOf first locate n (Some (stock, notes)))
@@ -96,7 +105,7 @@ step_before AreOf first start now locate n payload stock notes found next own so
   given = part.given;
   gave = part.gave;
   each = λ input file are split begins within there.
-      let taken = part.each input file are split begins within in
+      let taken = (part.each input file are split begins).1 in
       let rows : stock.world ≡ only locate (after file.payloads (n - 1)) =
       taken.world ∙ ap (only locate) (after_taken file.payloads (n - 1) (omega (arith, within))) in
       ap (λ (r : Outcome × World). r.0) (stepped ∙ ap (λ (w : World). step w payload) rows ∙ own (after file.payloads (n - 1)) payload locate at)

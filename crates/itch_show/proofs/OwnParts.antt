@@ -97,17 +97,20 @@ module _ {N : Type 0} (AreOf : Noting N) (first : N) (start now : Option (List �
   fewer few = record {
     given = read.part.given;
     gave = read.part.gave;
-    each = λ input file are split begins within.
-        omega (arith, few, read.number_is, within, some, ap length (read.part.each input file are split begins), length-take (n - 1) file.payloads);
+    each = λ input file are split begins.
+        omega (arith, few, read.number_is, ap length (read.part.each input file are split begins), length-take (n - 1) file.payloads);
   }
 
-  pub before : (found : StockMachine × N) → HasTakenOwn AreOf first read.day locate found.0 found.1
+  pub before : n - 1 ≤ number → (found : StockMachine × N) → HasTakenOwn AreOf first read.day locate found.0 found.1
       → GavePart start now (IsBefore AreOf first locate n (Some found))
-  before found taken = record {
+  before enough found taken = record {
     given = read.part.given;
     gave = read.part.gave;
-    each = λ input file are split begins within.
-        subst (λ (day : List (List ℕ)). HasTakenOwn AreOf first day locate found.0 found.1) (sym (read.part.each input file are split begins)) taken;
+    each = λ input file are split begins.
+        let cut = read.part.each input file are split begins in (
+          omega (arith, enough, read.number_is, ap length cut, length-take (n - 1) file.payloads),
+          subst (λ (day : List (List ℕ)). HasTakenOwn AreOf first day locate found.0 found.1) (sym cut) taken,
+        );
   }
 
   pub few_steps : n < 2 ^ 32 → (found : StockMachine × N) → HasTakenOwn AreOf first read.day locate found.0 found.1 → found.0.steps < 2 ^ 32 - 1

@@ -1,5 +1,5 @@
 -- A stock before one of a day's messages. All is of this project.
-use Rattle.std.specs.Prelude.{◌≡◌, ◌-◌, ◌≤◌, ℕ, List, length, take, Option, Some, None}
+use Rattle.std.specs.Prelude.{◌≡◌, ◌-◌, ◌<◌, ◌≤◌, ℕ, List, length, take, Option, Some, None}
 use Rattle.binaryfile.specs.Entries.{Contents}
 use Rattle.itch_readings.specs.Noting.{Noting}
 use Rattle.itch_readings.specs.OwnMessages.{own_from}
@@ -15,9 +15,9 @@ pub record HasTakenOwn {N : Type 0} (AreOf : Noting N) (first : N) (day : List (
   pub steps : stock.steps ≤ length day
   pub noted : AreOf first notes (own_from day locate 1)
 
--- of a file that has message n: the machine has taken the stock's messages before it; none where a file hasn't that message
+-- the machine has taken the stock's messages before message n of a file; none where the file has too few messages
 abbrev pub IsBefore : {N : Type 0} → Noting N → N → ℕ → ℕ → Option (StockMachine × N) → List ℕ → Contents
     → Type 0
-IsBefore AreOf first locate n None input file = n ≤ length file.payloads → ⊥
-IsBefore AreOf first locate n (Some found) input file = n ≤ length file.payloads
-    → HasTakenOwn AreOf first (take (n - 1) file.payloads) locate found.0 found.1
+IsBefore AreOf first locate n None input file = length file.payloads < n - 1
+IsBefore AreOf first locate n (Some found) input file = (n - 1 ≤ length file.payloads)
+    × HasTakenOwn AreOf first (take (n - 1) file.payloads) locate found.0 found.1

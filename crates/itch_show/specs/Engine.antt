@@ -41,7 +41,8 @@ pub record Traffic : Type 0 where
 
 -- What came in and went out, where `left` and `again` read off the readers the bytes that they have left, and `taken` off the
 -- writer those that it has taken.
-abbrev pub traffic_of : {R S W : Type 0} → (R → Option (List ℕ)) → (S → Option (List ℕ)) → (W → Option (List ℕ))
+abbrev pub traffic_of : {R S W : Type 0}
+    → (R → Option (List ℕ)) → (S → Option (List ℕ)) → (W → Option (List ℕ))
     → Device R → Device R → Device S → Device S → Device W → Device W → Traffic
 traffic_of left again taken feed fed second seconded sink sent = record {
   left = left feed.device;

@@ -8,7 +8,7 @@ use Rattle.itch_table.specs.Projection.{only}
 use Rattle.itch_table.specs.World.{World}
 use Rattle.itch_table.proofs.OneStock.{order-only, spent-only, status-only}
 use Rattle.refusal_text.specs.declared.before.Before.{Before}
-use Rattle.itch_why.specs.Why.{before_of, found_line, message_lines, once, order_before, orders_before, own_lines, shares_left, symbol_in}
+use Rattle.itch_why.specs.Why.{before_of, found_line, message_lines, once, order_before, orders_before, orders_in, own_lines, shares_left, symbol_in}
 
 module _ (w : World) (locate : ℕ) where
   first_order-only : (references : List ℕ) → first_order (only locate w) locate references ≡ first_order w locate references
@@ -31,4 +31,4 @@ module _ (w : World) (locate : ℕ) where
   pub own_lines-only : (earlier : List ℕ) (n : ℕ) (found : Outcome) (payload : List ℕ)
       → own_lines (only locate w) locate earlier n found payload ≡ own_lines w locate earlier n found payload
   own_lines-only earlier n found payload = λ i.
-      message_lines n found payload (before_of-only payload i) ++ orders-only (once (references_by (shape_of payload))) i ++ earlier
+      message_lines n found payload (before_of-only payload i) ++ orders-only (once (orders_in (shape_of payload))) i ++ earlier

@@ -32,14 +32,14 @@ use Rattle.itch_why.proofs.OwnLines.{own_lines-only}
 use Rattle.itch_why.specs.Why.{IsOwnText, PrintsWhy, RefusesWhy, earlier_lines, message_lines, nothing_before, own_lines, why_by, why_text}
 use Rattle.itch_why.specs.declared.earlier.EarlierLines.{EarlierLines}
 
--- the lines of the messages that led to one
-abbrev pub LedTo : {A : Type 0} → Noting (EarlierLines A)
-LedTo first now messages = (now.shape ≡ first.shape) × (now.text.items ≡ earlier_lines first.shape messages)
+-- the lines of the earlier messages
+abbrev pub EarlierOf : {A : Type 0} → Noting (EarlierLines A)
+EarlierOf first now messages = (now.shape ≡ first.shape) × (now.text.items ≡ earlier_lines first.shape messages)
 
 -- the text of a message of a stock, by the stock's machine before it
 pub own_text_is : {A : Type 0} (first earlier : EarlierLines A) (start now : Option (List ℕ)) (locate n : ℕ) (payload : List ℕ) (stock : StockMachine) (text : Vec ℕ A)
     → StepsAreOwn → 0 < n → part payload ≡ Locate locate → first.shape ≡ shape_of payload
-    → GavePart start now (IsBefore LedTo first locate n (Some (stock, earlier)))
+    → GavePart start now (IsBefore EarlierOf first locate n (Some (stock, earlier)))
     → text.items ≡ own_lines stock.world stock.locate earlier.text.items n (step stock.world payload).0 payload
     → GavePart start now (IsOwnText n payload (Some text))
 unfolding outcome
@@ -49,7 +49,7 @@ own_text_is first earlier start now locate n payload stock text own some at shap
   each = λ input file are split begins within there.
       let day = file.payloads in
       let w : World = after day (n - 1) in
-      let taken = gave.each input file are split begins within in
+      let taken = (gave.each input file are split begins).1 in
       let rows : stock.world ≡ only locate w = taken.world ∙ ap (only locate) (after_taken day (n - 1) (omega (arith, within))) in
       let found : (step stock.world payload).0 ≡ outcome day n =
       ap (λ (v : World). (step v payload).0) rows ∙ ap (λ (r : Outcome × World). r.0) (own w payload locate at) ∙ ap (λ (p : List ℕ). (step w p).0) there in
@@ -63,9 +63,9 @@ own_text_is first earlier start now locate n payload stock text own some at shap
 
 -- none where the file hasn't the message
 pub none_is : {A : Type 0} (first : EarlierLines A) (start now : Option (List ℕ)) (locate n : ℕ) (payload : List ℕ)
-    → GavePart start now (IsBefore LedTo first locate n None) → GavePart start now (IsOwnText {A = A} n payload None)
+    → GavePart start now (IsBefore EarlierOf first locate n None) → GavePart start now (IsOwnText {A = A} n payload None)
 none_is first start now locate n payload gave =
-    record { given = gave.given; gave = gave.gave; each = λ input file are split begins. gave.each input file are split begins }
+    record { given = gave.given; gave = gave.gave; each = λ input file are split begins within. omega (arith, within, gave.each input file are split begins) }
 
 module _ (n : ℕ) (limits : Limits) (old new again : Option (List ℕ)) where
   pub first_stopped : (fault : LoadFault) → GavePart old new (Exceeds limits (fault_of_load fault))

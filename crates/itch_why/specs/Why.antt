@@ -1,5 +1,5 @@
--- Why a message of a day came to be what it is: its outcome, what its stock had before it, and the messages that led there. The
--- lines are of this project; each ends with a line feed, and its numbers are decimal.
+-- What became of a message of a day, and why: what its stock had before it, and the earlier messages about its orders. The lines
+-- are of this project; each ends with a line feed, and its numbers are decimal.
 use Rattle.std.specs.Prelude.{◌≡◌, ◌<◌, ◌≤◌, ◌-◌, ◌^◌, ◌==◌, ℕ, Bool, true, false, not, if◌then◌else◌, List, [], ◌∷◌, ◌++◌, length, take, filter, Option, Some, None, codes, decimal}
 use Rattle.std.specs.List.{flat_map, list_any}
 use Rattle.std.specs.declared.vec.Vec.{Vec}
@@ -12,7 +12,7 @@ use Rattle.itch_layouts.specs.declared.message.Msg.TheVariants.{Execute, Execute
 use Rattle.itch_layouts.specs.declared.shape.Shape.{Shape}
 use Rattle.itch_layouts.specs.declared.shape.Shape.TheVariants.{Known}
 use Rattle.itch_print.specs.Disassembly.{ended, payload_line}
-use Rattle.itch_readings.specs.OwnMessages.{OwnMessage, first_order, own_from, references_by}
+use Rattle.itch_readings.specs.OwnMessages.{OwnMessage, order_named, own_from, references_by}
 use Rattle.itch_readings.specs.declared.fault.StockFault.{StockFault}
 use Rattle.itch_readings.specs.declared.fault.StockFault.TheVariants.{NoStock, PastEnd, Changed, Engine as OfEngine}
 use Rattle.itch_show.specs.Engine.{Question}
@@ -48,7 +48,7 @@ shares_left (Some found) = found.shares
 abbrev pub before_of : World → ℕ → List ℕ → Before
 before_of w locate payload = record {
   symbol = symbol_in (status w locate).directory;
-  shares = shares_left (first_order w locate (references_by (shape_of payload)));
+  shares = shares_left (order_named w locate payload);
 }
 
 -- the same where a payload is of no stock
@@ -65,17 +65,26 @@ abbrev pub order_before : World → ℕ → ℕ → List ℕ
 order_before w locate reference =
     found_line (order w locate reference) (is_spent w locate reference) reference
 
+-- whether a payload is a trade of an order that isn't displayed
+abbrev pub is_trade : Shape → Bool
+is_trade (Known (Trade head m)) = true
+is_trade other = false
+
+-- the references by which a payload names orders; that of such a trade is none
+abbrev pub orders_in : Shape → List ℕ
+orders_in shape = if is_trade shape then [] else references_by shape
+
 -- references, each once
 abbrev pub once : List ℕ → List ℕ
 once [] = []
-once (first ∷ others) = first ∷ filter (λ other. not (other == first)) others
+once (first ∷ others) = first ∷ filter (λ other. not (other == first)) (once others)
 
 -- the orders that a payload names
 abbrev pub orders_before : World → ℕ → List ℕ → List ℕ
 orders_before w locate payload =
-    flat_map (order_before w locate) (once (references_by (shape_of payload)))
+    flat_map (order_before w locate) (once (orders_in (shape_of payload)))
 
--- ---- the messages that led there
+-- ---- the earlier messages about it
 
 -- the match number of a trade, or of one that is broken
 abbrev pub match_in : Msg → Option ℕ
@@ -95,28 +104,29 @@ abbrev pub has_match : ℕ → Shape → Bool
 has_match number (Known m) = is_match number (match_in m)
 has_match number other = false
 
--- whether one payload names an order of another
-abbrev pub shares_reference : Shape → Shape → Bool
-shares_reference shape earlier =
-    list_any (λ reference. list_any (λ named. named == reference) (references_by earlier)) (references_by shape)
+-- whether a payload names an order by a reference
+abbrev pub names : Shape → ℕ → Bool
+names shape reference = list_any (λ named. named == reference) (orders_in shape)
+
+-- whether two payloads name an order by the same reference
+abbrev pub name_one_order : Shape → Shape → Bool
+name_one_order shape earlier = list_any (names earlier) (orders_in shape)
 
 -- the match number of the trade that a payload breaks
-abbrev pub broken_in : Shape → Option ℕ
-broken_in (Known (Broken head m)) = Some m.match_no
-broken_in other = None
+abbrev pub break_in : Shape → Option ℕ
+break_in (Known (Broken head m)) = Some m.match_no
+break_in other = None
 
--- whether an earlier payload led to one: it named one of its orders, and where that breaks a trade, it had its match number
-abbrev pub led_by : Option ℕ → Shape → Shape → Bool
-led_by None shape earlier = shares_reference shape earlier
-led_by (Some number) shape earlier = has_match number earlier
+-- whether an earlier payload is about what a payload is about: one of its orders, or the trade that it breaks
+abbrev pub is_about : Option ℕ → Shape → Shape → Bool
+is_about None shape earlier = name_one_order shape earlier
+is_about (Some number) shape earlier = has_match number earlier
 
-abbrev pub led_to : Shape → Shape → Bool
-led_to shape = led_by (broken_in shape) shape
-
--- the line of an earlier message, where it was applied and led to a payload: its number, and its line of the text
+-- the line of an earlier message, where it was applied and is about that: its number, and its line of the text
 abbrev pub earlier_line : Shape → Outcome → ℕ → List ℕ → List ℕ
 earlier_line shape Applied number payload =
-    if led_to shape (shape_of payload) then decimal number ++ codes " " ++ ended (payload_line payload) else []
+    if is_about (break_in shape) shape (shape_of payload)
+    then decimal number ++ codes " " ++ ended (payload_line payload) else []
 earlier_line shape other number payload = []
 
 abbrev pub earlier_lines : Shape → List OwnMessage → List ℕ
@@ -130,7 +140,7 @@ message_lines n found payload before =
     position_words n (Some found) ++ codes "\n" ++ ended (payload_line payload)
     ++ refusal_lines found payload before
 
--- a message of a stock, by the stock's rows before it and the lines of the messages that led to it
+-- a message of a stock, by the stock's rows before it and the lines of the earlier messages
 abbrev pub own_lines : World → ℕ → List ℕ → ℕ → Outcome → List ℕ → List ℕ
 own_lines w locate earlier n found payload =
     message_lines n found payload (before_of w locate payload) ++ orders_before w locate payload ++ earlier
@@ -148,17 +158,19 @@ why_text day n = why_by (part (payload_at day n)) day n
 
 -- ---- the engine
 
--- the day has message n, and the text says why it came to be what it is
+-- the day has message n, and the text says what became of it, and why
 pub record PrintsWhy (n : ℕ) (text : List ℕ) (day : List (List ℕ)) : Type 0 where
   pub some : 0 < n
   pub within : n ≤ length day
   pub printed : text ≡ why_text day n
 
 -- of a file whose message n has this payload, a message of a stock: the text, none where a file hasn't that message
-abbrev pub IsOwnText : {A : Type 0} → ℕ → List ℕ → Option (Vec ℕ A) → List ℕ → Contents → Type 0
+abbrev pub IsOwnText : {A : Type 0} → ℕ → List ℕ → Option (Vec ℕ A) → List ℕ → Contents
+    → Type 0
 IsOwnText n payload None input file = n ≤ length file.payloads → ⊥
 IsOwnText n payload (Some text) input file =
-    n ≤ length file.payloads → payload ≡ payload_at file.payloads n → text.items ≡ why_text file.payloads n
+    n ≤ length file.payloads → payload ≡ payload_at file.payloads n
+    → text.items ≡ why_text file.payloads n
 
 -- why no text is made of a file. That it changed isn't said of one that gave the same twice.
 abbrev pub RefusesWhy : ℕ → Limits → List ℕ → Contents → StockFault → Type 0
@@ -167,7 +179,7 @@ RefusesWhy n limits input file PastEnd = 0 < n → length file.payloads < n
 RefusesWhy n limits input file Changed = ⊥
 RefusesWhy n limits input file (OfEngine fault) = Exceeds limits fault input file
 
--- why message n of a file came to be what it is
+-- what became of message n of a file, and why
 abbrev pub why : ℕ → Limits → Question
 why n limits = record {
   place = After n;

@@ -4,11 +4,11 @@ ghost use Rattle.std.specs.List.{flat_map};
 ghost use Rattle.std.specs.Option.{option_to_list};
 ghost use Rattle.byte_strings.specs.Extending.{Extends};
 ghost use Rattle.itch_layouts.specs.Shapes.{shape_of};
-ghost use Rattle.itch_readings.specs.OwnMessages.{first_order, references_by};
+ghost use Rattle.itch_readings.specs.OwnMessages.{order_named, references_by};
 ghost use Rattle.itch_table.specs.World.{is_spent, order};
-ghost use Rattle.itch_why.specs.Why.{before_of, nothing_before, once, order_before, orders_before, found_line};
+ghost use Rattle.itch_why.specs.Why.{before_of, found_line, is_trade, nothing_before, once, order_before, orders_before, orders_in};
 
-use itch_layouts::{Shape, read_msg};
+use itch_layouts::{Msg, Shape, read_msg};
 use itch_table::Order;
 use refusal_text::Before;
 use std::alloc::{AllocError, Allocator};
@@ -16,21 +16,35 @@ use stock_machine::Stock;
 use stock_text::put_order;
 use text_fields::put_count;
 
-/// The references by which a payload of this shape names orders: two of a replacement, one of another message about an order.
-pub(crate) fn references_of(shape: &Shape) -> (Option<u64>, Option<u64>)
-    ensures { option_to_list result.0 ++ option_to_list result.1 ≡ references_by shape.now }
+// Whether a payload of this shape is a trade of an order that isn't displayed.
+fn is_trade(shape: &Shape) -> bool
+    ensures { result ≡ is_trade shape.now }
+{
+    match *shape {
+        Shape::Known(Msg::Trade(_, _)) => true,
+        _ => false,
+    }
+}
+
+/// The references by which a payload of this shape names orders: two of a replacement, one of another message that makes or
+/// changes an order. That of a trade (type P) is none: it is of an order that isn't displayed, and 0 on published days.
+pub(crate) fn orders_in(shape: &Shape) -> (Option<u64>, Option<u64>)
+    ensures { option_to_list result.0 ++ option_to_list result.1 ≡ orders_in shape.now }
 {
     match shape {
-        Shape::Known(message) => message.references(),
+        Shape::Known(message) if !is_trade(shape) => message.references(),
         _ => (None, None),
     }
 }
 
-// The order that the first of these references names.
-fn first_order<A: Allocator + Copy>(stock: &Stock<A>, shape: &Shape) -> Option<Order>
-    ensures { result ≡ first_order stock.now.world stock.now.locate (references_by shape.now) }
+// The order that the first reference of a payload names, as a stock has it.
+fn order_named<A: Allocator + Copy>(stock: &Stock<A>, payload: &[u8]) -> Option<Order>
+    ensures { result ≡ order_named stock.now.world stock.now.locate payload.now }
 {
-    let (one, other) = references_of(shape);
+    let Shape::Known(message) = read_msg(payload) else {
+        return None;
+    };
+    let (one, other) = message.references();
     match one.or(other) {
         Some(reference) => stock.order(reference),
         None => None,
@@ -45,7 +59,7 @@ pub(crate) fn before_of<A: Allocator + Copy>(stock: &Stock<A>, payload: &[u8]) -
         Some(directory) => directory.stock,
         None => *b"        ",
     };
-    let shares = match first_order(stock, &read_msg(payload)) {
+    let shares = match order_named(stock, payload) {
         Some(order) => order.shares,
         None => 0,
     };
@@ -101,7 +115,8 @@ fn put_named<A: Allocator + Copy>(
 
 // The second of two references, where it isn't the first once more.
 fn unlike(one: Option<u64>, other: Option<u64>) -> Option<u64>
-    ensures { once (option_to_list one ++ option_to_list other) ≡ option_to_list one ++ option_to_list result }
+    ensures { once (option_to_list one ++ option_to_list other)
+        ≡ option_to_list one ++ option_to_list result }
 {
     if one == other { None } else { other }
 }
@@ -115,7 +130,7 @@ pub(crate) fn put_orders_before<A: Allocator + Copy>(
     ensures { Extends text.old text.new
         (orders_before stock.now.world stock.now.locate payload.now) result }
 {
-    let (one, other) = references_of(&read_msg(payload));
+    let (one, other) = orders_in(&read_msg(payload));
     put_named(text, stock, one)?;
     put_named(text, stock, unlike(one, other))
 }

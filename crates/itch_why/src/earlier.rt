@@ -1,13 +1,12 @@
-//! The messages that led to one.
+//! The earlier messages about a message's orders, or about the trade that it breaks.
 ghost use Rattle.std.specs.Prelude.{◌≡◌, ◌==◌, ◌++◌, [], OnOk};
 ghost use Rattle.std.specs.List.{list_any};
 ghost use Rattle.std.specs.Option.{option_to_list};
 ghost use Rattle.byte_strings.specs.Extending.{Extends};
 ghost use Rattle.itch_layouts.specs.Shapes.{shape_of};
-ghost use Rattle.itch_readings.specs.OwnMessages.{references_by};
-ghost use Rattle.itch_why.specs.Why.{broken_in, earlier_line, earlier_lines, has_match, is_match, led_to, match_in, shares_reference};
+ghost use Rattle.itch_why.specs.Why.{break_in, earlier_line, earlier_lines, has_match, is_about, is_match, match_in, name_one_order, names};
 
-use crate::before::references_of;
+use crate::before::orders_in;
 use itch_layouts::{Msg, Shape, read_msg};
 use itch_print::put_payload;
 use itch_readings::Notes;
@@ -43,38 +42,35 @@ fn has_match(number: u64, shape: &Shape) -> bool
     }
 }
 
-// Whether a payload of this shape names an order by this reference.
-fn has_reference(shape: &Shape, reference: u64) -> bool
-    ensures { result ≡ list_any (λ named. named == reference) (references_by shape.now) }
+// Whether a payload of this shape names an order by a reference.
+fn names(shape: &Shape, reference: u64) -> bool
+    ensures { result ≡ names shape.now reference }
 {
-    match shape {
-        Shape::Known(message) => message.has_reference(reference),
-        _ => false,
-    }
+    let (one, other) = orders_in(shape);
+    one == Some(reference) || other == Some(reference)
 }
 
 // The same where there is a reference.
 fn is_named(shape: &Shape, reference: Option<u64>) -> bool
-    ensures { result ≡ list_any (λ reference. list_any (λ named. named == reference) (references_by shape.now))
-        (option_to_list reference) }
+    ensures { result ≡ list_any (names shape.now) (option_to_list reference) }
 {
     match reference {
-        Some(reference) => has_reference(shape, reference),
+        Some(reference) => names(shape, reference),
         None => false,
     }
 }
 
-// Whether one payload names an order of another, by their shapes.
-fn shares_reference(shape: &Shape, earlier: &Shape) -> bool
-    ensures { result ≡ shares_reference shape.now earlier.now }
+// Whether two payloads name an order by the same reference, by their shapes.
+fn name_one_order(shape: &Shape, earlier: &Shape) -> bool
+    ensures { result ≡ name_one_order shape.now earlier.now }
 {
-    let (one, other) = references_of(shape);
+    let (one, other) = orders_in(shape);
     is_named(earlier, one) || is_named(earlier, other)
 }
 
 // The match number of the trade that a payload of this shape breaks.
-fn broken_in(shape: &Shape) -> Option<u64>
-    ensures { result ≡ broken_in shape.now }
+fn break_in(shape: &Shape) -> Option<u64>
+    ensures { result ≡ break_in shape.now }
 {
     match *shape {
         Shape::Known(Msg::Broken(_, message)) => Some(message.match_no),
@@ -82,17 +78,17 @@ fn broken_in(shape: &Shape) -> Option<u64>
     }
 }
 
-// Whether an earlier payload led to another one, by their shapes.
-fn led_to(shape: &Shape, earlier: &Shape) -> bool
-    ensures { result ≡ led_to shape.now earlier.now }
+// Whether an earlier payload is about what a payload is about, by their shapes.
+fn is_about(shape: &Shape, earlier: &Shape) -> bool
+    ensures { result ≡ is_about (break_in shape.now) shape.now earlier.now }
 {
-    match broken_in(shape) {
+    match break_in(shape) {
         Some(number) => has_match(number, earlier),
-        None => shares_reference(shape, earlier),
+        None => name_one_order(shape, earlier),
     }
 }
 
-// Adds the line of an earlier message, where it was applied and led to a payload of this shape.
+// Adds the line of an earlier message, where it was applied and is about what a payload of this shape is about.
 fn put_earlier<A: Allocator>(
     text: &mut Vec<u8, A>,
     shape: &Shape,
@@ -102,7 +98,7 @@ fn put_earlier<A: Allocator>(
 ) -> Result<(), AllocError>
     ensures { Extends text.old text.new (earlier_line shape.now outcome number payload.now) result }
 {
-    if outcome != Outcome::Applied || !led_to(shape, &read_msg(payload)) {
+    if outcome != Outcome::Applied || !is_about(shape, &read_msg(payload)) {
         return Ok(());
     }
     put_number(text, number)?;
@@ -110,7 +106,7 @@ fn put_earlier<A: Allocator>(
     put_payload(text, payload)
 }
 
-/// The lines of a stock's messages that were applied and led to a payload.
+/// The lines of a stock's messages that were applied and are about what a later payload is about.
 #[derive(Drop)]
 pub(crate) struct EarlierLines<A: Allocator> {
     shape: Shape,

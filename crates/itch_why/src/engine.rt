@@ -1,4 +1,4 @@
-//! The engine that says why a message came to be what it is.
+//! The engine that says what became of a message, and why.
 ghost use Rattle.std.specs.Prelude.{◌≡◌, ◌≢◌, ◌⊎◌, ◌+◌, ◌<◌, ◌≤◌, ◌^◌, ◌↔◌, Err, IfErr, IfOk, IsErrOf, IsOk};
 ghost use Rattle.binaryfile.specs.Devices.{GaveUpTo, HasFailed};
 ghost use Rattle.engine_rules.specs.declared.fault.ProgFault.TheVariants.{Read as ReadFailed, Write as WriteFailed};
@@ -128,7 +128,7 @@ pub fn why_of_file<A: Allocator + Copy, R: Read, S: Read>(
     Ok(text)
 }
 
-/// Reads a day file and writes why message `number`, counted from 1, came to be what it is:
+/// Reads a day file and writes what became of message `number`, counted from 1, and why:
 ///
 /// - the line of the position after it, with what became of it, and its line of the day's text;
 /// - where it was refused, the fault's number and name, and why, in words;
@@ -141,8 +141,8 @@ pub fn why_of_file<A: Allocator + Copy, R: Read, S: Read>(
 /// `feed` is read up to the message, and `again` gives the same file once more, up to it: what a stock had before is known
 /// once it is known whose message it is. What is written is right for each file of which both gave the beginning, and all where
 /// they ended. Of such a file [`StockFault::Changed`], which says that the second reading had too few messages, isn't
-/// returned. In memory are no more than a segment of 1 MiB, a byte for each locate code, the machine of the stock, and the text,
-/// which is made before it is sent.
+/// returned. In memory are no more than a segment of 1 MiB, a byte for each locate code, the machine of the stock, and twice the
+/// text, which is made before it is sent.
 /// [`ProgFault::Write`] comes only where the sink fails, and then a prefix of the text was sent; after another fault nothing
 /// was. The other faults are those of [`why_of_file`], with the limits of day files.
 pub fn why_run<A: Allocator + Copy, R: Read, S: Read, W: Write>(

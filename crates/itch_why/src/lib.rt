@@ -1,8 +1,8 @@
-//! Why a message of a day came to be what it is: an engine over any reader and writer.
+//! What became of a message of a day, and why: an engine over any reader and writer.
 //!
 //! | call | output |
 //! |---|---|
-//! | [`why_run`] | a message's outcome, why it was refused, the orders that it names before it, and the messages that led there |
+//! | [`why_run`] | a message's outcome, why it was refused, its orders before it, and the earlier messages about them |
 //!
 //! ```rust
 //! why_run(alloc, &mut feed, &mut again, &mut sink, 4711)?;

@@ -1,4 +1,4 @@
-//! The text that says why a message came to be what it is.
+//! The text that says what became of a message, and why.
 ghost use Rattle.std.specs.Prelude.{◌≡◌, ◌<◌, ◌-◌, ◌^◌, ◌++◌, IfOk};
 ghost use Rattle.byte_strings.specs.Extending.{Extends};
 ghost use Rattle.itch_table.specs.Parts.{part};
@@ -43,7 +43,7 @@ pub(crate) fn message_text<A: Allocator>(
     Ok(text)
 }
 
-/// The text of a message of a stock, whose machine takes it, after the lines of the messages that led to it.
+/// The text of a message of a stock, whose machine takes it, with the lines of the earlier messages.
 pub(crate) fn own_text<A: Allocator + Copy>(
     alloc: A,
     stock: &mut Stock<A>,

@@ -117,14 +117,14 @@ reason LocateTaken m before = other_stock m before
 reason ReferenceInUse m before = codes "order " ++ decimal (new_reference_in m) ++ codes " lives"
 reason ReferenceUnknown m before = codes "no order " ++ decimal (reference_in m) ++ codes " lives"
 reason BadSide m before = neither (codes "side ") (side_in m) (codes "\"B\" nor \"S\"")
-reason ZeroShares m before = codes "order " ++ decimal (new_reference_in m) ++ codes " of no shares"
+reason ZeroShares m before = codes "order " ++ decimal (new_reference_in m) ++ codes " would have no shares"
 reason TooManyShares m before =
     decimal (shares_in m) ++ deed_of m ++ decimal (reference_in m) ++ codes ", which has "
     ++ decimal before.shares
 reason BadPrintable m before = neither (codes "printable ") (printable_in m) (codes "\"Y\" nor \"N\"")
 reason NoTrade m before = codes "no unbroken trade has match number " ++ decimal (broken_in m)
 reason ReferenceSpent m before =
-    codes "an order " ++ decimal (new_reference_in m) ++ codes " was here before"
+    codes "an earlier order had reference " ++ decimal (new_reference_in m)
 
 -- the type of a payload: its first byte
 abbrev pub kind_in : List ℕ → ℕ

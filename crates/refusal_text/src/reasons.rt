@@ -130,7 +130,7 @@ fn put_reason<A: Allocator>(
         Fault::ReferenceInUse => put_between(text, b"order ", new, b" lives"),
         Fault::ReferenceUnknown => put_between(text, b"no order ", old, b" lives"),
         Fault::BadSide => put_neither(text, b"side ", side_in(message), b"\"B\" nor \"S\""),
-        Fault::ZeroShares => put_between(text, b"order ", new, b" of no shares"),
+        Fault::ZeroShares => put_between(text, b"order ", new, b" would have no shares"),
         Fault::TooManyShares => put_too_many_shares(text, message, before),
         Fault::BadPrintable => {
             put_neither(
@@ -145,7 +145,7 @@ fn put_reason<A: Allocator>(
             b"no unbroken trade has match number ",
             broken_in(message),
         ),
-        Fault::ReferenceSpent => put_between(text, b"an order ", new, b" was here before"),
+        Fault::ReferenceSpent => put_between(text, b"an earlier order had reference ", new, b""),
     }
 }
 

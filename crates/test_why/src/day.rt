@@ -1,4 +1,4 @@
-//! A worked day, in which each fault occurs, and a call that says why one of its messages came to be what it is.
+//! A worked day, in which each fault occurs, and a call that says what became of one of its messages, and why.
 use binaryfile::{Feed, Limits};
 use itch_layouts::Msg;
 use itch_readings::StockFault;
@@ -87,7 +87,7 @@ pub fn file<A: Allocator + Copy>(alloc: A) -> Result<Vec<u8, A>, Fail> {
     Ok(file)
 }
 
-/// Why a message of what two readers give came to be what it is, by segments of so many bytes, within limits.
+/// What became of a message of what two readers give, and why, by segments of so many bytes, within limits.
 pub fn why<A: Allocator + Copy, R: Read, S: Read>(
     alloc: A,
     feed: &mut Feed<R>,

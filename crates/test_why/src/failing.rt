@@ -14,7 +14,7 @@ use test_support::{AMPLE, Failure, Narrow, Pieces, same, same_bytes};
 // A replacement that is refused, of two orders, of which one lives, to which messages led.
 const MESSAGE: u32 = 21;
 
-// A run that says why a message came to be what it is.
+// A run that says what became of a message, and why.
 fn run<A: Allocator + Copy, R: Read + Drop, S: Read + Drop, W: Write>(
     alloc: A,
     reader: R,

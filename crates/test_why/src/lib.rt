@@ -1,4 +1,4 @@
-//! Tests of why messages of a day came to be what they are: a worked day with its texts, in segments of any size, within
+//! Tests of what is said of the messages of a day: a worked day with its texts, in segments of any size, within
 //! limits, and where a device fails or memory is refused.
 #![tactic(auto)]
 

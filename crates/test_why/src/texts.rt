@@ -1,4 +1,4 @@
-//! Why each message of the worked day came to be what it is. All was written by hand.
+//! What is said of each message of the worked day. All was written by hand.
 use crate::day::MESSAGES;
 use std::alloc::Allocator;
 use std::test::Fail;
@@ -24,13 +24,13 @@ const LINES: [&[u8]; MESSAGES as usize] = [
     b"broken locate=1 tracking=0 time=0 match_no=8\nF11 NoTrade: no unbroken trade has match number 8\n",
     b"replace locate=1 tracking=0 time=0 reference=7 new_reference=7 shares=10 price=900000\nF5 ReferenceInUse: order 7 lives\n",
     b"replace locate=1 tracking=0 time=0 reference=7 new_reference=8 shares=40 price=990000\n",
-    b"add_mpid locate=1 tracking=0 time=0 reference=7 side=\"S\" shares=10 stock=\"AAPL\" price=300 attribution=\"ABCD\"\nF12 ReferenceSpent: an order 7 was here before\n",
-    b"replace locate=1 tracking=0 time=0 reference=8 new_reference=7 shares=10 price=900000\nF12 ReferenceSpent: an order 7 was here before\n",
+    b"add_mpid locate=1 tracking=0 time=0 reference=7 side=\"S\" shares=10 stock=\"AAPL\" price=300 attribution=\"ABCD\"\nF12 ReferenceSpent: an earlier order had reference 7\n",
+    b"replace locate=1 tracking=0 time=0 reference=8 new_reference=7 shares=10 price=900000\nF12 ReferenceSpent: an earlier order had reference 7\n",
     b"delete locate=1 tracking=0 time=0 reference=7\nF6 ReferenceUnknown: no order 7 lives\n",
     b"add locate=1 tracking=0 time=0 reference=9 side=\"X\" shares=10 stock=\"AAPL\" price=100\nF7 BadSide: side \"X\", which is neither \"B\" nor \"S\"\n",
     b"trade locate=1 tracking=0 time=0 reference=0 side=\"X\" shares=5 stock=\"AAPL\" price=1000000 match_no=12\nF7 BadSide: side \"X\", which is neither \"B\" nor \"S\"\n",
-    b"add locate=1 tracking=0 time=0 reference=9 side=\"S\" shares=0 stock=\"AAPL\" price=100\nF8 ZeroShares: order 9 of no shares\n",
-    b"replace locate=1 tracking=0 time=0 reference=8 new_reference=9 shares=0 price=100\nF8 ZeroShares: order 9 of no shares\n",
+    b"add locate=1 tracking=0 time=0 reference=9 side=\"S\" shares=0 stock=\"AAPL\" price=100\nF8 ZeroShares: order 9 would have no shares\n",
+    b"replace locate=1 tracking=0 time=0 reference=8 new_reference=9 shares=0 price=100\nF8 ZeroShares: order 9 would have no shares\n",
     b"add locate=1 tracking=0 time=0 reference=9 side=\"B\" shares=1 stock=\"MSFT\" price=100\nF3 StockDiffers: stock \"MSFT\", and locate code 1 is \"AAPL\"\n",
     b"directory locate=1 tracking=0 time=0 stock=\"MSFT\" category=\"Q\" status=\"N\" lot=100 lots_only=\"N\" issue_class=\"C\" issue_subtype=\"Z\" authenticity=\"P\" short_sale=\"N\" ipo=\"N\" luld=\"1\" etp=\"N\" leverage=0 inverse=\"N\"\nF4 LocateTaken: stock \"MSFT\", and locate code 1 is \"AAPL\"\n",
     b"raw 4f4b\n",
@@ -44,7 +44,7 @@ const LINES: [&[u8]; MESSAGES as usize] = [
     b"regsho locate=1 tracking=0 time=0 stock=\"AAPL\" action=\"1\"\n",
 ];
 
-// What became of each message, the lines of the orders that it names, and the numbers of the messages that led to it.
+// What became of each message, the lines of the orders that it names, and the numbers of the earlier messages about them.
 const ANSWERS: [(&[u8], &[u8], &[u32]); MESSAGES as usize] = [
     (b"applied", b"", &[]),
     (b"applied", b"", &[]),
@@ -56,12 +56,12 @@ const ANSWERS: [(&[u8], &[u8], &[u32]); MESSAGES as usize] = [
     (b"refused F9", b"order 7 B 70 1010000 none\n", &[4, 7]),
     (b"refused F10", b"order 7 B 70 1010000 none\n", &[4, 7]),
     (b"applied", b"order 7 B 70 1010000 none\n", &[4, 7]),
-    (b"applied", b"no order 0\n", &[]),
+    (b"applied", b"", &[]),
     (b"applied", b"", &[7, 11]),
     (b"refused F11", b"", &[7, 11, 12]),
     (b"applied", b"", &[]),
     (b"applied", b"", &[7, 11, 12, 14]),
-    (b"applied", b"no order 0\n", &[]),
+    (b"applied", b"", &[]),
     (b"refused F11", b"", &[]),
     (b"refused F5", b"order 7 B 60 1010000 none\n", &[4, 7, 10]),
     (
@@ -77,7 +77,7 @@ const ANSWERS: [(&[u8], &[u8], &[u32]); MESSAGES as usize] = [
     ),
     (b"refused F6", b"no order 7 spent\n", &[4, 7, 10, 19]),
     (b"refused F7", b"no order 9\n", &[]),
-    (b"refused F7", b"no order 0\n", &[11]),
+    (b"refused F7", b"", &[]),
     (b"refused F8", b"no order 9\n", &[]),
     (
         b"refused F8",
@@ -106,7 +106,7 @@ fn item<T: Copy>(list: &[T], number: u32) -> Result<T, Fail> {
     }
 }
 
-/// Why a message came to be what it is.
+/// What became of a message, and why.
 pub fn text_of<A: Allocator + Copy>(alloc: A, number: u32) -> Result<Vec<u8, A>, Fail> {
     let (outcome, orders, earlier) = item(&ANSWERS, number)?;
     let mut text = Vec::new(alloc);

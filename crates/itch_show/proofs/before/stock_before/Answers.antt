@@ -16,7 +16,7 @@ returns-clause-stock g c =
     let read = (c.in_ok-last.ensures {u = tt}).read in
     let made = c.in_ok-noted.ensures {u = tt} in
     let first = c.in_ok-noted.noted in
-    before g.N.Notes.noted c.args.notes _ _ c.args.limits c.args.locate c.args.number _ _ _ read c.requires.some c.own_parts.result
+    before g.N.Notes.noted c.args.notes _ _ c.args.limits c.args.locate c.args.number _ _ _ read c.requires.some c.if-last-before.false c.own_parts.result
     (subst (λ notes. HasTakenOwn g.N.Notes.noted notes read.day c.args.locate c.own_parts.result.0 c.own_parts.result.1) made.notes
     (c.own_parts.ensures first.notes read.day _ made.name read.holds))
 

@@ -2,7 +2,7 @@ use Rattle.std.proofs.Common.{◌≡◌, ◌-◌, ◌<◌, ◌^◌, ◌∙◌, I
 use Rattle.itch_show.specs.Before.{IsBefore}
 use Rattle.itch_show.specs.Parts.{GavePart}
 use Rattle.itch_show.specs.Shown.{last_noted}
-use Rattle.itch_show.proofs.Outcomes.{step_before}
+use Rattle.itch_show.proofs.Outcomes.{none_before, step_before}
 use Rattle.itch_table.specs.declared.outcome.Part.TheVariants.{Locate}
 use Rattle.itch_table.specs.Parts.{part}
 use Rattle.itch_table.specs.Table.{step}
@@ -23,8 +23,9 @@ returns-in_default-clause-outcome g c =
     let start = g.S.Read.remaining c.args.again.now.device in
     let next = g.S.Read.remaining c.stock_before.new.feed.device in
     let none = c.of_none-none.result in
-    subst (λ found. GavePart start next (IsBefore (λ _ now messages. now ≡ last_noted messages) none c.args.locate c.args.last.now.number found)) c.in_default.is
-    ((c.in_ok-before.ensures {u = tt}).stock)
+    none_before (λ _ now messages. now ≡ last_noted messages) none start next c.args.locate c.args.last.now.number c.args.last.now.payload.items
+    (subst (λ found. GavePart start next (IsBefore (λ _ now messages. now ≡ last_noted messages) none c.args.locate c.args.last.now.number found)) c.in_default.is
+    ((c.in_ok-before.ensures {u = tt}).stock))
 
 pub step-requires-clause-own : goal.step-requires-clause-own
 step-requires-clause-own g c =
