@@ -229,9 +229,7 @@ fn why_command<'a>(alloc: Global) -> Result<Command<'a>, AllocError> {
     );
     let args = vec![in alloc; path(alloc, "FILE", DAY_HELP), number]?;
     Command::new(alloc, "why")
-        .about(
-            "Prints what became of a message, why it was refused, and its orders before it",
-        )
+        .about("Prints what became of a message, why it was refused, and its orders before it")
         .after_help(help::WHY)
         .args(args)
 }
