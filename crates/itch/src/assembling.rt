@@ -1,8 +1,7 @@
 //! The file that a text denotes, in the place of another or as a new one.
-use crate::files::{Ended, ended, open};
-use crate::stop::Stop;
 use binaryfile::{Feed, Sink};
 use engine_rules::ProgFault;
+use itch_commands::{Ended, Stop, ended, open};
 use itch_engine::asm_run;
 use named_files::{Failure, Named, Replacement, is_same_file};
 use std::alloc::Global;

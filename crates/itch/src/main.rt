@@ -2,38 +2,27 @@
 #![tactic(auto)]
 
 mod assembling;
-mod files;
-mod kept;
 mod progress;
 mod prompt;
-mod questions;
-mod readings;
 mod replays;
 mod sessions;
-mod showing;
-mod stop;
-mod terminals;
-mod texts;
 
 use assembling::assemble;
 use clap::error::ErrorKind;
 use engine_rules::{ProgFault, status};
-use files::Ended;
 use itch_arguments::Task;
-use questions::why;
-use readings::{list_stocks, print_order, print_tops, print_trades};
+use itch_commands::{
+    Ended, Stop, Terminals, disassemble, disassemble_between, list_stocks, print_order, print_tops,
+    print_trades, show, why,
+};
 use replays::{replay, replay_digits, summarize, watch};
 use sessions::debug;
-use showing::show;
 use std::env;
 use std::io::{self, IsTerminal};
 use std::process::ExitCode;
 use std::rt::Runtime;
 use std::sync::Wait;
 use std::thread::Threads;
-use stop::Stop;
-use terminals::Terminals;
-use texts::{disassemble, disassemble_between};
 
 /// The status for invalid arguments.
 const MISUSE: u8 = 2;

@@ -1,5 +1,5 @@
 //! The prompt of a session at a terminal.
-use crate::terminals::Terminals;
+use itch_commands::Terminals;
 use std::io::{self, Read};
 
 /// A reader that shows a prompt on standard error before each read, where standard input and standard error are

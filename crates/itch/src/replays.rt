@@ -1,9 +1,8 @@
 //! Replays of whole days.
-use crate::files::{Ended, ended, named_stock, open_day, replayed, standard_output};
 use crate::progress::ProgressLines;
-use crate::terminals::Terminals;
 use binaryfile::{Feed, Sink};
 use day_segments::SEGMENT_BYTES;
+use itch_commands::{Ended, Terminals, ended, named_stock, open_day, replayed, standard_output};
 use itch_engine::{hex_run, report_run};
 use itch_summary::summary_run;
 use itch_watch::watch_run;

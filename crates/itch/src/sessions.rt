@@ -1,10 +1,9 @@
 //! Debugging sessions.
-use crate::files::{Ended, ended, open_day, standard_output};
 use crate::prompt::Prompting;
-use crate::terminals::Terminals;
 use binaryfile::{Day, Feed, Sink};
 use engine_rules::ProgFault;
 use engine_rules::limits::FILE_LIMITS;
+use itch_commands::{Ended, Terminals, ended, open_day, standard_output};
 use itch_debug::debug_run;
 use named_files::Named;
 use std::rt::Runtime;
