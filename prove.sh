@@ -337,7 +337,7 @@ build() {
     : >"$room/state"
     count_jobs
     say "proving and building the program: $count crates, jobs at once: $most_jobs; the logs are in $logs"
-    say 'a first call took 19 to 28 minutes and 45 to 73 minutes of processor time on 4 cores before show came'
+    say 'a first call took 24 minutes and 67 minutes of processor time on 4 cores of 2.5 GHz'
     say "for a first look at a small file without proof there is $top/look"
     prove_all
     clear_room
