@@ -3,17 +3,19 @@
 # and names its own folder as $top. Nothing is said where nothing is to be done; else standard error says how far it is.
 #
 # make_program returns, or ends the shell: with 126 where the program isn't proved and built, 127 where there is no toolchain
-# and after an interrupt with 128 and the signal's number. What was proved until then is kept, and the next call goes on
-# from there. What is proved is what the sources were when it began.
+# and after an interrupt with 128 and the signal's number. The crates that were proved until then are kept, and the next call
+# goes on from there. What is proved is what the sources were when it began.
 #
-# The toolchain locks a crate's folder and those of all crates below it, so two crates that share one are never proved at
-# once in one folder. So each crate is proved in a copy of its own of the sources, below crates/itch/out. What the toolchain
-# keeps of a crate is moved there and back.
+# The toolchain's prover is called for each crate by itself, as `rt ci` does it: a library has what other crates can cite of
+# it, and not its proofs, so those above load a fifth of what `rt lib` would have them load. And `rt` locks a crate's folder
+# and those of all crates below it, so that of two crates which share one it proves one after another.
 
 out=$top/crates/itch/out
 program=$out/itch
 logs=$out/logs
-# What a call under way needs: the sources as they were, a copy of them for each crate that is being proved, and lists.
+# The libraries of crates that are proved, with sums of what each was made of.
+libraries=$out/libraries
+# What a call under way needs: the sources as they were, and lists.
 room=$out/proving
 # The most memory that a job takes, in KiB: 0.7 to 2.8 GB were seen.
 job_memory=2800000
@@ -47,9 +49,8 @@ crates_of_program() {
 # Whether the program is missing, or a source was changed after the build began that made it.
 is_stale() {
     [ -x "$program" ] || return 0
-    [ -n "$(cd "$top/crates" && find ../HANDLES ../crates.txt $(crates_of_program) \
-        \( -name out -o -name must-fail \) -prune -o \
-        \( -name HANDLES -o -name crates.txt -o -name '*.rt' -o -name '*.antt' \) -newer "$program" -print -quit)" ]
+    [ -n "$(cd "$top/crates" && find ../crates.txt $(crates_of_program) \( -name out -o -name must-fail \) -prune -o \
+        \( -name crates.txt -o -name '*.rt' -o -name '*.antt' \) -newer "$program" -print -quit)" ]
 }
 
 # Waits while another call builds the program. Without flock nothing is waited for, and of two that build one may fail.
@@ -62,22 +63,11 @@ wait_for_others() {
     }
 }
 
-# locked CRATE COMMAND.. : runs a command while no toolchain works in a crate's folder.
-locked() {
-    folder=$top/crates/$1
-    shift
-    if command -v flock >/dev/null; then
-        flock "$folder" "$@"
-    else
-        "$@"
-    fi
-}
-
 # Keeps the sources as they are now.
 keep_sources() {
     mkdir -p "$room/sources/crates"
     : >"$room/began"
-    cp "$top/HANDLES" "$top/crates.txt" "$room/sources"
+    cp "$top/crates.txt" "$room/sources"
     for crate in $(crates_of_program); do
         mkdir "$room/sources/crates/$crate"
         for part in src specs proofs; do
@@ -86,19 +76,48 @@ keep_sources() {
     done
 }
 
+# uses_of NAME : the libraries that a crate names.
+uses_of() {
+    awk -v name="$1" '{ sub(/#.*/, ""); split($0, line, ":"); split(line[1], words, " ") } words[1] == name { print line[2] }' \
+        "$room/sources/crates.txt"
+}
+
+# A line for each crate: its name, and a sum of the toolchain, of the libraries that it names and of its sources.
+list_sums() {
+    for crate in $(crates_of_program); do
+        sum=$(
+            cd "$room/sources/crates/$crate"
+            {
+                rt version
+                uses_of "$crate"
+                find . -type f -exec sha256sum {} + | LC_ALL=C sort -k 2
+            } | sha256sum
+        )
+        echo "$crate ${sum%% *}"
+    done
+}
+
+# sums_of NAME : the sums of a crate and of all crates below it.
+sums_of() {
+    awk -v name="$1" '
+        FNR == NR { if ($1 == name) for (at = 4; at <= NF; at++) is_below[$at] = 1; next }
+        $1 == name || $1 in is_below' "$room/plan" "$room/sums"
+}
+
 # A line for each crate: its name, how long it is, how long the longest chain is from it up to the program, and all crates
-# below it; the longest chain first. A crate is as long as its lines and a thousand more, as libraries are loaded for each.
+# below it; the longest chain first. A crate is as long as its lines, 400 more, and 200 for each crate below it, whose
+# contracts its proofs load: so long as each took to be proved.
 plan() {
     for crate in $(crates_of_program); do
-        echo "$crate $((1000 + $(find "$room/sources/crates/$crate" -type f -exec cat {} + | wc -l)))"
+        echo "$crate $(find "$room/sources/crates/$crate" -type f -exec cat {} + | wc -l)"
     done | awk '
-        FNR == NR { length_of[$1] = $2; next }
+        FNR == NR { lines[$1] = $2; next }
         /^[a-z]/ { sub(/#.*/, ""); split($0, line, ":"); split(line[1], name, " "); uses[name[1]] = line[2] }
         # The crates below this one, as keys of all.
         function gather(crate, all,    names, at) {
             split(uses[crate], names, " ")
             for (at in names)
-                if (names[at] in length_of && !(names[at] in all)) {
+                if (names[at] in lines && !(names[at] in all)) {
                     all[names[at]] = 1
                     gather(names[at], all)
                 }
@@ -107,7 +126,7 @@ plan() {
         function chain_of(crate,    above, most) {
             if (!(crate in chain)) {
                 most = 0
-                for (above in length_of)
+                for (above in lines)
                     if (index(" " uses[above] " ", " " crate " ") && chain_of(above) > most)
                         most = chain_of(above)
                 chain[crate] = most + length_of[crate]
@@ -115,29 +134,34 @@ plan() {
             return chain[crate]
         }
         END {
-            for (crate in length_of) {
+            for (crate in lines) {
                 split("", all)
                 gather(crate, all)
-                printf "%s %d %d", crate, length_of[crate], chain_of(crate)
-                for (other in all)
-                    printf " %s", other
-                print ""
+                length_of[crate] = lines[crate] + 400
+                for (other in all) {
+                    length_of[crate] += 200
+                    below[crate] = below[crate] " " other
+                }
             }
+            for (crate in lines)
+                printf "%s %d %d%s\n", crate, length_of[crate], chain_of(crate), below[crate]
         }' - "$room/sources/crates.txt" | sort -k 3,3nr
 }
 
-# schedule WORD : by the plan and what has begun and ended, 'next' prints a crate to begin now, if there is one, and with
+# schedule WORD : by the plan and what is kept, has begun and ended, 'next' prints a crate to begin now, if there is one, with
 # how many jobs; 'state' which are under way, how many are left, and about how many minutes, once a tenth is done: those
 # of the longest chain, or of all that is left where few jobs run at once. The crate with the longest chain above it goes
-# first, and has two jobs where there are four.
+# first, and has two jobs where there are four. A crate that no other is ready beside has all jobs that are free.
 schedule() {
     awk -v word="$1" -v most="$most_jobs" -v now="$(now)" '
         FNR == NR { order[++count] = $1; length_of[$1] = $2; whole += $2; chain[$1] = $3; below[$1] = $0; next }
+        $1 == "kept" { proved[$2] = 1; whole -= length_of[$2] }
         $1 == "began" { running[$2] = $3; began[$2] = $4; used += $3 }
         $1 == "proved" {
             used -= running[$2]
             delete running[$2]
             proved[$2] = 1
+            ended++
             seconds += $3 - began[$2]
             done += length_of[$2]
         }
@@ -162,7 +186,7 @@ schedule() {
                 first = first ? first : crate
                 if (crate in running)
                     names = names (names == "" ? "" : ", ") crate
-                else if (!(next_crate) && is_ready(crate))
+                else if (is_ready(crate) && ++ready == 1)
                     next_crate = crate
                 if (known) {
                     all += left_of(crate) / most
@@ -171,10 +195,10 @@ schedule() {
                 }
             }
             longest = all > longest ? all : longest
-            if (word == "next" && next_crate && used < most)
-                print next_crate, (next_crate == first && most >= 4 && used + 2 <= most ? 2 : 1)
+            if (word == "next" && ready && used < most)
+                print next_crate, (ready == 1 ? most - used : next_crate == first && most >= 4 && used + 2 <= most ? 2 : 1)
             if (word == "state" && names != "")
-                printf "proving %s; %d of %d crates left%s\n", names, left, count,
+                printf "proving %s; %d of %d crates left%s\n", names, left, left + ended,
                     known ? sprintf(", about %d min", int(longest / 60) + 1) : ""
         }' "$room/plan" "$room/state"
 }
@@ -187,56 +211,41 @@ count_jobs() {
     [ "$most_jobs" -ge 1 ] || most_jobs=1
 }
 
-# lend CRATE.. : what is kept of crates that are proved, to the copy of the crate that is called $name. Such files are never
-# written again, but replaced, so two trees may share them.
-lend() {
-    for crate; do
-        mkdir -p "$copy/crates/$crate/out"
-        locked "$crate" cp -Rl "$top/crates/$crate/out/rlib" "$copy/crates/$crate/out" 2>/dev/null || {
-            rm -rf "$copy/crates/$crate/out/rlib"
-            locked "$crate" cp -R "$top/crates/$crate/out/rlib" "$copy/crates/$crate/out"
-        }
-    done
-}
-
-# move_kept NAME FROM TO : what the toolchain keeps of a crate, from one tree to another.
-move_kept() {
-    mkdir -p "$3/crates/$1/out"
-    for part in rlib incremental; do
-        if [ -d "$2/crates/$1/out/$part" ]; then
-            locked "$1" sh -c 'rm -rf "$2/$3" && mv "$1/$3" "$2"' sh "$2/crates/$1/out" "$3/crates/$1/out" "$part"
-        fi
-    done
-}
-
-# prove NAME JOBS : proves a crate, which is $name, in a copy of the sources, and links it where it is the program.
-prove() {
-    copy=$room/copies/$name
-    below=$(awk -v name="$name" '$1 == name { $1 = $2 = $3 = ""; print }' "$room/plan")
-    mkdir -p "$copy/crates"
-    cp "$room/sources/HANDLES" "$copy"
-    awk -v crates=" $below $name " '{ split($0, words, /[ :]/) } index(crates, " " words[1] " ")' \
-        "$room/sources/crates.txt" >"$copy/crates.txt"
-    for crate in $below "$name"; do
-        cp -R "$room/sources/crates/$crate" "$copy/crates"
-    done
-    lend $below
-    move_kept "$name" "$top" "$copy"
-    cd "$copy/crates/$name"
-    if [ "$name" = itch ]; then
-        set -- run --jobs "$2" -- --help
-    else
-        set -- lib --jobs "$2"
-    fi
-    # In a group of its own, where that can be had, so that all that it starts ends with it.
+# run_prover WORD.. : calls the prover, in a group of its own, where that can be had, so that all that it starts ends with it.
+run_prover() {
     if command -v setsid >/dev/null; then
-        setsid rt "$@" >"$logs/$name.log" 2>&1 </dev/null &
+        setsid "$kit/bin/rattle" "$@" >"$logs/$name.log" 2>&1 </dev/null &
         work=-$!
     else
-        rt "$@" >"$logs/$name.log" 2>&1 </dev/null &
+        "$kit/bin/rattle" "$@" >"$logs/$name.log" 2>&1 </dev/null &
         work=$!
     fi
     wait "$!"
+}
+
+# prove NAME JOBS : proves a crate, which is $name, and makes its library, or the program.
+prove() {
+    rm -f "$libraries/$name.sum"
+    cd "$room/sources/crates/$name"
+    jobs=$2
+    set -- --extern "std=$kit/rlibs/std.rlib"
+    for used in $(uses_of "$name"); do
+        if [ -d "$room/sources/crates/$used" ]; then
+            set -- "$@" --extern "$used=$libraries/$used.rlib"
+        else
+            set -- "$@" --extern "$used=$kit/rlibs/$used.rlib"
+        fi
+    done
+    set -- "$@" -L "dependency=$kit/rlibs" -L "dependency=$libraries" --links "$name=" --jobs "$jobs" \
+        --antt-project "$kit/rattle/logic/antt-project.json" --logic-built "$kit/logic_built"
+    if [ "$name" = itch ]; then
+        run_prover build --crate-name "$name" src/main.rt "$@" --toolchain "$kit/toolchain" -o "$room/itch.o" || return
+        "$kit/bin/rattle-link" --target x86_64-unknown-linux-gnu --toolchain "$kit/toolchain" -o "$room/itch" \
+            "$room/itch.o" "$kit/c/libos_c.a" "$kit/c/liblibc_c.a" >>"$logs/$name.log" 2>&1
+    else
+        run_prover build --crate-name "$name" src/lib.rt "$@" --statements -o "$libraries/$name.rlib" || return
+        sums_of "$name" >"$libraries/$name.sum"
+    fi
 }
 
 # begin NAME JOBS : proves a crate beside others. Its status is there when it has ended.
@@ -255,20 +264,18 @@ begin() {
 # Takes over what a crate's proof has made; or, where it isn't proved, says why, and ends all.
 take_over() {
     name=$1
-    made=$room/copies/$name/crates/$name/out
-    if [ "$(cat "$room/$name.ended")" != 0 ] || { [ "$name" = itch ] && [ ! -x "$made/itch" ]; }; then
+    if [ "$(cat "$room/$name.ended")" != 0 ]; then
         say "$name isn't proved, so there is nothing to run; of the log $logs/$name.log:"
-        grep -E ': error|it is not proved' "$logs/$name.log" | head -n 5 >&2 || :
+        grep -E 'error(\[|:)|: not proved' "$logs/$name.log" | head -n 5 >&2 || :
         echo ... >&2
         tail -n 10 "$logs/$name.log" >&2 || :
         exit 126
     fi
-    move_kept "$name" "$room/copies/$name" "$top"
     if [ "$name" = itch ]; then
-        touch -r "$room/began" "$made/itch"
-        mv "$made"/itch* "$out"
+        touch -r "$room/began" "$room/itch"
+        mv "$room/itch" "$program"
     fi
-    rm -rf "$room/copies/$name" "$room/$name.ended" "$room/$name.job"
+    rm -f "$room/$name.ended" "$room/$name.job"
     echo "proved $name $(now)" >>"$room/state"
 }
 
@@ -285,7 +292,7 @@ begin_more() {
 # ended.
 prove_all() {
     begin_more
-    while [ "$(grep -c '^proved' "$room/state")" -lt "$count" ]; do
+    while [ "$(grep -c '^proved' "$room/state")" -lt "$left" ]; do
         sleep 0.2 &
         wait "$!"
         for job in "$room"/*.job; do
@@ -300,15 +307,12 @@ prove_all() {
     done
 }
 
-# Ends what is under way, and keeps what the toolchain keeps of it.
+# Ends what is under way.
 clear_room() {
     for job in "$room"/*.job; do
         [ ! -e "$job" ] || kill "$(cat "$job")" 2>/dev/null || :
     done
     wait
-    for copy in "$room/copies"/*; do
-        [ ! -d "$copy" ] || move_kept "${copy##*/}" "$copy" "$top"
-    done
     rm -rf "$room"
 }
 
@@ -331,12 +335,18 @@ build() {
     trap 'exit 131' QUIT
     trap 'exit 141' PIPE
     trap 'exit 143' TERM
+    kit=$(dirname -- "$(rt doc)")
     keep_sources
     plan >"$room/plan"
-    count=$(($(wc -l <"$room/plan")))
-    : >"$room/state"
+    list_sums >"$room/sums"
+    while read -r name rest; do
+        if sums_of "$name" | cmp -s - "$libraries/$name.sum"; then
+            echo "kept $name"
+        fi
+    done <"$room/plan" >"$room/state"
+    left=$(($(wc -l <"$room/plan") - $(wc -l <"$room/state")))
     count_jobs
-    say "proving and building the program: $count crates, jobs at once: $most_jobs; the logs are in $logs"
+    say "proving and building the program: $left crates, jobs at once: $most_jobs; the logs are in $logs"
     say 'a first call took 24 minutes and 67 minutes of processor time on 4 cores of 2.5 GHz'
     say "for a first look at a small file without proof there is $top/look"
     prove_all
@@ -347,7 +357,7 @@ build() {
 
 make_program() {
     is_stale || return 0
-    if ! mkdir -p "$logs" || [ ! -w "$out" ]; then
+    if ! mkdir -p "$logs" "$libraries" || [ ! -w "$out" ]; then
         say "the program is missing or older than its sources, and $out can't be written"
         exit 126
     fi

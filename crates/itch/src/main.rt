@@ -11,11 +11,8 @@ use assembling::assemble;
 use clap::error::ErrorKind;
 use engine_rules::{ProgFault, status};
 use itch_arguments::Task;
-use itch_commands::{
-    Ended, Stop, Terminals, disassemble, disassemble_between, list_stocks, print_order, print_tops,
-    print_trades, show, why,
-};
-use replays::{replay, replay_digits, summarize, watch};
+use itch_commands::{Ended, Reading, Stop, Terminals, read, show, why};
+use replays::{Replaying, replay, replay_digits};
 use sessions::debug;
 use std::env;
 use std::io::{self, IsTerminal};
@@ -80,14 +77,22 @@ where
             file,
             workers,
             progress,
-        } => replay(rt, terminals, file, workers, progress),
-        Task::Summarize { file, workers } => summarize(rt, terminals, file, workers),
-        Task::Disassemble { file } => disassemble(rt, terminals, file),
+        } => replay(rt, terminals, file, workers, Replaying::Report { progress }),
+        Task::Summarize { file, workers } => replay(
+            rt,
+            terminals,
+            file,
+            workers,
+            Replaying::Summary,
+        ),
+        Task::Disassemble { file } => read(rt, terminals, file, Reading::Text),
         Task::DisassembleBetween { file, first, last } => {
-            disassemble_between(rt, terminals, file, first, last)
+            read(rt, terminals, file, Reading::TextBetween { first, last })
         }
-        Task::Stocks { file } => list_stocks(rt, terminals, file),
-        Task::Tops { file, stock, every } => print_tops(rt, terminals, file, stock, every),
+        Task::Stocks { file } => read(rt, terminals, file, Reading::Stocks),
+        Task::Tops { file, stock, every } => {
+            read(rt, terminals, file, Reading::Tops { stock, every })
+        }
         Task::Show {
             file,
             stock,
@@ -99,13 +104,13 @@ where
             file,
             stock,
             reference,
-        } => print_order(rt, terminals, file, stock, reference),
-        Task::Trades { file, stock } => print_trades(rt, terminals, file, stock),
+        } => read(rt, terminals, file, Reading::Order { stock, reference }),
+        Task::Trades { file, stock } => read(rt, terminals, file, Reading::Trades { stock }),
         Task::Watch {
             file,
             stock,
             workers,
-        } => watch(rt, terminals, file, stock, workers),
+        } => replay(rt, terminals, file, workers, Replaying::Screen { stock }),
         Task::Assemble { text, out } => assemble(rt, text, out),
         Task::Debug { file } => debug(rt, terminals, file),
         Task::ReplayDigits => replay_digits(rt, terminals),

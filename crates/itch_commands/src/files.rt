@@ -2,7 +2,7 @@
 use crate::stop::Stop;
 use crate::terminals::Terminals;
 use engine_rules::ProgFault;
-use itch_readings::{StockFault, StockName};
+use itch_readings::StockFault;
 use named_files::{Failure, Named};
 use std::rt::Runtime;
 use std::{fs, io};
@@ -28,8 +28,8 @@ pub fn ended<'a, F: Into<StockFault>, D, W>(
 }
 
 /// How a replay ended, by its input and its output.
-pub fn replayed<'a, D, W>(
-    run: Result<u32, ProgFault>,
+pub fn replayed<'a, F: Into<StockFault>, D, W>(
+    run: Result<u32, F>,
     input: &Named<'a, D>,
     output: &Named<'a, W>,
 ) -> Ended<'a> {
@@ -64,12 +64,4 @@ pub fn open_day<'a, R: Runtime>(
 /// Standard output, to be written.
 pub fn standard_output<R: Print>(rt: &R) -> Named<'static, io::Printer<'_, R>> {
     Named::new("standard output", io::writer(rt))
-}
-
-/// The stock that a word names.
-pub fn named_stock<'a>(word: &str) -> Result<StockName, Stop<'a>> {
-    match StockName::of_word(word) {
-        Some(name) => Ok(name),
-        None => Err(Stop::Fault(StockFault::NoStock, None)),
-    }
 }

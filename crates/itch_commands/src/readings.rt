@@ -1,94 +1,94 @@
-//! What is read of a file's stocks in one pass.
-use crate::files::{Ended, ended, named_stock, open_day, standard_output};
+//! What is read of a file in one pass.
+use crate::files::{Ended, ended, open_day, standard_output};
+use crate::stop::Stop;
 use crate::terminals::Terminals;
 use binaryfile::{Feed, Sink};
-use itch_readings::{Selection, order_run, stock_trades_run, stocks_run, tops_run, trades_run};
+use day_segments::SEGMENT_BYTES;
+use itch_dis::{dis_part_run, dis_stream_run};
+use itch_readings::{
+    Selection, StockFault, StockName, order_run, stock_trades_run, stocks_run, tops_run, trades_run,
+};
+use std::alloc::Global;
+use std::io::{Read, Write};
 use std::rt::Runtime;
 
-/// Lists a file's stocks on standard output.
-pub fn list_stocks<'a, R: Runtime + AllocGlobal>(
-    rt: &R,
-    terminals: Terminals,
-    path: &'a str,
-) -> Ended<'a> {
-    let mut day = open_day(rt, terminals, path)?;
-    let mut output = standard_output(rt);
-    let run = stocks_run(
-        rt.alloc(),
-        &mut Feed::new(&mut day),
-        &mut Sink::new(&mut output),
-    );
-    ended(run, &day, &output)
+/// What one pass over a file writes. A stock is a word of the arguments.
+#[derive(Clone, Copy)]
+pub enum Reading<'a> {
+    /// The file's text.
+    Text,
+    /// The lines of its messages from one number on, to another or to the file's end.
+    TextBetween { first: u32, last: Option<u32> },
+    /// Its stocks.
+    Stocks,
+    /// The best bid and ask of a stock along it: after each of its messages, or where they change.
+    Tops { stock: &'a str, every: bool },
+    /// The life of an order of a stock.
+    Order { stock: &'a str, reference: u64 },
+    /// Its trades, or those of one stock.
+    Trades { stock: Option<&'a str> },
 }
 
-/// Writes the best bid and ask of one of a file's stocks along it on standard output.
-pub fn print_tops<'a, R: Runtime + AllocGlobal>(
-    rt: &R,
-    terminals: Terminals,
-    path: &'a str,
-    stock: &str,
-    every: bool,
-) -> Ended<'a> {
-    let selection = if every {
-        Selection::Every
-    } else {
-        Selection::Changes
-    };
-    let mut day = open_day(rt, terminals, path)?;
-    let name = named_stock(stock)?;
-    let mut output = standard_output(rt);
-    let (mut feed, mut sink) = (Feed::new(&mut day), Sink::new(&mut output));
-    let run = tops_run(rt.alloc(), &mut feed, &mut sink, name, selection);
-    ended(run, &day, &output)
+/// The stock that a word names.
+pub fn named_stock(word: &str) -> Result<StockName, StockFault> {
+    match StockName::of_word(word) {
+        Some(name) => Ok(name),
+        None => Err(StockFault::NoStock),
+    }
 }
 
-/// Writes the life of an order of one of a file's stocks on standard output.
-pub fn print_order<'a, R: Runtime + AllocGlobal>(
-    rt: &R,
-    terminals: Terminals,
-    path: &'a str,
-    stock: &str,
-    reference: u64,
-) -> Ended<'a> {
-    let mut day = open_day(rt, terminals, path)?;
-    let name = named_stock(stock)?;
-    let mut output = standard_output(rt);
-    let (mut feed, mut sink) = (Feed::new(&mut day), Sink::new(&mut output));
-    let run = order_run(rt.alloc(), &mut feed, &mut sink, name, reference);
-    ended(run, &day, &output)
+impl Reading<'_> {
+    // Writes it, of a file that was opened.
+    fn write<R: Read, W: Write>(
+        self,
+        alloc: Global,
+        feed: &mut Feed<R>,
+        sink: &mut Sink<W>,
+    ) -> Result<(), StockFault> {
+        match self {
+            Reading::Text => dis_stream_run(alloc, feed, sink, SEGMENT_BYTES)?,
+            Reading::TextBetween { first, last } => {
+                dis_part_run(alloc, feed, sink, SEGMENT_BYTES, first, last)?
+            }
+            Reading::Stocks => stocks_run(alloc, feed, sink)?,
+            Reading::Tops { stock, every } => {
+                let selection = if every {
+                    Selection::Every
+                } else {
+                    Selection::Changes
+                };
+                tops_run(alloc, feed, sink, named_stock(stock)?, selection)?
+            }
+            Reading::Order { stock, reference } => {
+                order_run(alloc, feed, sink, named_stock(stock)?, reference)?
+            }
+            Reading::Trades { stock: None } => trades_run(alloc, feed, sink)?,
+            Reading::Trades { stock: Some(stock) } => {
+                stock_trades_run(alloc, feed, sink, named_stock(stock)?)?
+            }
+        }
+        Ok(())
+    }
 }
 
-// Writes the trades of one of a file's stocks on standard output.
-fn print_stock_trades<'a, R: Runtime + AllocGlobal>(
+/// Reads a file once, and writes on standard output what is asked of it.
+pub fn read<'a, R: Runtime + AllocGlobal>(
     rt: &R,
     terminals: Terminals,
     path: &'a str,
-    stock: &str,
+    reading: Reading,
 ) -> Ended<'a> {
-    let mut day = open_day(rt, terminals, path)?;
-    let name = named_stock(stock)?;
-    let mut output = standard_output(rt);
-    let (mut feed, mut sink) = (Feed::new(&mut day), Sink::new(&mut output));
-    let run = stock_trades_run(rt.alloc(), &mut feed, &mut sink, name);
-    ended(run, &day, &output)
-}
-
-/// Writes the trades of a file, or of one of its stocks, on standard output.
-pub fn print_trades<'a, R: Runtime + AllocGlobal>(
-    rt: &R,
-    terminals: Terminals,
-    path: &'a str,
-    stock: Option<&str>,
-) -> Ended<'a> {
-    if let Some(stock) = stock {
-        return print_stock_trades(rt, terminals, path, stock);
+    if let Reading::TextBetween {
+        first,
+        last: Some(last),
+    } = reading
+        && last < first
+    {
+        return Err(Stop::Misuse("--to is before --from"));
     }
     let mut day = open_day(rt, terminals, path)?;
     let mut output = standard_output(rt);
-    let run = trades_run(
-        rt.alloc(),
-        &mut Feed::new(&mut day),
-        &mut Sink::new(&mut output),
-    );
+    let (mut feed, mut sink) = (Feed::new(&mut day), Sink::new(&mut output));
+    let run = reading.write(rt.alloc(), &mut feed, &mut sink);
     ended(run, &day, &output)
 }

@@ -1,6 +1,7 @@
 //! A stock at a place of a file.
-use crate::files::{Ended, named_stock, open_day};
+use crate::files::{Ended, open_day};
 use crate::questions::{Question, answer};
+use crate::readings::named_stock;
 use crate::stop::Stop;
 use crate::terminals::Terminals;
 use itch_readings::StockFault;
@@ -39,7 +40,7 @@ pub fn show<'a, R: Runtime + AllocGlobal>(
     let day = open_day(rt, terminals, path)?;
     let name = named_stock(stock)?;
     let Some(place) = place else {
-        return Err(Stop::Fault(StockFault::PastEnd, None));
+        return Err(StockFault::PastEnd.into());
     };
     answer(rt, day, path, Question::Stock(name, place))
 }

@@ -10,3 +10,10 @@ pub enum Stop<'a> {
     /// The arguments can't be meant.
     Misuse(&'a str),
 }
+
+impl From<StockFault> for Stop<'_> {
+    // A fault of no device.
+    fn from(fault: StockFault) -> Self {
+        Stop::Fault(fault, None)
+    }
+}
