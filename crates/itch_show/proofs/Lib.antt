@@ -7,3 +7,4 @@ pub mod Outcomes
 mod OwnParts
 mod ShownFiles
 pub mod TwiceRuns
+pub mod TwoReadings

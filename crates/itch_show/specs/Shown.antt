@@ -1,5 +1,5 @@
 -- A stock at a place of a day, and the outcome of the last message before the place. All is of this project.
-use Rattle.std.specs.Prelude.{◌≡◌, ◌<◌, ◌≤◌, ◌++◌, ℕ, List, [], ◌∷◌, length, Option, Some, None}
+use Rattle.std.specs.Prelude.{◌≡◌, ◌<◌, ◌≤◌, ◌++◌, ℕ, List, [], ◌∷◌, length, MatchOption, Option, Some, None}
 use Rattle.std.specs.Io.KnownBytes.{Consumes}
 use Rattle.byte_strings.specs.Bytes.{AreBytes}
 use Rattle.binaryfile.specs.Entries.{Contents, Splits}
@@ -60,6 +60,13 @@ pub record IsShownAfter (day : List (List ℕ)) (name : StockName) (stock : Stoc
   pub world : stock.world ≡ only stock.locate (after day (length day))
   pub steps : stock.steps ≤ length day
   pub last : IsLastOf day noted
+
+-- a day was read: the number and the payload of its last message, and the machine of the stock that a name stands for
+pub record IsReadTo (day : List (List ℕ)) (name : StockName) (number : ℕ) (payload : List ℕ)
+    (stock : Option (StockMachine × LastOutcome)) : Type 0 where
+  pub number_is : number ≡ length day
+  pub payload_is : payload ≡ payload_at day (length day)
+  pub stock_is : MatchOption stock (StandsForNone day name) (λ found. IsShownAfter day name found.0 found.1)
 
 -- a day begins with these messages
 abbrev pub StartsWith : List (List ℕ) → List (List ℕ) → Type 0

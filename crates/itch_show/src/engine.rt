@@ -4,9 +4,9 @@ ghost use Rattle.binaryfile.specs.Devices.{GaveUpTo, HasFailed};
 ghost use Rattle.engine_rules.specs.declared.fault.ProgFault.TheVariants.{Read as ReadFailed, Write as WriteFailed};
 ghost use Rattle.stock_text.specs.Sessions.{position_words, stock_text};
 ghost use Rattle.itch_show.specs.Engine.{Returns, RunsTwice, file_limits, shown_at};
-ghost use Rattle.itch_show.specs.Parts.{StopsAt};
+ghost use Rattle.itch_show.specs.Parts.{GavePart, StopsAt};
 ghost use Rattle.itch_show.specs.Places.{IsPast, up_to};
-ghost use Rattle.itch_show.specs.Shown.{GaveParts};
+ghost use Rattle.itch_show.specs.Shown.{GaveParts, IsReadTo};
 
 use crate::place::Place;
 use crate::sending::send_made;
@@ -35,6 +35,46 @@ fn text_of<A: Allocator + Copy>(
     let mut text = Vec::new(alloc);
     put_position_line(&mut text, position, outcome)?;
     put_shown_stock(alloc, &mut text, stock)?;
+    Ok(text)
+}
+
+// The text of what was read up to a place of a file, `again` being the same file once more. Its faults are those of
+// [`show_of_file`] after the first reading.
+fn text_at<A: Allocator + Copy, S: Read>(
+    alloc: A,
+    again: &mut Feed<S>,
+    limits: Limits,
+    segment: u32,
+    place: &Place,
+    at: &StockAtPlace<A>,
+) -> Result<Vec<u8, A>, StockFault>
+    requires bytes { limits.bytes ≤ 2 ^ 40 }
+    requires segment { (0 < segment) × (segment ≤ 2 ^ 30) }
+    ensures answer { (name : StockName) (day : List (List ℕ))
+        → IsReadTo day name at.now.last.number at.now.last.payload.items at.now.stock
+        → GavePart (S.remaining again.old.device) (S.remaining again.new.device)
+        (λ input file. up_to place.now file.payloads ≡ day
+        → Returns (shown_at name place.now limits) input file result) }
+    ensures read { IsErrOf result (StockFault.Engine ReadFailed) → HasFailed again.new }
+    ensures not_write { result ≢ Err (StockFault.Engine WriteFailed) }
+    ensures failed { HasFailed again.new
+        → (HasFailed again.old ⊎ IsErrOf result (StockFault.Engine ReadFailed)) }
+    ensures for_good { HasFailed again.old → again.new ≡ again.old }
+    ensures taken { GaveUpTo (S.remaining again.old.device) (S.remaining again.new.device)
+        (limits.bytes + 1) }
+{
+    // A law that the proof cites: it does nothing.
+    own_rows_suffice();
+    if place.is_past(at.last.number) {
+        return Err(StockFault::PastEnd);
+    }
+    let Some((stock, noted)) = &at.stock else {
+        return Err(StockFault::NoStock);
+    };
+    let Some(outcome) = last_outcome(alloc, again, limits, segment, *noted, &at.last)? else {
+        return Err(StockFault::Changed);
+    };
+    let text = text_of(alloc, at.last.number, outcome, stock)?;
     Ok(text)
 }
 
@@ -74,20 +114,8 @@ pub fn show_of_file<A: Allocator + Copy, R: Read, S: Read>(
     ensures taken_again { GaveUpTo (S.remaining again.old.device) (S.remaining again.new.device)
         (limits.bytes + 1) }
 {
-    // A law that the proof cites: it does nothing.
-    own_rows_suffice();
-    let StockAtPlace { last, stock } = stock_at_place(alloc, feed, limits, segment, name, &place)?;
-    if place.is_past(last.number) {
-        return Err(StockFault::PastEnd);
-    }
-    let Some((stock, noted)) = stock else {
-        return Err(StockFault::NoStock);
-    };
-    let Some(outcome) = last_outcome(alloc, again, limits, segment, noted, &last)? else {
-        return Err(StockFault::Changed);
-    };
-    let text = text_of(alloc, last.number, outcome, &stock)?;
-    Ok(text)
+    let at = stock_at_place(alloc, feed, limits, segment, name, &place)?;
+    text_at(alloc, again, limits, segment, &place, &at)
 }
 
 /// Reads a day file up to a place and writes what a debugging session prints of a stock there: the line of the position, with

@@ -1,9 +1,7 @@
--- What is returned of a message of a file that two readers gave.
+-- What is returned of a message of a file, of which the first reading is known.
 use Rattle.std.proofs.Common.{◌≡◌, ℕ, ◌-◌, ◌<◌, ◌≤◌, List, [], ◌++◌, length, take, drop, Some, None, sym, ap, subst, ◌∙◌, arith}
 use Rattle.std.specs.Prelude.{Option, Vec}
-use Rattle.std.proofs.KnownBytes.{Consumes-nil}
 use Rattle.std.proofs.lemmas.List.{length-take, take-append-drop}
-use Rattle.binaryfile.specs.Entries.{Contents}
 use Rattle.binaryfile.specs.declared.day.Limits.{Limits}
 use Rattle.binaryfile.specs.declared.load.LoadFault.{LoadFault}
 use Rattle.engine_rules.specs.FaultOrigins.{fault_of_load}
@@ -13,11 +11,11 @@ use Rattle.itch_readings.specs.Noting.{Noting}
 use Rattle.itch_readings.specs.OwnMessages.{own_from}
 use Rattle.itch_readings.specs.declared.fault.StockFault.TheVariants.{PastEnd, Changed, Engine}
 use Rattle.itch_show.specs.Before.{IsBefore}
-use Rattle.itch_show.specs.Parts.{Exceeds, GavePart, HasReadUpTo}
+use Rattle.itch_show.specs.Parts.{Exceeds, GavePart}
 use Rattle.itch_show.specs.Places.{up_to}
-use Rattle.itch_show.specs.Shown.{GaveParts}
 use Rattle.itch_show.specs.declared.place.Place.TheVariants.{After}
 use Rattle.itch_show.proofs.Outcomes.{after_taken}
+use Rattle.itch_show.proofs.TwoReadings.{gave_nothing}
 use Rattle.itch_table.specs.declared.outcome.Outcome.{Outcome}
 use Rattle.itch_table.specs.declared.outcome.Part.{Part}
 use Rattle.itch_table.specs.declared.outcome.Part.TheVariants.{Locate, Nowhere}
@@ -29,7 +27,7 @@ use Rattle.itch_table.specs.World.{World}
 use Rattle.itch_table.proofs.StockDays.{outcomes_stay_fixed}
 use Rattle.stock_machine.specs.StockRows.{StockMachine}
 use Rattle.itch_why.proofs.OwnLines.{own_lines-only}
-use Rattle.itch_why.specs.Why.{IsOwnText, PrintsWhy, RefusesWhy, earlier_lines, message_lines, nothing_before, own_lines, why_by, why_text}
+use Rattle.itch_why.specs.Why.{IsOwnText, IsReadUpTo, PrintsWhy, RefusesWhy, earlier_lines, message_lines, nothing_before, own_lines, why_by, why_text}
 use Rattle.itch_why.specs.declared.earlier.EarlierLines.{EarlierLines}
 
 -- the lines of the earlier messages
@@ -67,97 +65,66 @@ pub none_is : {A : Type 0} (first : EarlierLines A) (start now : Option (List �
 none_is first start now locate n payload gave =
     record { given = gave.given; gave = gave.gave; each = λ input file are split begins within. omega (arith, within, gave.each input file are split begins) }
 
-module _ (n : ℕ) (limits : Limits) (old new again : Option (List ℕ)) where
-  pub first_stopped : (fault : LoadFault) → GavePart old new (Exceeds limits (fault_of_load fault))
-      → GaveParts old new again again (λ input file. RefusesWhy n limits input file (Engine (fault_of_load fault)))
-  first_stopped fault stopped = record {
+module _ (n : ℕ) (limits : Limits) (again : Option (List ℕ)) (day : List (List ℕ)) (number : ℕ) (payload : List ℕ)
+    (read : IsReadUpTo day n number payload) where
+  pub past_end : (0 < n → number < n)
+      → GavePart again again (λ input file. up_to (After n) file.payloads ≡ day → RefusesWhy n limits input file PastEnd)
+  past_end few = gave_nothing again _ (λ input file cut some.
+      omega (arith, few some, read.number_is, ap length cut, length-take n file.payloads))
+
+  pub second_stopped : (later : Option (List ℕ)) (fault : LoadFault) → GavePart again later (Exceeds limits (fault_of_load fault))
+      → GavePart again later (λ input file. up_to (After n) file.payloads ≡ day → RefusesWhy n limits input file (Engine (fault_of_load fault)))
+  second_stopped later fault stopped = record {
     given = stopped.given;
     gave = stopped.gave;
-    again = [];
-    gave_again = Consumes-nil again;
-    each = λ input file are split begins second. stopped.each input file are split begins;
+    each = λ input file are split begins cut. stopped.each input file are split begins;
   }
 
-  module _ (number : ℕ) (payload : List ℕ) (Holds : List (List ℕ) → Type 0) (read : HasReadUpTo old new limits (After n) number payload Holds) where
-    pub past_end : (0 < n → number < n) → GaveParts old new again again (λ input file. RefusesWhy n limits input file PastEnd)
-    past_end few = record {
-      given = read.part.given;
-      gave = read.part.gave;
-      again = [];
-      gave_again = Consumes-nil again;
-      each = λ input file are split begins second some.
-          omega (arith, few some, read.number_is, ap length (read.part.each input file are split begins), length-take n file.payloads);
-    }
+  module _ (some : 0 < n) (enough : n ≤ number) where
+    same : number ≡ n
+    same = omega (arith, enough, read.number_is, read.comes_up)
 
-    module _ (after_it : Option (List ℕ)) where
-      pub second_stopped : (fault : LoadFault) → GavePart again after_it (Exceeds limits (fault_of_load fault))
-          → GaveParts old new again after_it (λ input file. RefusesWhy n limits input file (Engine (fault_of_load fault)))
-      second_stopped fault stopped = record {
-        given = read.part.given;
-        gave = read.part.gave;
-        again = stopped.given;
-        gave_again = stopped.gave;
-        each = λ input file are split begins second. stopped.each input file are split second;
+    has : (file : List (List ℕ)) → up_to (After n) file ≡ day → n ≤ length file
+    has file cut = omega (arith, enough, read.number_is, ap length cut, length-take n file)
+
+    there : (file : List (List ℕ)) → up_to (After n) file ≡ day → payload ≡ payload_at file n
+    there file cut =
+        read.payload_is ∙ (λ i. payload_at (sym cut i) (sym read.number_is i)) ∙ ap (payload_at (take n file)) same
+        ∙ sym (payload_more (take n file) (drop n file) n some (omega (arith, has file cut, length-take n file)))
+        ∙ ap (λ (all : List (List ℕ)). payload_at all n) (take-append-drop n file)
+
+    pub of_no_stock : (fixed : Outcome) (text : List ℕ) → part payload ≡ Nowhere fixed → text ≡ message_lines number fixed payload nothing_before
+        → GavePart again again (λ _ file. up_to (After n) file.payloads ≡ day → PrintsWhy n text file.payloads)
+    of_no_stock fixed text none made = gave_nothing again _ (λ input file cut.
+        let all = file.payloads in
+        let is : part (payload_at all n) ≡ Nowhere fixed = ap part (sym (there all cut)) ∙ none in
+        record {
+          some = some;
+          within = has all cut;
+          printed = made ∙ (λ i. message_lines (same i) (sym (outcomes_stay_fixed all n fixed is) i) (there all cut i) nothing_before)
+              ∙ ap (λ (p : Part). why_by p all n) (sym is);
+        })
+
+    module _ (later : Option (List ℕ)) where
+      pub changed : (A : Type 0) → GavePart again later (IsOwnText {A = A} number payload None)
+          → GavePart again later (λ input file. up_to (After n) file.payloads ≡ day → RefusesWhy n limits input file Changed)
+      changed A part = record {
+        given = part.given;
+        gave = part.gave;
+        each = λ input file are split begins cut. part.each input file are split begins (omega (arith, same, has file.payloads cut));
       }
 
-    module _ (some : 0 < n) (enough : n ≤ number) where
-      pub same : number ≡ n
-      same = omega (arith, enough, read.number_is, read.comes_up)
-
-      has : (file : List (List ℕ)) → up_to (After n) file ≡ read.day → n ≤ length file
-      has file cut = omega (arith, enough, read.number_is, ap length cut, length-take n file)
-
-      there : (file : List (List ℕ)) → up_to (After n) file ≡ read.day → payload ≡ payload_at file n
-      there file cut =
-          read.payload_is ∙ (λ i. payload_at (sym cut i) (sym read.number_is i)) ∙ ap (payload_at (take n file)) same
-          ∙ sym (payload_more (take n file) (drop n file) n some (omega (arith, has file cut, length-take n file)))
-          ∙ ap (λ (day : List (List ℕ)). payload_at day n) (take-append-drop n file)
-
-      pub of_no_stock : (fixed : Outcome) (text : List ℕ) → part payload ≡ Nowhere fixed → text ≡ message_lines number fixed payload nothing_before
-          → GaveParts old new again again (λ _ file. PrintsWhy n text file.payloads)
-      of_no_stock fixed text none made = record {
-        given = read.part.given;
-        gave = read.part.gave;
-        again = [];
-        gave_again = Consumes-nil again;
-        each = λ input file are split begins second.
-            let day = file.payloads in
-            let cut = read.part.each input file are split begins in
-            let is : part (payload_at day n) ≡ Nowhere fixed = ap part (sym (there day cut)) ∙ none in
+      pub of_stock : {A : Type 0} (text : Vec ℕ A) → GavePart again later (IsOwnText number payload (Some text))
+          → GavePart again later (λ _ file. up_to (After n) file.payloads ≡ day → PrintsWhy n text.items file.payloads)
+      of_stock text part = record {
+        given = part.given;
+        gave = part.gave;
+        each = λ input file are split begins cut.
+            let all = file.payloads in
             record {
               some = some;
-              within = has day cut;
-              printed = made ∙ (λ i. message_lines (same i) (sym (outcomes_stay_fixed day n fixed is) i) (there day cut i) nothing_before)
-                  ∙ ap (λ (p : Part). why_by p day n) (sym is);
+              within = has all cut;
+              printed = part.each input file are split begins (omega (arith, same, has all cut)) (there all cut ∙ ap (payload_at all) (sym same))
+                  ∙ ap (why_text all) same;
             };
       }
-
-      module _ (after_it : Option (List ℕ)) where
-        pub changed : (A : Type 0) → GavePart again after_it (IsOwnText {A = A} number payload None)
-            → GaveParts old new again after_it (λ input file. RefusesWhy n limits input file Changed)
-        changed A gave_again = record {
-          given = read.part.given;
-          gave = read.part.gave;
-          again = gave_again.given;
-          gave_again = gave_again.gave;
-          each = λ input file are split begins second.
-              gave_again.each input file are split second (omega (arith, same, has file.payloads (read.part.each input file are split begins)));
-        }
-
-        pub of_stock : {A : Type 0} (text : Vec ℕ A) → GavePart again after_it (IsOwnText number payload (Some text))
-            → GaveParts old new again after_it (λ _ file. PrintsWhy n text.items file.payloads)
-        of_stock text gave_again = record {
-          given = read.part.given;
-          gave = read.part.gave;
-          again = gave_again.given;
-          gave_again = gave_again.gave;
-          each = λ input file are split begins second.
-              let day = file.payloads in
-              let cut = read.part.each input file are split begins in
-              record {
-                some = some;
-                within = has day cut;
-                printed = gave_again.each input file are split second (omega (arith, same, has day cut)) (there day cut ∙ ap (payload_at day) (sym same))
-                    ∙ ap (why_text day) same;
-              };
-        }

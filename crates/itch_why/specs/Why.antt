@@ -164,6 +164,12 @@ pub record PrintsWhy (n : ℕ) (text : List ℕ) (day : List (List ℕ)) : Type 
   pub within : n ≤ length day
   pub printed : text ≡ why_text day n
 
+-- a day was read up to message n: the number and the payload of its last message
+pub record IsReadUpTo (day : List (List ℕ)) (n number : ℕ) (payload : List ℕ) : Type 0 where
+  pub number_is : number ≡ length day
+  pub payload_is : payload ≡ payload_at day (length day)
+  pub comes_up : length day ≤ n
+
 -- of a file whose message n has this payload, a message of a stock: the text, none where a file hasn't that message
 abbrev pub IsOwnText : {A : Type 0} → ℕ → List ℕ → Option (Vec ℕ A) → List ℕ → Contents
     → Type 0

@@ -1,15 +1,16 @@
 //! The engine that says what became of a message, and why.
-ghost use Rattle.std.specs.Prelude.{◌≡◌, ◌≢◌, ◌⊎◌, ◌+◌, ◌<◌, ◌≤◌, ◌^◌, ◌↔◌, Err, IfErr, IfOk, IsErrOf, IsOk};
+ghost use Rattle.std.specs.Prelude.{◌≡◌, ◌≢◌, ◌⊎◌, ◌+◌, ◌<◌, ◌≤◌, ◌^◌, ◌↔◌, Err, IfErr, IfOk, IsErrOf, IsOk, List, ℕ};
 ghost use Rattle.binaryfile.specs.Devices.{GaveUpTo, HasFailed};
 ghost use Rattle.engine_rules.specs.declared.fault.ProgFault.TheVariants.{Read as ReadFailed, Write as WriteFailed};
 ghost use Rattle.itch_show.specs.Engine.{Returns, RunsTwice, file_limits};
 ghost use Rattle.engine_rules.specs.FaultOrigins.{fault_of_load};
 ghost use Rattle.itch_show.specs.Parts.{Exceeds, GavePart, StopsAt};
 ghost use Rattle.itch_show.specs.declared.place.Place.TheVariants.{After};
+ghost use Rattle.itch_show.specs.Places.{up_to};
 ghost use Rattle.itch_show.specs.Shown.{GaveParts};
 ghost use Rattle.itch_table.specs.Parts.{part};
 ghost use Rattle.itch_table.specs.declared.outcome.Part.{Part};
-ghost use Rattle.itch_why.specs.Why.{IsOwnText, why};
+ghost use Rattle.itch_why.specs.Why.{IsOwnText, IsReadUpTo, why};
 
 use crate::earlier::EarlierLines;
 use crate::lines::{message_text, own_text};
@@ -72,6 +73,49 @@ fn text_again<A: Allocator + Copy, S: Read>(
     Ok(Some(text))
 }
 
+// The text of the last message that was read, where that is message `number`, `again` being the same file once more. Its faults
+// are those of [`why_of_file`] after the first reading.
+fn text_of_last<A: Allocator + Copy, S: Read>(
+    alloc: A,
+    again: &mut Feed<S>,
+    limits: Limits,
+    segment: u32,
+    number: u32,
+    last: &LastMessage<A>,
+) -> Result<Vec<u8, A>, StockFault>
+    requires bytes { limits.bytes ≤ 2 ^ 40 }
+    requires segment { (0 < segment) × (segment ≤ 2 ^ 30) }
+    ensures answer { (day : List (List ℕ)) → IsReadUpTo day number last.now.number last.now.payload.items
+        → GavePart (S.remaining again.old.device) (S.remaining again.new.device)
+        (λ input file. up_to (After number) file.payloads ≡ day
+        → Returns (why number limits) input file result) }
+    ensures read { IsErrOf result (StockFault.Engine ReadFailed) → HasFailed again.new }
+    ensures not_write { result ≢ Err (StockFault.Engine WriteFailed) }
+    ensures failed { HasFailed again.new
+        → (HasFailed again.old ⊎ IsErrOf result (StockFault.Engine ReadFailed)) }
+    ensures for_good { HasFailed again.old → again.new ≡ again.old }
+    ensures taken { GaveUpTo (S.remaining again.old.device) (S.remaining again.new.device)
+        (limits.bytes + 1) }
+{
+    // A law that the proof cites: it does nothing.
+    stocks_are_independent();
+    if number == 0 || last.number < number {
+        return Err(StockFault::PastEnd);
+    }
+    let locate = match part(&last.payload) {
+        Part::Locate(locate) => locate,
+        Part::Nowhere(outcome) => {
+            let text = message_text(alloc, last.number, outcome, &last.payload)?;
+            return Ok(text);
+        }
+    };
+    let made = text_again(alloc, again, limits, segment, locate, last)?;
+    let Some(text) = made else {
+        return Err(StockFault::Changed);
+    };
+    Ok(text)
+}
+
 /// The text that [`why_run`] writes, of a file within the limits. `segment` is how many bytes a segment takes, 1 to 2^30.
 ///
 /// In the course of reading the first of these is returned, where `feed` or `again` comes to it: [`ProgFault::Read`] where it
@@ -107,25 +151,9 @@ pub fn why_of_file<A: Allocator + Copy, R: Read, S: Read>(
     ensures taken_again { GaveUpTo (S.remaining again.old.device) (S.remaining again.new.device)
         (limits.bytes + 1) }
 {
-    // A law that the proof cites: it does nothing.
-    stocks_are_independent();
     let place = Place::After(number);
     let last = read_up_to(alloc, feed, limits, segment, &place, &mut TakesNone)?;
-    if number == 0 || last.number < number {
-        return Err(StockFault::PastEnd);
-    }
-    let locate = match part(&last.payload) {
-        Part::Locate(locate) => locate,
-        Part::Nowhere(outcome) => {
-            let text = message_text(alloc, last.number, outcome, &last.payload)?;
-            return Ok(text);
-        }
-    };
-    let made = text_again(alloc, again, limits, segment, locate, &last)?;
-    let Some(text) = made else {
-        return Err(StockFault::Changed);
-    };
-    Ok(text)
+    text_of_last(alloc, again, limits, segment, number, &last)
 }
 
 /// Reads a day file and writes what became of message `number`, counted from 1, and why:
