@@ -13,8 +13,8 @@
 out=$top/crates/itch/out
 program=$out/itch
 logs=$out/logs
-# The libraries of crates that are proved, with sums of what each was made of.
-libraries=$out/libraries
+# The libraries of crates that are proved, with sums of what each was made of. `rt ci` leaves a folder of this name alone.
+libraries=$out/rlib
 # What a call under way needs: the sources as they were, and lists.
 room=$out/proving
 # The most memory that a job takes, in KiB: 0.7 to 2.8 GB were seen.
@@ -97,11 +97,12 @@ list_sums() {
     done
 }
 
-# sums_of NAME : the sums of a crate and of all crates below it.
+# sums_of NAME : the sums of a crate and of all crates below it, and of the program that was made of them.
 sums_of() {
     awk -v name="$1" '
         FNR == NR { if ($1 == name) for (at = 4; at <= NF; at++) is_below[$at] = 1; next }
         $1 == name || $1 in is_below' "$room/plan" "$room/sums"
+    [ "$1" != itch ] || [ ! -e "$program" ] || sha256sum <"$program"
 }
 
 # A line for each crate: its name, how long it is, how long the longest chain is from it up to the program, and all crates
@@ -241,11 +242,13 @@ prove() {
     if [ "$name" = itch ]; then
         run_prover build --crate-name "$name" src/main.rt "$@" --toolchain "$kit/toolchain" -o "$room/itch.o" || return
         "$kit/bin/rattle-link" --target x86_64-unknown-linux-gnu --toolchain "$kit/toolchain" -o "$room/itch" \
-            "$room/itch.o" "$kit/c/libos_c.a" "$kit/c/liblibc_c.a" >>"$logs/$name.log" 2>&1
+            "$room/itch.o" "$kit/c/libos_c.a" "$kit/c/liblibc_c.a" >>"$logs/$name.log" 2>&1 || return
+        touch -r "$room/began" "$room/itch"
+        mv "$room/itch" "$program"
     else
         run_prover build --crate-name "$name" src/lib.rt "$@" --statements -o "$libraries/$name.rlib" || return
-        sums_of "$name" >"$libraries/$name.sum"
     fi
+    sums_of "$name" >"$libraries/$name.sum"
 }
 
 # begin NAME JOBS : proves a crate beside others. Its status is there when it has ended.
@@ -270,10 +273,6 @@ take_over() {
         echo ... >&2
         tail -n 10 "$logs/$name.log" >&2 || :
         exit 126
-    fi
-    if [ "$name" = itch ]; then
-        touch -r "$room/began" "$room/itch"
-        mv "$room/itch" "$program"
     fi
     rm -f "$room/$name.ended" "$room/$name.job"
     echo "proved $name $(now)" >>"$room/state"
@@ -345,14 +344,19 @@ build() {
         fi
     done <"$room/plan" >"$room/state"
     left=$(($(wc -l <"$room/plan") - $(wc -l <"$room/state")))
-    count_jobs
-    say "proving and building the program: $left crates, jobs at once: $most_jobs; the logs are in $logs"
-    say 'a first call took 24 minutes and 67 minutes of processor time on 4 cores of 2.5 GHz'
-    say "for a first look at a small file without proof there is $top/look"
-    prove_all
+    if [ "$left" = 0 ]; then
+        # Only dates have changed.
+        touch -r "$room/began" "$program"
+    else
+        count_jobs
+        say "proving and building the program: $left crates, jobs at once: $most_jobs; the logs are in $logs"
+        say 'a first call took 24 minutes and 67 minutes of processor time on 4 cores of 2.5 GHz'
+        say "for a first look at a small file without proof there is $top/look"
+        prove_all
+        say "proved and built in $(($(now) - start)) s"
+    fi
     clear_room
     trap - EXIT HUP INT QUIT PIPE TERM
-    say "proved and built in $(($(now) - start)) s"
 }
 
 make_program() {
