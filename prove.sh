@@ -350,7 +350,7 @@ build() {
     else
         count_jobs
         say "proving and building the program: $left crates, jobs at once: $most_jobs; the logs are in $logs"
-        say 'a first call took 24 minutes and 67 minutes of processor time on 4 cores of 2.5 GHz'
+        say 'a first call took 24 to 34 minutes and 67 to 106 minutes of processor time on 4 cores of 2.5 GHz'
         say "for a first look at a small file without proof there is $top/look"
         prove_all
         say "proved and built in $(($(now) - start)) s"
