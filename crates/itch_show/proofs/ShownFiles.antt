@@ -1,5 +1,5 @@
 -- What is returned of a file that two readers gave, the second of which has it once more.
-use Rattle.std.proofs.Common.{◌≡◌, ℕ, true, false, List, [], ◌++◌, length, Some, None, sym, ap, subst, ◌∙◌, arith}
+use Rattle.std.proofs.Common.{◌≡◌, ℕ, true, false, List, ◌++◌, length, Some, None, sym, ap, subst, ◌∙◌, arith}
 use Rattle.std.specs.Prelude.{Option, codes}
 use Rattle.binaryfile.specs.declared.day.Limits.{Limits}
 use Rattle.binaryfile.specs.declared.load.LoadFault.{LoadFault}

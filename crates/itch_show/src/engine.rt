@@ -1,11 +1,11 @@
 //! The engine that shows a stock at a place of a day file.
-ghost use Rattle.std.specs.Prelude.{◌≡◌, ◌≢◌, ◌⊎◌, Err, ◌+◌, ◌<◌, ◌≤◌, ◌^◌, ◌++◌, ◌↔◌, IfOk, IsErrOf, IsOk, IsTrue, List, codes, length, ℕ};
+ghost use Rattle.std.specs.Prelude.{◌≡◌, ◌≢◌, ◌⊎◌, Err, ◌+◌, ◌<◌, ◌≤◌, ◌^◌, ◌++◌, ◌↔◌, IfOk, IsErrOf, IsOk, List, codes, length, ℕ};
 ghost use Rattle.binaryfile.specs.Devices.{GaveUpTo, HasFailed};
 ghost use Rattle.engine_rules.specs.declared.fault.ProgFault.TheVariants.{Read as ReadFailed, Write as WriteFailed};
 ghost use Rattle.stock_text.specs.Sessions.{position_words, stock_text};
 ghost use Rattle.itch_show.specs.Engine.{Returns, RunsTwice, file_limits, shown_at};
 ghost use Rattle.itch_show.specs.Parts.{GavePart, StopsAt};
-ghost use Rattle.itch_show.specs.Places.{IsPast, up_to};
+ghost use Rattle.itch_show.specs.Places.{up_to};
 ghost use Rattle.itch_show.specs.Shown.{GaveParts, IsReadTo};
 
 use crate::place::Place;

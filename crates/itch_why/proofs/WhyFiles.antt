@@ -1,5 +1,5 @@
 -- What is returned of a message of a file, of which the first reading is known.
-use Rattle.std.proofs.Common.{◌≡◌, ℕ, ◌-◌, ◌<◌, ◌≤◌, List, [], ◌++◌, length, take, drop, Some, None, sym, ap, subst, ◌∙◌, arith}
+use Rattle.std.proofs.Common.{◌≡◌, ℕ, ◌-◌, ◌<◌, ◌≤◌, List, length, take, drop, Some, None, sym, ap, ◌∙◌, arith}
 use Rattle.std.specs.Prelude.{Option, Vec}
 use Rattle.std.proofs.lemmas.List.{length-take, take-append-drop}
 use Rattle.binaryfile.specs.declared.day.Limits.{Limits}

@@ -1,4 +1,4 @@
-use Rattle.std.proofs.Common.{◌∙◌, ap, subst, sym}
+use Rattle.std.proofs.Common.{◌∙◌, ap, subst}
 use Rattle.itch_show.specs.Before.{IsBefore}
 use Rattle.itch_show.specs.Parts.{GavePart}
 use Rattle.itch_layouts.specs.Shapes.{shape_of}
