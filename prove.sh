@@ -13,7 +13,8 @@
 out=$top/crates/itch/out
 program=$out/itch
 logs=$out/logs
-# The libraries of crates that are proved, with sums of what each was made of. `rt ci` leaves a folder of this name alone.
+# The libraries of crates that are proved, a folder each, with sums of what it was made of. `rt ci` puts a folder of this name
+# back; `rt verdict` in crates/itch removes it, and all is proved again.
 libraries=$out/rlib
 # What a call under way needs: the sources as they were, and lists.
 room=$out/proving
@@ -24,11 +25,17 @@ say() {
     printf 'itch: %s\n' "$*" >&2
 }
 
+# stop WORD.. : says why nothing can be built, and ends.
+stop() {
+    say "$@"
+    exit 126
+}
+
 now() {
     date +%s
 }
 
-# The crates that the program stands on, and its own.
+# crates_of_program FILE : the crates that the program stands on, and its own, by a list of crates.
 crates_of_program() {
     awk '
         /^[a-z]/ { sub(/#.*/, ""); split($0, line, ":"); split(line[1], name, " "); uses[name[1]] = line[2] }
@@ -43,13 +50,13 @@ crates_of_program() {
                         delete uses[names[at]]
                     }
             }
-        }' "$top/crates.txt"
+        }' "$1"
 }
 
 # Whether the program is missing, or a source was changed after the build began that made it.
 is_stale() {
     [ -x "$program" ] || return 0
-    [ -n "$(cd "$top/crates" && find ../crates.txt $(crates_of_program) \( -name out -o -name must-fail \) -prune -o \
+    [ -n "$(cd "$top/crates" && find ../crates.txt $(crates_of_program ../crates.txt) \( -name out -o -name must-fail \) -prune -o \
         \( -name crates.txt -o -name '*.rt' -o -name '*.antt' \) -newer "$program" -print -quit)" ]
 }
 
@@ -63,32 +70,36 @@ wait_for_others() {
     }
 }
 
-# Keeps the sources as they are now.
+# Keeps the sources as they are now, which are plain files and folders.
 keep_sources() {
     mkdir -p "$room/sources/crates"
     : >"$room/began"
     cp "$top/crates.txt" "$room/sources"
-    for crate in $(crates_of_program); do
+    list=$room/sources/crates.txt
+    for crate in $(crates_of_program "$list"); do
         mkdir "$room/sources/crates/$crate"
         for part in src specs proofs; do
             [ ! -d "$top/crates/$crate/$part" ] || cp -R "$top/crates/$crate/$part" "$room/sources/crates/$crate"
         done
     done
+    other=$(find "$room/sources" ! -type f ! -type d -print)
+    [ -z "$other" ] || stop "no plain file or folder: $other"
 }
 
 # uses_of NAME : the libraries that a crate names.
 uses_of() {
     awk -v name="$1" '{ sub(/#.*/, ""); split($0, line, ":"); split(line[1], words, " ") } words[1] == name { print line[2] }' \
-        "$room/sources/crates.txt"
+        "$list"
 }
 
 # A line for each crate: its name, and a sum of the toolchain, of the libraries that it names and of its sources.
 list_sums() {
-    for crate in $(crates_of_program); do
+    version=$(rt version)
+    for crate in $(crates_of_program "$list"); do
         sum=$(
             cd "$room/sources/crates/$crate"
             {
-                rt version
+                echo "$version"
                 uses_of "$crate"
                 find . -type f -exec sha256sum {} + | LC_ALL=C sort -k 2
             } | sha256sum
@@ -97,19 +108,35 @@ list_sums() {
     done
 }
 
-# sums_of NAME : the sums of a crate and of all crates below it, and of the program that was made of them.
+# below NAME : the crates below a crate.
+below() {
+    awk -v name="$1" '$1 == name { $1 = $2 = $3 = ""; print }' "$room/plan"
+}
+
+# sums_of NAME : the sums of a crate and of all crates below it.
 sums_of() {
-    awk -v name="$1" '
-        FNR == NR { if ($1 == name) for (at = 4; at <= NF; at++) is_below[$at] = 1; next }
-        $1 == name || $1 in is_below' "$room/plan" "$room/sums"
-    [ "$1" != itch ] || [ ! -e "$program" ] || sha256sum <"$program"
+    awk -v names=" $1 $(below "$1") " 'index(names, " " $1 " ")' "$room/sums" | LC_ALL=C sort
+}
+
+# sum_of_made NAME : what was made of a crate, so that nothing else is taken for it: the program, or that there is a library.
+sum_of_made() {
+    if [ "$1" = itch ]; then
+        [ ! -e "$program" ] || sha256sum <"$program"
+    elif [ -d "$libraries/$1/$1.rlib" ]; then
+        echo library
+    fi
+}
+
+# is_kept NAME : whether a crate was proved as it is now, with all below it.
+is_kept() {
+    { sums_of "$1"; sum_of_made "$1"; } | cmp -s - "$libraries/$1/sums"
 }
 
 # A line for each crate: its name, how long it is, how long the longest chain is from it up to the program, and all crates
 # below it; the longest chain first. A crate is as long as its lines, 400 more, and 200 for each crate below it, whose
 # contracts its proofs load: so long as each took to be proved.
 plan() {
-    for crate in $(crates_of_program); do
+    for crate in $(crates_of_program "$list"); do
         echo "$crate $(find "$room/sources/crates/$crate" -type f -exec cat {} + | wc -l)"
     done | awk '
         FNR == NR { lines[$1] = $2; next }
@@ -146,7 +173,7 @@ plan() {
             }
             for (crate in lines)
                 printf "%s %d %d%s\n", crate, length_of[crate], chain_of(crate), below[crate]
-        }' - "$room/sources/crates.txt" | sort -k 3,3nr
+        }' - "$list" | sort -k 3,3nr
 }
 
 # schedule WORD : by the plan and what is kept, has begun and ended, 'next' prints a crate to begin now, if there is one, with
@@ -212,8 +239,8 @@ count_jobs() {
     [ "$most_jobs" -ge 1 ] || most_jobs=1
 }
 
-# run_prover WORD.. : calls the prover, in a group of its own, where that can be had, so that all that it starts ends with it.
-run_prover() {
+# call_prover WORD.. : calls the prover, in a group of its own, where that can be had, so that all that it starts ends with it.
+call_prover() {
     if command -v setsid >/dev/null; then
         setsid "$kit/bin/rattle" "$@" >"$logs/$name.log" 2>&1 </dev/null &
         work=-$!
@@ -224,31 +251,44 @@ run_prover() {
     wait "$!"
 }
 
+# run_prover WORD.. : has the prover build by $jobs jobs, and where it was killed, as for memory, once more by one.
+run_prover() {
+    ended=0
+    call_prover build --crate-name "$name" "$@" --jobs "$jobs" || ended=$?
+    [ "$ended" = 137 ] && [ "$jobs" -gt 1 ] || return "$ended"
+    call_prover build --crate-name "$name" "$@" --jobs 1
+}
+
 # prove NAME JOBS : proves a crate, which is $name, and makes its library, or the program.
 prove() {
-    rm -f "$libraries/$name.sum"
-    cd "$room/sources/crates/$name"
+    made=$libraries/$name
+    rm -rf "$made"
+    mkdir "$made"
+    sums=$(sums_of "$name")
     jobs=$2
-    set -- --extern "std=$kit/rlibs/std.rlib"
+    cd "$room/sources/crates/$name"
+    set -- --extern "std=$kit/rlibs/std.rlib" -L "dependency=$kit/rlibs"
     for used in $(uses_of "$name"); do
         if [ -d "$room/sources/crates/$used" ]; then
-            set -- "$@" --extern "$used=$libraries/$used.rlib"
+            set -- "$@" --extern "$used=$libraries/$used/$used.rlib"
         else
             set -- "$@" --extern "$used=$kit/rlibs/$used.rlib"
         fi
     done
-    set -- "$@" -L "dependency=$kit/rlibs" -L "dependency=$libraries" --links "$name=" --jobs "$jobs" \
-        --antt-project "$kit/rattle/logic/antt-project.json" --logic-built "$kit/logic_built"
+    for crate in $(below "$name"); do
+        set -- "$@" -L "dependency=$libraries/$crate"
+    done
+    set -- "$@" --links "$name=" --antt-project "$kit/rattle/logic/antt-project.json" --logic-built "$kit/logic_built"
     if [ "$name" = itch ]; then
-        run_prover build --crate-name "$name" src/main.rt "$@" --toolchain "$kit/toolchain" -o "$room/itch.o" || return
+        run_prover src/main.rt "$@" --toolchain "$kit/toolchain" -o "$room/itch.o" || return
         "$kit/bin/rattle-link" --target x86_64-unknown-linux-gnu --toolchain "$kit/toolchain" -o "$room/itch" \
             "$room/itch.o" "$kit/c/libos_c.a" "$kit/c/liblibc_c.a" >>"$logs/$name.log" 2>&1 || return
         touch -r "$room/began" "$room/itch"
         mv "$room/itch" "$program"
     else
-        run_prover build --crate-name "$name" src/lib.rt "$@" --statements -o "$libraries/$name.rlib" || return
+        run_prover src/lib.rt "$@" --statements -o "$made/$name.rlib" || return
     fi
-    sums_of "$name" >"$libraries/$name.sum"
+    { echo "$sums"; sum_of_made "$name"; } >"$made/sums"
 }
 
 # begin NAME JOBS : proves a crate beside others. Its status is there when it has ended.
@@ -258,7 +298,7 @@ begin() {
         name=$1
         work=
         trap 'echo "$?" >"$room/$name.status" && mv "$room/$name.status" "$room/$name.ended"' EXIT
-        trap '[ -z "$work" ] || { kill -- "$work" || kill "${work#-}" || :; wait; } 2>/dev/null; exit 1' TERM
+        trap '[ -z "$work" ] || { kill -- "$work" || kill "${work#-}" || :; wait; } 2>/dev/null; exit 1' HUP TERM
         prove "$@"
     ) &
     echo "$!" >"$room/$1.job"
@@ -335,13 +375,14 @@ build() {
     trap 'exit 141' PIPE
     trap 'exit 143' TERM
     kit=$(dirname -- "$(rt doc)")
+    [ -x "$kit/bin/rattle" ] && [ -x "$kit/bin/rattle-link" ] || stop "there is no prover in $kit/bin, where rt has it"
+    command -v sha256sum >/dev/null || stop "there is no sha256sum, which tells what was proved"
     keep_sources
     plan >"$room/plan"
+    grep -q '^itch ' "$room/plan" || stop 'crates.txt has no line for itch'
     list_sums >"$room/sums"
     while read -r name rest; do
-        if sums_of "$name" | cmp -s - "$libraries/$name.sum"; then
-            echo "kept $name"
-        fi
+        ! is_kept "$name" || echo "kept $name"
     done <"$room/plan" >"$room/state"
     left=$(($(wc -l <"$room/plan") - $(wc -l <"$room/state")))
     if [ "$left" = 0 ]; then
@@ -350,7 +391,7 @@ build() {
     else
         count_jobs
         say "proving and building the program: $left crates, jobs at once: $most_jobs; the logs are in $logs"
-        say 'a first call took 24 to 34 minutes and 67 to 106 minutes of processor time on 4 cores of 2.5 GHz'
+        say 'a first call took 34 minutes, and 106 minutes of processor time, beside other work on 4 cores of 2.5 GHz'
         say "for a first look at a small file without proof there is $top/look"
         prove_all
         say "proved and built in $(($(now) - start)) s"

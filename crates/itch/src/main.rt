@@ -12,7 +12,7 @@ use clap::error::ErrorKind;
 use engine_rules::{ProgFault, status};
 use itch_arguments::Task;
 use itch_commands::{Ended, Reading, Stop, Terminals, read, show, why};
-use replays::{Replaying, replay, replay_digits};
+use replays::{Replaying, replay, replay_digits, watch};
 use sessions::debug;
 use std::env;
 use std::io::{self, IsTerminal};
@@ -110,7 +110,7 @@ where
             file,
             stock,
             workers,
-        } => replay(rt, terminals, file, workers, Replaying::Screen { stock }),
+        } => watch(rt, terminals, file, stock, workers),
         Task::Assemble { text, out } => assemble(rt, text, out),
         Task::Debug { file } => debug(rt, terminals, file),
         Task::ReplayDigits => replay_digits(rt, terminals),

@@ -1,4 +1,4 @@
-//! The files and the stocks that the arguments name, and how a run over them ended.
+//! The files that the arguments name, and how a run over them ended.
 use crate::stop::Stop;
 use crate::terminals::Terminals;
 use engine_rules::ProgFault;
@@ -28,8 +28,8 @@ pub fn ended<'a, F: Into<StockFault>, D, W>(
 }
 
 /// How a replay ended, by its input and its output.
-pub fn replayed<'a, F: Into<StockFault>, D, W>(
-    run: Result<u32, F>,
+pub fn replayed<'a, D, W>(
+    run: Result<u32, ProgFault>,
     input: &Named<'a, D>,
     output: &Named<'a, W>,
 ) -> Ended<'a> {
