@@ -7,8 +7,8 @@
 # goes on from there. What is proved is what the sources were when it began.
 #
 # The toolchain's prover is called for each crate by itself, as `rt ci` does it: a library has what other crates can cite of
-# it, and not its proofs, so those above load a fifth of what `rt lib` would have them load. And `rt` locks a crate's folder
-# and those of all crates below it, so that of two crates which share one it proves one after another.
+# it, and not its proofs, which with `rt lib` each crate above loads again. And `rt` locks a crate's folder and those of all
+# crates below it, so that of two crates which share one it proves one after another.
 
 out=$top/crates/itch/out
 program=$out/itch
@@ -134,7 +134,7 @@ is_kept() {
 
 # A line for each crate: its name, how long it is, how long the longest chain is from it up to the program, and all crates
 # below it; the longest chain first. A crate is as long as its lines, 400 more, and 200 for each crate below it, whose
-# contracts its proofs load: so long as each took to be proved.
+# contracts its proofs load. That is about how long proofs took.
 plan() {
     for crate in $(crates_of_program "$list"); do
         echo "$crate $(find "$room/sources/crates/$crate" -type f -exec cat {} + | wc -l)"
