@@ -1,6 +1,3 @@
 mod TextParts
 mod SoFar
-mod Printed
 mod Extended
-mod Steps
-mod Results

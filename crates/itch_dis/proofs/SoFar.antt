@@ -10,7 +10,8 @@ use Rattle.day_segments.specs.Segments.{carry_after, carry_by}
 use Rattle.day_segments.proofs.Following.{after_marker}
 use Rattle.itch_print.specs.Disassembly.{end_lines, ended, hex_line, payload_line, text_of}
 use Rattle.itch_dis.specs.TextEnds.{added_by, closing_lines, end_so_far, rest_so_far, text_end_after, text_end_of}
-use Rattle.itch_dis.proofs.TextParts.{lines, lines-append}
+use Rattle.itch_dis.specs.Extents.{lines}
+use Rattle.itch_dis.proofs.TextParts.{lines-append}
 
 abbrev contents : List (List ℕ) → Bool → List ℕ → Contents
 contents payloads marked tail = record { payloads = payloads; marked = marked; tail = tail }

@@ -6,9 +6,7 @@ use Rattle.std.specs.List.{flat_map}
 use Rattle.binaryfile.specs.Entries.{Contents}
 use Rattle.day_segments.specs.Reading.{followed_by}
 use Rattle.itch_print.specs.Disassembly.{ended, lines_between, payload_line}
-
-abbrev pub lines : List (List ℕ) → List ℕ
-lines payloads = flat_map ended (map payload_line payloads)
+use Rattle.itch_dis.specs.Extents.{lines}
 
 pub lines-append : (xs ys : List (List ℕ)) → lines (xs ++ ys) ≡ lines xs ++ lines ys
 lines-append xs ys = ap (flat_map ended) (map-append payload_line xs ys) ∙ flat_map-append ended (map payload_line xs) (map payload_line ys)

@@ -1,6 +1,6 @@
 //! How much of a file is written.
 ghost use Rattle.std.specs.Prelude.{◌≡◌, ◌↔◌, IfOk, length, true};
-ghost use Rattle.itch_dis.specs.Extents.{closing_text, printer_of, segment_text};
+ghost use Rattle.itch_dis.specs.Extents.{ReachesEnd, closing_text, segment_text};
 
 use crate::text_end::{TextEnd, put_closing, put_end};
 use binaryfile::Day;
@@ -19,7 +19,7 @@ pub(crate) enum Extent {
 impl Extent {
     /// Whether so many messages, the first ones of a file, suffice for it.
     pub fn ends_within(self, messages: u64) -> bool
-        ensures { (result ≡ true) ↔ (printer_of self).Suffices messages }
+        ensures { (result ≡ true) ↔ ReachesEnd self messages }
     {
         match self {
             Extent::Whole => false,

@@ -13,12 +13,13 @@
 //! ```
 //!
 //! The text is that of `dis_run` of `itch_engine`, which makes all of it before it sends any. Here the lines of a segment
-//! are sent before the next one is read: so after a fault the beginning of a text may have been sent. Both calls meet one
-//! contract, `Prints`, which says what was read, written and returned for each result.
+//! are sent before the next one is read: so after a fault the beginning of a text may have been sent. Both calls meet the
+//! contract `Prints` of `day_printing`, which says what was read, written and returned for each result.
 //!
 //! The text form, segments and limits are of this project.
 #![tactic(auto)]
 
+mod day_text;
 mod engines;
 mod extent;
 mod text_end;

@@ -55,12 +55,12 @@ all_more day payload =
 
 -- ---- machines
 
-record IsMachineAt (day : List (List ℕ)) (locate : ℕ) (stock : StockMachine) : Type 0 where
+pub record IsMachineAt (day : List (List ℕ)) (locate : ℕ) (stock : StockMachine) : Type 0 where
   pub own : stock.locate ≡ locate
   pub world : stock.world ≡ only stock.locate (after day (length day))
   pub steps : stock.steps ≤ length day
 
-machine_there : (day : List (List ℕ)) (locate : ℕ) (slot : Option StockMachine) → IsMachineOf day locate slot → IsMachineAt day locate (machine_in locate slot)
+pub machine_there : (day : List (List ℕ)) (locate : ℕ) (slot : Option StockMachine) → IsMachineOf day locate slot → IsMachineAt day locate (machine_in locate slot)
 machine_there day locate None is = record { own = refl; world = sym is; steps = omega arith }
 machine_there day locate (Some stock) is = record {
   own = is.0;

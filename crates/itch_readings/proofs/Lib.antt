@@ -6,7 +6,7 @@ mod WordNames
 mod DirectoryRows
 pub mod LongerDays
 mod Searched
-mod OwnMore
+pub mod OwnMore
 mod TopLinesMore
 mod LinkedLives
 mod KeptHistory
@@ -15,7 +15,7 @@ mod TakenNext
 pub mod TakenAlong
 mod FileTaken
 mod MarkedTrades
-mod AllTaken
+pub mod AllTaken
 mod MachineSlots
 mod TradeSteps
 pub mod TradeRows

@@ -24,6 +24,9 @@
 //! }
 //! ```
 //!
+//! What they share is for other engines too: [`Notes`] of messages, which [`Noted`] takes of the stock that is named, as
+//! [`Machines`] have the stocks of all.
+//!
 //! [`trades_are_rows`] is a law: the trades that are listed are the trade rows of the written table after the day.
 //!
 //! The forms of lines and of names are of this project. An `AllocError`, `ProgFault::Memory` and, of engines of one
@@ -54,12 +57,14 @@ mod trades_engine;
 
 pub use fault::StockFault;
 pub use laws::trades_are_rows;
+pub use machines::Machines;
 pub use moments::{Moment, tops};
 pub use naming::StockName;
 pub use notes::Notes;
 pub use noting::Noted;
 pub use order_engine::{order_of_file, order_run};
 pub use search::{StockSearch, find_stock};
+pub use segments::TakesSegments;
 pub use stocks_engine::{stocks_of_file, stocks_run};
 pub use top_lines::Selection;
 pub use tops_engine::{tops_of_file, tops_run};

@@ -14,7 +14,7 @@ use stock_machine::Stock;
 
 /// The machines of a day's stocks by locate code, each from the stock's first message on. It is seen as these.
 #[derive(Drop)]
-pub(crate) struct Machines<A: Allocator> {
+pub struct Machines<A: Allocator> {
     slots: Vec<Option<Box<Stock<A>, A>>, A>,
 }
 

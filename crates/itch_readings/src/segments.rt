@@ -10,7 +10,7 @@ use std::alloc::{AllocError, Allocator};
 use std::io::Read;
 
 /// Takes the messages of a day, segment by segment.
-pub(crate) trait TakesSegments<A: Allocator + Copy> {
+pub trait TakesSegments<A: Allocator + Copy> {
     /// How one that has taken these messages comes from one that has taken none.
     ghost has_taken: { Self → Self → List (List ℕ) → Type 0 };
 

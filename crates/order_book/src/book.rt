@@ -1,7 +1,7 @@
 //! The book of one stock.
-ghost use Rattle.std.specs.Prelude.{◌≡◌, ◌-◌, ◌<◌, ◌≤◌, ◌^◌, Some, None, length, IfOk, OnOk, OnErr, IsSome, IsSomeAnd};
+ghost use Rattle.std.specs.Prelude.{◌≡◌, ◌-◌, ◌<◌, ◌≤◌, ◌^◌, Some, None, length, slice_index_or, IfOk, OnOk, OnErr, IsSome, IsSomeAnd};
 ghost use Rattle.std.specs.FinMap as maps;
-ghost use Rattle.itch_table.specs.Levels.{levels, shares_at, top};
+ghost use Rattle.itch_table.specs.Levels.{levels, no_level, shares_at, top};
 ghost use Rattle.itch_table.specs.Machine.{row_found};
 ghost use Rattle.order_book.specs.Orders.{order_in, orders_in, reduced, replaced, added};
 
@@ -196,6 +196,13 @@ impl<A: Allocator + Copy> Book<A> {
         ensures { result ≡ top (orders_in self.now) }
     {
         Top::of(self.levels.best(Side::Buy), self.levels.best(Side::Sell))
+    }
+
+    /// A side's level at a place, counted from 0 at the best one, or zeros where there is none.
+    pub fn nth_level(&self, side: Side, place: usize) -> Level
+        ensures { result ≡ slice_index_or (levels (orders_in self.now) side) place no_level }
+    {
+        self.levels.nth(side, place)
     }
 
     /// A side's levels: bids by falling price, asks by rising price.

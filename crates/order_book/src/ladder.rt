@@ -1,7 +1,7 @@
 //! The levels of one side.
-ghost use Rattle.std.specs.Prelude.{◌≡◌, ◌+◌, ◌<◌, ◌≤◌, ◌^◌, IfErr, IfOk, OnOk};
+ghost use Rattle.std.specs.Prelude.{◌≡◌, ◌+◌, ◌<◌, ◌≤◌, ◌^◌, IfErr, IfOk, OnOk, slice_index_or};
 ghost use Rattle.std.specs.FinMap as maps;
-ghost use Rattle.itch_table.specs.Levels.{first_level};
+ghost use Rattle.itch_table.specs.Levels.{first_level, no_level};
 ghost use Rattle.order_book.specs.Kept.{AreInOrder, IsFound, IsGap, shown, lowered, price_cmp, raised, rank, shares_on};
 
 use itch_table::{Level, Side};
@@ -131,6 +131,21 @@ impl<A: Allocator + Copy> Ladder<A> {
             price: 0,
             shares: 0,
         })
+    }
+
+    /// The level at a place, counted from 0 at the best one, or zeros where there is none.
+    pub fn nth(&self, place: usize) -> Level
+        ensures { result ≡ slice_index_or (shown self.now.side self.now.levels) place no_level }
+    {
+        let count = self.levels.len();
+        if place < count {
+            self.levels[count - 1 - place]
+        } else {
+            Level {
+                price: 0,
+                shares: 0,
+            }
+        }
     }
 
     /// The levels, with the best first.

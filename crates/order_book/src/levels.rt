@@ -1,7 +1,7 @@
 //! The levels of both sides.
-ghost use Rattle.std.specs.Prelude.{◌≡◌, ◌+◌, ◌<◌, ◌≤◌, ◌^◌, IfOk, OnOk};
+ghost use Rattle.std.specs.Prelude.{◌≡◌, ◌+◌, ◌<◌, ◌≤◌, ◌^◌, IfOk, OnOk, slice_index_or};
 ghost use Rattle.std.specs.FinMap as maps;
-ghost use Rattle.itch_table.specs.Levels.{first_level};
+ghost use Rattle.itch_table.specs.Levels.{first_level, no_level};
 ghost use Rattle.itch_table.specs.declared.order.Side.{Side};
 ghost use Rattle.order_book.specs.Kept.{AreChanged, SameLevels, levels_on, shown, lowered, raised, room_on, shares_on};
 
@@ -67,6 +67,16 @@ impl<A: Allocator + Copy> Levels<A> {
         match side {
             Side::Buy => self.bids.best(),
             Side::Sell => self.asks.best(),
+        }
+    }
+
+    /// The level of a side at a place, counted from 0 at the best one, or zeros where there is none.
+    pub fn nth(&self, side: Side, place: usize) -> Level
+        ensures { result ≡ slice_index_or (shown side (levels_on self.now side)) place no_level }
+    {
+        match side {
+            Side::Buy => self.bids.nth(place),
+            Side::Sell => self.asks.nth(place),
         }
     }
 

@@ -1,7 +1,7 @@
 //! The rows of one stock.
-ghost use Rattle.std.specs.Prelude.{◌≡◌, ◌<◌, ◌^◌, Some, None, IfOk, length};
+ghost use Rattle.std.specs.Prelude.{◌≡◌, ◌<◌, ◌^◌, Some, None, IfOk, length, slice_index_or};
 ghost use Rattle.itch_table.specs.World.{empty_world, is_spent, order, orders_of, status, totals};
-ghost use Rattle.itch_table.specs.Levels.{levels, shares_at, top};
+ghost use Rattle.itch_table.specs.Levels.{levels, no_level, shares_at, top};
 
 use crate::spent::SpentReferences;
 use crate::trades::Trades;
@@ -100,6 +100,14 @@ impl<A: Allocator + Copy> Rows<A> {
         ensures { result ≡ status self.now.world self.now.locate }
     {
         Status::of(self.known)
+    }
+
+    /// A side's level at a place, counted from 0 at the best one, or zeros where there is none.
+    pub fn nth_level(&self, side: Side, place: usize) -> Level
+        ensures { result ≡
+            slice_index_or (levels (orders_of self.now.world self.now.locate) side) place no_level }
+    {
+        self.book.nth_level(side, place)
     }
 
     /// A side's levels, the best first.

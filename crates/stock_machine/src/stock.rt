@@ -1,9 +1,9 @@
 //! The machine of one stock.
-ghost use Rattle.std.specs.Prelude.{◌≡◌, ◌+◌, ◌-◌, ◌<◌, ◌^◌, IfOk, OnOk, OnErr, length};
+ghost use Rattle.std.specs.Prelude.{◌≡◌, ◌+◌, ◌-◌, ◌<◌, ◌^◌, IfOk, OnOk, OnErr, length, slice_index_or};
 ghost use Rattle.itch_table.specs.declared.outcome.Part.{Part};
 ghost use Rattle.itch_table.specs.World.{empty_world, is_spent, order, orders_of, status, totals};
 ghost use Rattle.itch_table.specs.Held.{one_stock};
-ghost use Rattle.itch_table.specs.Levels.{levels, shares_at, top};
+ghost use Rattle.itch_table.specs.Levels.{levels, no_level, shares_at, top};
 ghost use Rattle.itch_table.specs.Machine.{MayGrow};
 ghost use Rattle.itch_table.specs.Parts.{part};
 ghost use Rattle.itch_table.specs.Table.{step};
@@ -110,6 +110,15 @@ impl<A: Allocator + Copy> Stock<A> {
         ensures { result ≡ status self.now.world self.now.locate }
     {
         self.rows.status()
+    }
+
+    /// A side's level at a place, counted from 0 at the best one, or zeros where there is none. Its price is in 1/10,000
+    /// of a currency unit.
+    pub fn nth_level(&self, side: Side, place: usize) -> Level
+        ensures { result ≡
+            slice_index_or (levels (orders_of self.now.world self.now.locate) side) place no_level }
+    {
+        self.rows.nth_level(side, place)
     }
 
     /// A side's levels: bids by falling price, asks by rising price.

@@ -10,7 +10,8 @@ use Rattle.engine_rules.specs.FaultOrigins.{fault_of_load}
 use Rattle.engine_rules.specs.Runs.{traffic_of}
 use Rattle.engine_rules.specs.declared.fault.ProgFault.{ProgFault}
 use Rattle.engine_rules.specs.declared.fault.ProgFault.TheVariants.{Memory, Read, TooManyBytes, TooManyMessages, Write, BadHex, Asm}
-use Rattle.itch_dis.specs.Printers.{Ends, Printer, Prints, StopsPrinting}
+use Rattle.binaryfile.specs.Entries.{Contents}
+use Rattle.day_printing.specs.Printers.{Ends, Printer, Prints, StopsPrinting}
 
 is_read : ProgFault → Bool
 is_read Read = true
@@ -75,12 +76,12 @@ works_after made F was = λ f. let e = was.1 f in absurd cc
 pub worked : (failed : Bool) → false ≡ failed → ¬ IsTrue failed
 worked failed is has = false≢true (is ∙ has)
 
-module _ {R W : Type 0} (printer : Printer) (segment : ℕ) (left : R → Option (List ℕ)) (taken : W → Option (List ℕ)) (feed fed : Device R) (sink sent : Device W) where
+module _ {R W : Type 0} (printer : Printer) (Printed Ended : Contents → List ℕ → Type 0) (segment : ℕ) (left : R → Option (List ℕ)) (taken : W → Option (List ℕ)) (feed fed : Device R) (sink sent : Device W) where
   pub faulted : (result : Result (Unit {0}) ProgFault) (fault : ProgFault) → result ≡ Err fault → StopsPrinting printer (traffic_of left taken feed fed sink sent) fault
       → GaveUpTo (left feed.device) (left fed.device) (2 ^ 40 + 1) → (fault ≡ Read → HasFailed fed) → (HasFailed fed → fault ≡ Read) → (fault ≡ Write → HasFailed sent)
-      → (HasFailed feed → fed ≡ feed) → (HasFailed sink → sent ≡ sink) → Prints printer segment left taken feed fed sink sent result
+      → (HasFailed feed → fed ≡ feed) → (HasFailed sink → sent ≡ sink) → Prints printer Printed Ended segment left taken feed fed sink sent result
   faulted result fault is stops took read failed write feed_stays sink_stays =
-      subst (Prints printer segment left taken feed fed sink sent) (sym is) (record {
+      subst (Prints printer Printed Ended segment left taken feed fed sink sent) (sym is) (record {
         ends = stops;
         takes_at_most = took;
         read = (λ e. read cc, λ f. ap Err (failed f));
@@ -89,8 +90,8 @@ module _ {R W : Type 0} (printer : Printer) (segment : ℕ) (left : R → Option
         sink_for_good = sink_stays;
       })
 
-  pub finished : Ends printer segment (traffic_of left taken feed fed sink sent) (Ok tt) → GaveUpTo (left feed.device) (left fed.device) (2 ^ 40 + 1) → ¬ HasFailed fed
-      → (HasFailed feed → fed ≡ feed) → (HasFailed sink → sent ≡ sink) → Prints printer segment left taken feed fed sink sent (Ok tt)
+  pub finished : Ends printer Printed Ended segment (traffic_of left taken feed fed sink sent) (Ok tt) → GaveUpTo (left feed.device) (left fed.device) (2 ^ 40 + 1) → ¬ HasFailed fed
+      → (HasFailed feed → fed ≡ feed) → (HasFailed sink → sent ≡ sink) → Prints printer Printed Ended segment left taken feed fed sink sent (Ok tt)
   finished ends took works feed_stays sink_stays = record {
     ends = ends;
     takes_at_most = took;
@@ -101,7 +102,7 @@ module _ {R W : Type 0} (printer : Printer) (segment : ℕ) (left : R → Option
   }
 
   -- where the feed had failed before
-  pub refused : fed ≡ feed → sent ≡ sink → HasFailed fed → Prints printer segment left taken feed fed sink sent (Err Read)
+  pub refused : fed ≡ feed → sent ≡ sink → HasFailed fed → Prints printer Printed Ended segment left taken feed fed sink sent (Err Read)
   refused same_feed same_sink failed = faulted (Err Read) Read refl
       (subst (λ (fed : Device R). StopsPrinting printer (traffic_of left taken feed fed sink sent) Read) (sym same_feed)
       (subst (λ (sent : Device W). StopsPrinting printer (traffic_of left taken feed feed sink sent) Read) (sym same_sink) (record {
@@ -110,7 +111,22 @@ module _ {R W : Type 0} (printer : Printer) (segment : ℕ) (left : R → Option
         shows = tt;
         written = [];
         wrote = Appends-nil (taken sink.device);
-        begins = λ rest contents are split. refl;
+        begins = λ rest contents text are split is_text. refl;
       })))
       (subst (λ (fed : Device R). GaveUpTo (left feed.device) (left fed.device) (2 ^ 40 + 1)) (sym same_feed) (record { bytes = []; gave = Consumes-nil (left feed.device); within = omega arith }))
       (λ _. failed) (λ _. refl) (λ e. absurd (read_no_write e)) (λ _. same_feed) (λ _. same_sink)
+
+-- where memory is refused before anything is read
+pub without_memory : {R W : Type 0} (printer : Printer) (Printed Ended : Contents → List ℕ → Type 0) (segment : ℕ) (left : R → Option (List ℕ)) (taken : W → Option (List ℕ)) (feed : Device R) (sink : Device W)
+    → ¬ HasFailed feed → Prints printer Printed Ended segment left taken feed feed sink sink (Err Memory)
+without_memory printer Printed Ended segment left taken feed sink works = faulted printer Printed Ended segment left taken feed feed sink sink (Err Memory) Memory refl
+    (record {
+      given = [];
+      gave = Consumes-nil (left feed.device);
+      shows = tt;
+      written = [];
+      wrote = Appends-nil (taken sink.device);
+      begins = λ rest contents text are split is_text. refl;
+    })
+    (record { bytes = []; gave = Consumes-nil (left feed.device); within = omega arith })
+    (λ e. absurd (memory_no_read e)) (λ failed. absurd (works failed)) (λ e. absurd (memory_no_write e)) (λ _. refl) (λ _. refl)

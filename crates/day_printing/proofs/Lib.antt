@@ -1,0 +1,3 @@
+mod Printed
+pub mod Results
+pub mod Weaker
