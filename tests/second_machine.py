@@ -253,6 +253,44 @@ def tops(payloads, locate, every):
             before = sides
 
 
+def type_field(payload):
+    """The type of a payload as a trace has it."""
+    b = payload[0]
+    return chr(b) if 0x21 <= b <= 0x7E and b not in b',"\\' else "\\x%02x" % b
+
+
+def begins(payloads, symbol):
+    """The locate code of the stock of the first directory message that gives a symbol and is applied, and its number."""
+    day = Day()
+    for payload in payloads:
+        day.take(payload)
+        message = day.messages[-1]
+        if message and message["type"] == "R" and day.outcomes[-1] == "applied" and message["stock"] == symbol:
+            return message["locate"], day.number
+    return None
+
+
+def trace(payloads, depth=1, first=1, last=1 << 32, locate=None):
+    """A line for each message, or for those of one stock: what became of it, and its stock's best levels after it."""
+    names = ["message", "time", "type", "locate", "outcome"]
+    for place in range(1, depth + 1):
+        number = "" if place == 1 else "_%d" % place
+        names += [side + field + number for side in ("bid_", "ask_") for field in ("price", "shares")]
+    yield ",".join(names)
+    day = Day()
+    for payload in payloads:
+        day.take(payload)
+        m = day.messages[-1]
+        if not first <= day.number <= last or locate is not None and not (is_of_stock(m) and m["locate"] == locate):
+            continue
+        sides = [day.levels(m["locate"], side) if is_of_stock(m) else [] for side in (b"B", b"S")]
+        fields = [day.number, m["time"] if m else "", type_field(payload), m["locate"] if m else "", day.outcomes[-1]]
+        for place in range(depth):
+            for levels in sides:
+                fields += levels[place] if place < len(levels) else ("", "")
+        yield ",".join(map(str, fields))
+
+
 def trades(day, locate=None):
     """The lines of the trades of a stock, or of all."""
     yield "message,time,locate,type,side,price,shares,match_no,printed,broken"

@@ -11,7 +11,7 @@ use assembling::assemble;
 use clap::error::ErrorKind;
 use engine_rules::{ProgFault, status};
 use itch_arguments::Task;
-use itch_commands::{Ended, Reading, Stop, Terminals, read, show, why};
+use itch_commands::{Ended, Extent, Reading, Stop, Terminals, read, show, why};
 use replays::{Replaying, replay, replay_digits, watch};
 use sessions::debug;
 use std::env;
@@ -106,6 +106,17 @@ where
             reference,
         } => read(rt, terminals, file, Reading::Order { stock, reference }),
         Task::Trades { file, stock } => read(rt, terminals, file, Reading::Trades { stock }),
+        Task::Trace {
+            file,
+            stock,
+            depth,
+            first,
+            last,
+        } => {
+            let last = last.unwrap_or(u32::MAX);
+            let extent = Extent { depth, first, last };
+            read(rt, terminals, file, Reading::Trace { stock, extent })
+        }
         Task::Watch {
             file,
             stock,

@@ -87,6 +87,17 @@ pub(crate) const TRADES: &str = "The first line names the fields:
 
 Prices are in 1/10,000 of a currency unit, times in nanoseconds since midnight.";
 
+/// The fields of a trace.
+pub(crate) const TRACE: &str = "The first line names the fields:
+  outcome  applied, passed (an unknown type), or F1 to F12 where it was refused: the number of the
+           first check that fails
+  bid_price, bid_shares, ask_price, ask_shares
+           the best levels of the message's stock after it; with --depth also the next ones, with
+           _2 to _10. They are empty where there is no such level, and for messages of no stock.
+
+Time, type and locate are the message's own. Prices are in 1/10,000 of a currency unit, times in
+nanoseconds since midnight.";
+
 /// The commands of a debugging session, with an example each.
 pub(crate) const SESSION: &str = "Commands, a line each:
   goto 1000                  to the position after that many messages

@@ -80,6 +80,15 @@ pub enum Task<'a> {
         file: &'a str,
         stock: Option<&'a str>,
     },
+    /// To write a line for each message of a file, or of one of its stocks, with so many of the best levels of each side,
+    /// from one number on, to another or to the file's end.
+    Trace {
+        file: &'a str,
+        stock: Option<&'a str>,
+        depth: u32,
+        first: u32,
+        last: Option<u32>,
+    },
     /// To replay a file, and write what a screen of one of its stocks sees meanwhile.
     Watch {
         file: &'a str,
@@ -257,6 +266,30 @@ fn trades_command<'a>(alloc: Global) -> Result<Command<'a>, AllocError> {
         .args(args)
 }
 
+// The arguments that print a trace.
+fn trace_command<'a>(alloc: Global) -> Result<Command<'a>, AllocError> {
+    let depth = Arg::new(alloc, "depth")
+        .long("depth")
+        .value_name("K")
+        .help("How many of the best levels of each side a line has, from 1 to 10")
+        .value_parser(value_parser!(u32).range(1..=10))
+        .default_value("1");
+    let from = number(
+        alloc,
+        "from",
+        "Prints no message before this one, counted from 1",
+    );
+    let to = number(alloc, "to", "Prints no message after this one");
+    let stock = stock(alloc).required(false);
+    let args = vec![in alloc; path(alloc, "FILE", DAY_HELP), stock, depth, from, to]?;
+    Command::new(alloc, "trace")
+        .about(
+            "Prints what became of each message, and its stock's best bid and ask after it, as comma-separated lines",
+        )
+        .after_help(help::TRACE)
+        .args(args)
+}
+
 // The arguments that print what a screen of a stock sees.
 fn watch_command<'a>(alloc: Global) -> Result<Command<'a>, AllocError> {
     let workers = workers(alloc, "How many workers replay the day, from 1 to 64");
@@ -314,6 +347,7 @@ fn add_all<'a>(alloc: Global, commands: &mut Vec<Command<'a>>) -> Result<(), All
     add(commands, why_command(alloc))?;
     add(commands, order_command(alloc))?;
     add(commands, trades_command(alloc))?;
+    add(commands, trace_command(alloc))?;
     add(commands, watch_command(alloc))?;
     add(commands, asm_command(alloc))?;
     add(commands, debug_command(alloc))
@@ -439,6 +473,21 @@ fn printing_trades<'a>(matches: &ArgMatches<'a>) -> Option<Task<'a>>
     })
 }
 
+// To write a trace, where the arguments ask for it.
+fn tracing<'a>(matches: &ArgMatches<'a>) -> Option<Task<'a>>
+    ensures { IfSome result (λ task. (command_of task ≡ Some (codes "trace"))
+        × (subcommand_name_of matches.now ≡ Some (codes "trace"))) }
+{
+    let trace = matches.subcommand_matches("trace")?;
+    Some(Task::Trace {
+        file: trace.get_str("FILE")?,
+        stock: trace.get_str("STOCK"),
+        depth: trace.get_one("depth").unwrap_or(1),
+        first: trace.get_one("from").unwrap_or(1),
+        last: trace.get_one("to"),
+    })
+}
+
 // To write what a screen of a stock sees, where the arguments ask for it.
 fn watching<'a>(matches: &ArgMatches<'a>) -> Option<Task<'a>>
     ensures { IfSome result (λ task. (command_of task ≡ Some (codes "watch"))
@@ -475,6 +524,9 @@ pub fn chosen_task<'a>(matches: &ArgMatches<'a>) -> Task<'a>
         return task;
     }
     if let Some(task) = printing_trades(matches) {
+        return task;
+    }
+    if let Some(task) = tracing(matches) {
         return task;
     }
     if let Some(task) = watching(matches) {

@@ -20,6 +20,7 @@ mod stop;
 mod terminals;
 
 pub use files::{Ended, ended, open, open_day, replayed, standard_output};
+pub use itch_trace::Extent;
 pub use questions::why;
 pub use readings::{Reading, named_stock, read};
 pub use showing::show;

@@ -8,6 +8,7 @@ use itch_dis::{dis_part_run, dis_stream_run};
 use itch_readings::{
     Selection, StockFault, StockName, order_run, stock_trades_run, stocks_run, tops_run, trades_run,
 };
+use itch_trace::{Extent, stock_trace_run, trace_run};
 use std::alloc::Global;
 use std::io::{Read, Write};
 use std::rt::Runtime;
@@ -18,15 +19,31 @@ pub enum Reading<'a> {
     /// The file's text.
     Text,
     /// The lines of its messages from one number on, to another or to the file's end.
-    TextBetween { first: u32, last: Option<u32> },
+    TextBetween {
+        first: u32,
+        last: Option<u32>,
+    },
     /// Its stocks.
     Stocks,
     /// The best bid and ask of a stock along it: after each of its messages, or where they change.
-    Tops { stock: &'a str, every: bool },
+    Tops {
+        stock: &'a str,
+        every: bool,
+    },
     /// The life of an order of a stock.
-    Order { stock: &'a str, reference: u64 },
+    Order {
+        stock: &'a str,
+        reference: u64,
+    },
     /// Its trades, or those of one stock.
-    Trades { stock: Option<&'a str> },
+    Trades {
+        stock: Option<&'a str>,
+    },
+    /// A line for each message, or for those of one stock, with its stock's best levels after it.
+    Trace {
+        stock: Option<&'a str>,
+        extent: Extent,
+    },
 }
 
 /// The stock that a word names.
@@ -38,6 +55,18 @@ pub fn named_stock(word: &str) -> Result<StockName, StockFault> {
 }
 
 impl Reading<'_> {
+    // Whether its last message comes before its first one.
+    fn ends_early(self) -> bool {
+        match self {
+            Reading::TextBetween {
+                first,
+                last: Some(last),
+            } => last < first,
+            Reading::Trace { extent, .. } => extent.last < extent.first,
+            _ => false,
+        }
+    }
+
     // Writes it, of a file that was opened.
     fn write<R: Read, W: Write>(
         self,
@@ -66,6 +95,21 @@ impl Reading<'_> {
             Reading::Trades { stock: Some(stock) } => {
                 stock_trades_run(alloc, feed, sink, named_stock(stock)?)?
             }
+            Reading::Trace {
+                stock: None,
+                extent,
+            } => trace_run(alloc, feed, sink, SEGMENT_BYTES, extent)?,
+            Reading::Trace {
+                stock: Some(stock),
+                extent,
+            } => stock_trace_run(
+                alloc,
+                feed,
+                sink,
+                SEGMENT_BYTES,
+                extent,
+                named_stock(stock)?,
+            )?,
         }
         Ok(())
     }
@@ -78,12 +122,7 @@ pub fn read<'a, R: Runtime + AllocGlobal>(
     path: &'a str,
     reading: Reading,
 ) -> Ended<'a> {
-    if let Reading::TextBetween {
-        first,
-        last: Some(last),
-    } = reading
-        && last < first
-    {
+    if reading.ends_early() {
         return Err(Stop::Misuse("--to is before --from"));
     }
     let mut day = open_day(rt, terminals, path)?;
