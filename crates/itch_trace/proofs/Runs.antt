@@ -80,13 +80,3 @@ module _ (extent : Extent) (name : StockName) (search : Search) (count : ℕ) (m
           wrote = subst (Appends (taken sink.device) (taken sent.device)) whole.ended.1 whole.wrote;
         }
         by (inr enough) = absurd (none_reached enough.contents enough.written enough.suffices enough.printed)
-
--- a run that went well, of a trace that is wanted so and of a stock that is named so
-pub stock_ran : {R W : Type 0} (is extent : Extent) → is ≡ extent → (named name : StockName) → named ≡ name → (search : Search) (count : ℕ) (stock : Option StockMachine) (made : MadeLines) (begun : Bool)
-    (segment : ℕ) (left : R → Option (List ℕ)) (taken : W → Option (List ℕ)) (feed fed : Device R) (sink sent : Device W) (result result' : Result (Unit {0}) ProgFault) → result ≡ result'
-    → Prints (stock_trace_printer is named) (IsStockTraced is named search count stock made begun) (EndsStockTrace is named stock) segment left taken feed fed sink sent result
-    → Prints (stock_trace_printer extent name) (IsStockTraced extent name search count stock made begun) (EndsStockTrace extent name stock) segment left taken feed fed sink sent result'
-stock_ran is extent same named name same_name search count stock made begun segment left taken feed fed sink sent result result' same_result run =
-    subst (λ (r : Result (Unit {0}) ProgFault). Prints (stock_trace_printer extent name) (IsStockTraced extent name search count stock made begun) (EndsStockTrace extent name stock) segment left taken feed fed sink sent r) same_result
-    (subst (λ (n : StockName). Prints (stock_trace_printer extent n) (IsStockTraced extent n search count stock made begun) (EndsStockTrace extent n stock) segment left taken feed fed sink sent result) same_name
-    (subst (λ (e : Extent). Prints (stock_trace_printer e named) (IsStockTraced e named search count stock made begun) (EndsStockTrace e named stock) segment left taken feed fed sink sent result) same run))

@@ -1,6 +1,8 @@
 //! The engines that write a trace of a file while they read it.
-ghost use Rattle.std.specs.Prelude.{◌≡◌, ◌<◌, ◌≤◌, ◌^◌};
+ghost use Rattle.std.specs.Prelude.{◌≡◌, ◌<◌, ◌≤◌, ◌^◌, []};
 ghost use Rattle.day_printing.specs.Printers.{Prints};
+ghost use Rattle.day_segments.specs.Reading.{nothing_read};
+ghost use Rattle.itch_trace.specs.Made.{IsStockTraced};
 ghost use Rattle.itch_trace.specs.Printers.{IsTrace, TracesStock, trace_printer};
 
 use crate::day_trace::DayTrace;
@@ -40,6 +42,29 @@ pub fn trace_run<A: Allocator + Copy, R: Read, W: Write>(
     print_day(alloc, feed, sink, segment, &mut trace)
 }
 
+// Reads a day file and writes a stock's trace, which has not begun.
+fn print_stock<A: Allocator + Copy, R: Read, W: Write>(
+    alloc: A,
+    feed: &mut Feed<R>,
+    sink: &mut Sink<W>,
+    segment: u32,
+    trace: &mut StockTrace<A>,
+) -> Result<(), StockFault>
+    requires segment { (0 < segment) × (segment ≤ 2 ^ 30) }
+    requires none { IsStockTraced trace.old.noted.notes.extent trace.old.noted.search.name
+        trace.old.noted.search trace.old.noted.messages trace.old.noted.stock trace.old.noted.notes
+        trace.old.begun nothing_read [] }
+    ensures { TracesStock trace.old.noted.notes.extent trace.old.noted.search.name segment
+        R.remaining W.contents feed.old feed.new sink.old sink.new result }
+{
+    print_day(alloc, feed, sink, segment, trace)?;
+    if trace.has_begun() {
+        Ok(())
+    } else {
+        Err(StockFault::NoStock)
+    }
+}
+
 /// Reads a day file and writes the lines of [`trace_run`] for the messages of one of its stocks.
 ///
 /// The stock is the one that [`tops_run`] finds by this name, and its messages are the same. In memory are no more than a
@@ -63,10 +88,5 @@ pub fn stock_trace_run<A: Allocator + Copy, R: Read, W: Write>(
         return Err(StockFault::from(ProgFault::Read));
     }
     let mut trace = StockTrace::new(alloc, extent, name)?;
-    print_day(alloc, feed, sink, segment, &mut trace)?;
-    if trace.has_begun() {
-        Ok(())
-    } else {
-        Err(StockFault::NoStock)
-    }
+    print_stock(alloc, feed, sink, segment, &mut trace)
 }

@@ -1,11 +1,11 @@
-use Rattle.std.proofs.Common.{◌∙◌, Err, Ok, ap, refl, subst, sym}
-use Rattle.std.proofs.lemmas.Bool.{false≢true}
+use Rattle.std.proofs.Common.{◌∙◌, Err, ap, refl, subst, sym}
 use Rattle.std.proofs.lemmas.Result.{err_from_is_err_and}
 use Rattle.day_printing.proofs.Results.{refused, without_memory, worked}
 use Rattle.itch_readings.specs.declared.fault.StockFault.{StockFault}
+use Rattle.itch_readings.specs.declared.naming.StockName.{StockName}
 use Rattle.itch_trace.specs.Made.{MadeLines}
+use Rattle.itch_trace.specs.declared.extent.Extent.{Extent}
 use Rattle.itch_trace.specs.Printers.{TracesStock, stock_trace_printer}
-use Rattle.itch_trace.proofs.Runs.{stock_found, stock_missing, stock_ran}
 use Rattle.itch_trace.proofs.engines.stock_trace_run.Goals as goal
 
 pub returns-then-failed : goal.returns-then-failed
@@ -23,24 +23,9 @@ returns-in_err-trace g c =
     subst (TracesStock c.args.extent c.args.name c.args.segment g.R.Read.remaining g.W.Write.contents feed feed sink sink) (sym (same.1 ∙ ap Err same.2))
     (without_memory (stock_trace_printer c.args.extent c.args.name) _ _ c.args.segment g.R.Read.remaining g.W.Write.contents feed sink (worked feed.failed (c.if-failed.ensures {u = tt})))
 
-pub returns-then-has_begun : goal.returns-then-has_begun
-returns-then-has_begun g c =
-    let trace = c.in_ok-trace.trace in
-    let made = c.in_ok-trace.ensures {u = tt} in
-    let then = c.print_day.new.printing.noted in
-    let begun = c.print_day.new.printing.begun in
-    let run = stock_ran trace.noted.notes.extent c.args.extent (ap (λ (m : MadeLines). m.extent) made.made) trace.noted.search.name c.args.name made.name then.search then.messages then.stock then.notes begun
-    c.args.segment g.R.Read.remaining g.W.Write.contents c.args.feed.now c.print_day.new.feed c.args.sink.now c.print_day.new.sink c.print_day.result (Ok tt) (c.in_ok-print_day.was {u = tt}) c.print_day.ensures in
-    stock_found c.args.extent c.args.name then.search then.messages then.notes begun c.args.segment g.R.Read.remaining g.W.Write.contents c.args.feed.now c.print_day.new.feed c.args.sink.now c.print_day.new.sink then.stock
-    (c.has_begun.ensures.0 c.if-has_begun.true) run
-
 pub returns : goal.returns
 returns g c =
-    let trace = c.in_ok-trace.trace in
     let made = c.in_ok-trace.ensures {u = tt} in
-    let then = c.print_day.new.printing.noted in
-    let begun = c.print_day.new.printing.begun in
-    let run = stock_ran trace.noted.notes.extent c.args.extent (ap (λ (m : MadeLines). m.extent) made.made) trace.noted.search.name c.args.name made.name then.search then.messages then.stock then.notes begun
-    c.args.segment g.R.Read.remaining g.W.Write.contents c.args.feed.now c.print_day.new.feed c.args.sink.now c.print_day.new.sink c.print_day.result (Ok tt) (c.in_ok-print_day.was {u = tt}) c.print_day.ensures in
-    stock_missing c.args.extent c.args.name then.search then.messages then.notes begun c.args.segment g.R.Read.remaining g.W.Write.contents c.args.feed.now c.print_day.new.feed c.args.sink.now c.print_day.new.sink then.stock
-    (λ some. false≢true (sym c.if-has_begun.false ∙ c.has_begun.ensures.1 some)) run
+    let result = c.print_stock.result in
+    subst (λ (extent : Extent). TracesStock extent c.args.name c.args.segment g.R.Read.remaining g.W.Write.contents c.args.feed.now c.print_stock.new.feed c.args.sink.now c.print_stock.new.sink result) (ap (λ (m : MadeLines). m.extent) made.made)
+    (subst (λ (name : StockName). TracesStock c.in_ok-trace.trace.noted.notes.extent name c.args.segment g.R.Read.remaining g.W.Write.contents c.args.feed.now c.print_stock.new.feed c.args.sink.now c.print_stock.new.sink result) made.name c.print_stock.ensures)

@@ -1,9 +1,14 @@
 """A second machine for days: slow and plain, and written from docs/FORMATS.md alone, beside which the program is tried.
 
+    second_machine.py FILE [DEPTH]
+
+prints the trace of a day file, with 10 levels of each side where no other depth is named.
+
 A day is a list of payloads. `replayed` makes a Day of it, which keeps what became of each message and all that they built
 up; the functions below it give the lines that the program's commands print.
 """
 import struct
+import sys
 
 # The mnemonic of each type and its body, after the 11 bytes that all have: a field's name, its width, and n for a number or a
 # for text.
@@ -462,3 +467,8 @@ def report(day, marked, tail):
         yield stock_line(day, locate)
         yield from level_lines(day, locate)
         yield trades_line(day, locate)
+
+
+if __name__ == "__main__":
+    with open(sys.argv[1], "rb") as file:
+        print("\n".join(trace(entries(file.read())[0], int(sys.argv[2]) if len(sys.argv) > 2 else 10)))
