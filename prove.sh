@@ -391,7 +391,7 @@ build() {
     else
         count_jobs
         say "proving and building the program: $left crates, jobs at once: $most_jobs; the logs are in $logs"
-        say 'a first call took 34 minutes, and 106 minutes of processor time, beside other work on 4 cores of 2.5 GHz'
+        say 'a first call took 30 minutes, and 97 minutes of processor time, on 4 cores of 2.5 GHz'
         say "for a first look at a small file without proof there is $top/look"
         prove_all
         say "proved and built in $(($(now) - start)) s"
