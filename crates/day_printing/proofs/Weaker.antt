@@ -50,15 +50,3 @@ module _ {R W : Type 0} (printer : Printer) (Printed Ended Printed' Ended' : Con
     feed_for_good = run.feed_for_good;
     sink_for_good = run.sink_for_good;
   }
-
--- after a fault nothing is said of what was written by them
-pub faults_so : {R W : Type 0} (printer : Printer) (Printed Ended Printed' Ended' : Contents → List ℕ → Type 0) (segment : ℕ) (left : R → Option (List ℕ)) (taken : W → Option (List ℕ)) (feed fed : Device R) (sink sent : Device W) (fault : ProgFault)
-    → Prints printer Printed Ended segment left taken feed fed sink sent (Err fault) → Prints printer Printed' Ended' segment left taken feed fed sink sent (Err fault)
-faults_so printer Printed Ended Printed' Ended' segment left taken feed fed sink sent fault run = record {
-  ends = run.ends;
-  takes_at_most = run.takes_at_most;
-  read = run.read;
-  write = run.write;
-  feed_for_good = run.feed_for_good;
-  sink_for_good = run.sink_for_good;
-}

@@ -35,8 +35,8 @@ pub trait Printing<A: Allocator + Copy> {
         before: u32,
         segment: &Day<A>,
     ) -> Result<Vec<u8, A>, AllocError>
-        requires { (first : Self) × (read : Contents) × (text : List ℕ) × has_printed first self.old read text
-            × (before ≡ length read.payloads)
+        requires { (first : Self) × (read : Contents) × (text : List ℕ)
+            × has_printed first self.old read text × (before ≡ length read.payloads)
             × (length read.payloads + length segment.now.payloads ≤ 2 ^ 32 - 1) }
         ensures { IfOk result (λ more. (first : Self) (read : Contents) (text given : List ℕ)
             → has_printed first self.old read text → before ≡ length read.payloads

@@ -35,7 +35,3 @@ messages_more day payload =
     let whole = day ++ payload ∷ [] in
     ap (messages_until whole) (longer day payload) ∙ until_more whole (length day)
     ∙ (λ i. until_before day (payload ∷ []) (length day) (omega arith) i ++ message_by whole (length day + 1) (part (payload_last day payload i)) ∷ [])
-
--- the first messages of a day that goes on are those of the day
-pub messages_go_on : (day more : List (List ℕ)) → messages_until (day ++ more) (length day) ≡ messages_of day
-messages_go_on day more = until_before day more (length day) (omega arith)

@@ -42,10 +42,12 @@ impl<A: Allocator + Copy> DayTrace<A> {
     // Takes the next message of the day.
     fn take(&mut self, alloc: A, payload: &[u8]) -> Result<(), AllocError>
         requires { (sent : Lines) × (day : List (List ℕ))
-            × HasTraced sent day self.old.machines self.old.messages self.old.made × (length day + 1 < 2 ^ 32) }
+            × HasTraced sent day self.old.machines self.old.messages self.old.made
+            × (length day + 1 < 2 ^ 32) }
         ensures took { OnOk result ((sent : Lines) (day : List (List ℕ))
             → HasTraced sent day self.old.machines self.old.messages self.old.made
-            → HasTraced sent (day ++ payload.now ∷ []) self.new.machines self.new.messages self.new.made) }
+            → HasTraced sent (day ++ payload.now ∷ [])
+            self.new.machines self.new.messages self.new.made) }
         ensures begun { self.new.begun ≡ self.old.begun }
     {
         // Laws that the proof cites: they do nothing.
@@ -68,7 +70,8 @@ impl<A: Allocator + Copy> DayTrace<A> {
             × (length day + length segment.now.payloads < 2 ^ 32) }
         ensures took { OnOk result ((sent : Lines) (day : List (List ℕ))
             → HasTraced sent day self.old.machines self.old.messages self.old.made
-            → HasTraced sent (day ++ segment.now.payloads) self.new.machines self.new.messages self.new.made) }
+            → HasTraced sent (day ++ segment.now.payloads)
+            self.new.machines self.new.messages self.new.made) }
         ensures begun { self.new.begun ≡ self.old.begun }
     {
         for payload in segment.payloads() {

@@ -68,7 +68,8 @@ impl<A: Allocator + Copy> MadeLines<A> {
 
     /// Takes the lines away, to be sent, and before them the first line of the trace where it hasn't begun.
     pub fn take(&mut self, alloc: A, begun: &mut bool) -> Result<Vec<u8, A>, AllocError>
-        ensures text { IfOk result (λ text. text.items ≡ head_left begun.old self.old.extent.depth ++ self.old.text) }
+        ensures text { IfOk result (λ text.
+            text.items ≡ head_left begun.old self.old.extent.depth ++ self.old.text) }
         ensures left { OnOk result (self.new ≡ record { extent = self.old.extent; text = [] }) }
         ensures begun { OnOk result (begun.new ≡ true) }
     {
