@@ -73,9 +73,12 @@ module _ (extent : Extent) (name : StockName) (search : Search) (count : ℕ) (m
           input = whole.input;
           contents = whole.contents;
           gave = whole.gave;
+          are = whole.are;
           within = whole.within;
           split = whole.split;
+          few = whole.few;
           none = whole.ended.0;
+          sink_for_good = run.sink_for_good;
           works = λ failed. let e = run.read.1 failed in absurd cc;
           wrote = subst (Appends (taken sink.device) (taken sent.device)) whole.ended.1 whole.wrote;
         }

@@ -1,7 +1,8 @@
 -- The traces of a file, and what a run reads, writes and returns that writes one. All is of this project.
-use Rattle.std.specs.Prelude.{◌≡◌, ◌⊎◌, ℕ, ◌<◌, ◌≤◌, ◌^◌, List, [], length, Option, Some, None, Result, Ok, Err}
+use Rattle.std.specs.Prelude.{◌≡◌, ◌⊎◌, ℕ, ◌-◌, ◌<◌, ◌≤◌, ◌^◌, List, [], length, Option, Some, None, Result, Ok, Err}
 use Rattle.binaryfile.specs.Devices.{Device, GaveAll, HasFailed}
 use Rattle.binaryfile.specs.Entries.{Contents, Splits}
+use Rattle.byte_strings.specs.Bytes.{AreBytes}
 use Rattle.std.specs.Io.KnownBytes.{Appends}
 use Rattle.day_printing.specs.Printers.{Printer, Prints}
 use Rattle.stock_machine.specs.StockRows.{StockMachine}
@@ -18,9 +19,10 @@ use Rattle.itch_trace.specs.declared.extent.Extent.{Extent}
 abbrev pub IsTrace : Extent → Contents → List ℕ → Type 0
 IsTrace extent contents text = text ≡ trace_text extent (messages_of contents.payloads)
 
--- there are messages, and the last one that is wanted is among them
+-- there are messages, and the last one that is wanted, where not all are, is among them
 pub record Reaches (extent : Extent) (contents : Contents) : Type 0 where
   pub some : 0 < length contents.payloads
+  pub not_all : extent.last < 2 ^ 32 - 1
   pub last : extent.last ≤ length contents.payloads
 
 -- the printer of the trace of a file's messages, which needn't read on after the last one that is wanted
@@ -44,11 +46,12 @@ abbrev pub EndsStockTrace : Extent → StockName → Option StockMachine → Con
 EndsStockTrace extent name None contents text = NamesNone contents.payloads name × text ≡ []
 EndsStockTrace extent name (Some stock) contents text = IsStockTrace extent name contents text
 
--- the stock has begun, and the last message that is wanted has come
+-- the stock has begun, and the last message that is wanted, where not all are, has come
 pub record ReachesStock (extent : Extent) (name : StockName) (contents : Contents) : Type 0 where
   pub begins : ℕ
   pub locate : ℕ
   pub names : NamesStock contents.payloads name begins locate
+  pub not_all : extent.last < 2 ^ 32 - 1
   pub last : extent.last ≤ length contents.payloads
 
 -- the printer of the trace of a stock
@@ -64,10 +67,13 @@ pub record FindsNone {R W : Type 0} (name : StockName) (left : R → Option (Lis
   pub input : List ℕ
   pub contents : Contents
   pub gave : GaveAll (left feed.device) (left fed.device) input
+  pub are : AreBytes input
   pub within : length input ≤ 2 ^ 40
   pub split : Splits input contents
+  pub few : length contents.payloads ≤ 2 ^ 32 - 1
   pub none : NamesNone contents.payloads name
   pub works : ¬ HasFailed fed
+  pub sink_for_good : HasFailed sink → sent ≡ sink
   pub wrote : Appends (taken sink.device) (taken sent.device) []
 
 -- A run of the printer of a stock's trace: that of any printer, or the file hasn't the stock.

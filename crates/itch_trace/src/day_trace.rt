@@ -90,7 +90,7 @@ impl<A: Allocator + Copy> Printing<A> for DayTrace<A> {
     ghost has_ended = { λ first now read text. IsTrace first.made.extent read text };
 
     fn suffices(&self, messages: u64) -> bool {
-        messages > 0 && u64::from(self.made.extent().last) <= messages
+        messages > 0 && self.made.extent().ends_within(messages)
     }
 
     fn print_segment(

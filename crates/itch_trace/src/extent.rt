@@ -1,5 +1,5 @@
 //! How much of a trace is written.
-ghost use Rattle.std.specs.Prelude.{◌≡◌};
+ghost use Rattle.std.specs.Prelude.{◌≡◌, ◌<◌, ◌≤◌, ◌-◌, ◌^◌, ◌↔◌, true};
 ghost use Rattle.itch_trace.specs.Lines.{is_wanted};
 
 /// How much of a trace is written.
@@ -19,5 +19,12 @@ impl Extent {
         ensures { result ≡ is_wanted self number }
     {
         self.first <= number && number <= self.last
+    }
+
+    /// Whether the last message that is wanted is among so many, the first of a day. Where all are wanted it never is.
+    pub(crate) fn ends_within(self, messages: u64) -> bool
+        ensures { (result ≡ true) ↔ ((self.last < 2 ^ 32 - 1) × (self.last ≤ messages)) }
+    {
+        self.last < u32::MAX && u64::from(self.last) <= messages
     }
 }

@@ -54,7 +54,7 @@ impl<A: Allocator + Copy> Printing<A> for StockTrace<A> {
         first.noted.search.name now.noted.stock read text };
 
     fn suffices(&self, messages: u64) -> bool {
-        self.noted.stock.is_some() && u64::from(self.noted.notes.extent().last) <= messages
+        self.noted.stock.is_some() && self.noted.notes.extent().ends_within(messages)
     }
 
     fn print_segment(
