@@ -69,7 +69,8 @@ fn print_stock<A: Allocator + Copy, R: Read, W: Write>(
 ///
 /// The stock is the one that [`tops_run`] finds by this name, and its messages are the same. In memory are no more than a
 /// segment, its lines, a byte for each locate code and the machine of this stock. [`StockFault::NoStock`] comes where the day
-/// hasn't the stock, and nothing was sent then; else faults, and what was sent before one, are as at [`print_day`].
+/// hasn't the stock, unless another fault comes first, and nothing was sent then; else faults, and what was sent before one,
+/// are as at [`print_day`].
 ///
 /// [`tops_run`]: itch_readings::tops_run
 pub fn stock_trace_run<A: Allocator + Copy, R: Read, W: Write>(
