@@ -55,31 +55,36 @@ module _ (extent : Extent) (name : StockName) (search : Search) (count : ℕ) (m
       }
 
   module _ {R W : Type 0} (segment : ℕ) (left : R → Option (List ℕ)) (taken : W → Option (List ℕ)) (feed fed : Device R) (sink sent : Device W) where
-    pub stock_found : (stock : Option StockMachine) → IsSome stock
-        → Prints (stock_trace_printer extent name) (IsStockTraced extent name search count stock made begun) (EndsStockTrace extent name stock) segment left taken feed fed sink sent (Ok tt)
-        → Prints (stock_trace_printer extent name) (IsStockTrace extent name) (IsStockTrace extent name) segment left taken feed fed sink sent (Ok tt)
-    stock_found None some run = absurd (false≢true some)
-    stock_found (Some stock) some run =
-        prints_so (stock_trace_printer extent name) _ _ (IsStockTrace extent name) (IsStockTrace extent name) segment left taken feed fed sink sent (λ read text. some_traced stock read text) (λ read text ended. ended) (Ok tt) run
+    -- the run, that went well
+    abbrev Ran : Option StockMachine → Result (Unit {0}) ProgFault → Type 0
+    Ran stock = Prints (stock_trace_printer extent name) (IsStockTraced extent name search count stock made begun) (EndsStockTrace extent name stock) segment left taken feed fed sink sent
 
-    pub stock_missing : (stock : Option StockMachine) → ¬ IsSome stock
-        → Prints (stock_trace_printer extent name) (IsStockTraced extent name search count stock made begun) (EndsStockTrace extent name stock) segment left taken feed fed sink sent (Ok tt)
-        → FindsNone name left taken feed fed sink sent
-    stock_missing (Some stock) none run = absurd (none refl)
-    stock_missing None none run = by run.ends
+    pub stock_found : (stock : Option StockMachine) → IsSome stock → (result : Result (Unit {0}) ProgFault) → result ≡ Ok tt → Ran stock result
+        → Prints (stock_trace_printer extent name) (IsStockTrace extent name) (IsStockTrace extent name) segment left taken feed fed sink sent (Ok tt)
+    stock_found None some result is run = absurd (false≢true some)
+    stock_found (Some stock) some result is run =
+        prints_so (stock_trace_printer extent name) _ _ (IsStockTrace extent name) (IsStockTrace extent name) segment left taken feed fed sink sent (λ read text. some_traced stock read text) (λ read text ended. ended) (Ok tt)
+        (subst (Ran (Some stock)) is run)
+
+    pub stock_missing : (stock : Option StockMachine) → ¬ IsSome stock → (result : Result (Unit {0}) ProgFault) → result ≡ Ok tt → Ran stock result → FindsNone name left taken feed fed sink sent
+    stock_missing (Some stock) none result is run = absurd (none refl)
+    stock_missing None none result is before = by (subst (Ran None) is before)
       where
-        by : Ends (stock_trace_printer extent name) (IsStockTraced extent name search count None made begun) (EndsStockTrace extent name None) segment (traffic_of left taken feed fed sink sent) (Ok tt) → FindsNone name left taken feed fed sink sent
-        by (inl whole) = record {
-          input = whole.input;
-          contents = whole.contents;
-          gave = whole.gave;
-          are = whole.are;
-          within = whole.within;
-          split = whole.split;
-          few = whole.few;
-          none = whole.ended.0;
-          sink_for_good = run.sink_for_good;
-          works = λ failed. let e = run.read.1 failed in absurd cc;
-          wrote = subst (Appends (taken sink.device) (taken sent.device)) whole.ended.1 whole.wrote;
-        }
-        by (inr enough) = absurd (none_reached enough.contents enough.written enough.suffices enough.printed)
+        by : Ran None (Ok tt) → FindsNone name left taken feed fed sink sent
+        by run = ended run run.ends
+          where
+            ended : Ran None (Ok tt) → Ends (stock_trace_printer extent name) (IsStockTraced extent name search count None made begun) (EndsStockTrace extent name None) segment (traffic_of left taken feed fed sink sent) (Ok tt) → FindsNone name left taken feed fed sink sent
+            ended run (inl whole) = record {
+              input = whole.input;
+              contents = whole.contents;
+              gave = whole.gave;
+              are = whole.are;
+              within = whole.within;
+              split = whole.split;
+              few = whole.few;
+              none = whole.ended.0;
+              sink_for_good = run.sink_for_good;
+              works = λ failed. let e = run.read.1 failed in absurd cc;
+              wrote = subst (Appends (taken sink.device) (taken sent.device)) whole.ended.1 whole.wrote;
+            }
+            ended run (inr enough) = absurd (none_reached enough.contents enough.written enough.suffices enough.printed)
