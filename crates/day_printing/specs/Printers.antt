@@ -16,6 +16,10 @@ pub record Printer : Type 1 where
   pub IsText : Contents → List ℕ → Type 0
   pub Suffices : Contents → Type 0
 
+-- What may hold of contents and of what was written of them.
+abbrev pub Holding : Type 1
+Holding = Contents → List ℕ → Type 0
+
 -- What was written begins each right text of every file that begins with these bytes.
 abbrev pub BeginsAll : Printer → List ℕ → List ℕ → Type 0
 BeginsAll printer given written =
@@ -49,7 +53,7 @@ Shows given (Asm fault) = ⊥
 
 -- The reader gave a whole input within the limits, which doesn't suffice before its end, and what was written is the text
 -- with which its printing ended, and nothing else.
-pub record PrintsWhole (printer : Printer) (Ended : Contents → List ℕ → Type 0) (traffic : Traffic) : Type 0 where
+pub record PrintsWhole (printer : Printer) (Ended : Holding) (traffic : Traffic) : Type 0 where
   pub input : List ℕ
   pub contents : Contents
   pub gave : GaveAll traffic.left traffic.left_after input
@@ -78,7 +82,7 @@ pub record NeedsLast (printer : Printer) (old new : Option (List ℕ)) (size : �
 
 -- The reader gave bytes that suffice, and what was written is the only right text of each file that begins with them. It
 -- gave none, or no more than a segment after those that don't suffice.
-pub record PrintsEnough (printer : Printer) (Printed : Contents → List ℕ → Type 0) (segment : ℕ)
+pub record PrintsEnough (printer : Printer) (Printed : Holding) (segment : ℕ)
     (traffic : Traffic) : Type 0 where
   pub given : List ℕ
   pub contents : Contents
@@ -101,7 +105,7 @@ pub record StopsPrinting (printer : Printer) (traffic : Traffic) (fault : ProgFa
   pub wrote : Appends traffic.taken traffic.taken_after written
   pub begins : Begins printer traffic.left_after given written fault
 
-abbrev pub Ends : Printer → (Contents → List ℕ → Type 0) → (Contents → List ℕ → Type 0) → ℕ → Traffic
+abbrev pub Ends : Printer → Holding → Holding → ℕ → Traffic
     → Result (Unit {0}) ProgFault → Type 0
 Ends printer Printed Ended segment traffic (Ok _) =
     PrintsWhole printer Ended traffic ⊎ PrintsEnough printer Printed segment traffic
@@ -110,7 +114,7 @@ Ends printer Printed Ended segment traffic (Err fault) = StopsPrinting printer t
 -- A run of the printer in segments of so many bytes, from its feed and its sink as they were to what they are after it.
 -- `Printed` is what holds of the contents and of what was written where the contents suffice, and `Ended` where the file has
 -- ended.
-pub record Prints {R W : Type 0} (printer : Printer) (Printed Ended : Contents → List ℕ → Type 0) (segment : ℕ)
+pub record Prints {R W : Type 0} (printer : Printer) (Printed Ended : Holding) (segment : ℕ)
     (left : R → Option (List ℕ)) (taken : W → Option (List ℕ))
     (feed fed : Device R) (sink sent : Device W) (result : Result (Unit {0}) ProgFault) : Type 0 where
   pub ends : Ends printer Printed Ended segment (traffic_of left taken feed fed sink sent) result

@@ -70,7 +70,8 @@ message_fields number payload outcome =
 -- the line of a message: with the best levels of its stock after it
 abbrev pub trace_line : ℕ → OwnMessage → List ℕ
 trace_line depth m =
-    message_fields m.number m.payload m.outcome ++ depth_fields depth (orders_of m.rows m.locate) ++ codes "\n"
+    message_fields m.number m.payload m.outcome ++ depth_fields depth (orders_of m.rows m.locate)
+    ++ codes "\n"
 
 -- whether the message of a number is wanted
 abbrev pub is_wanted : Extent → ℕ → Bool

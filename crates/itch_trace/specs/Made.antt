@@ -35,8 +35,8 @@ abbrev pub Anything : Noting (Unit {0})
 Anything first now messages = Unit {0}
 
 -- so many messages of a day were taken by the machines of their stocks, and these lines were made of them and not yet sent
-pub record HasTraced (sent : MadeLines) (day : List (List ℕ)) (machines : List (Option StockMachine)) (count : ℕ)
-    (made : MadeLines) : Type 0 where
+pub record HasTraced (sent : MadeLines) (day : List (List ℕ)) (machines : List (Option StockMachine))
+    (count : ℕ) (made : MadeLines) : Type 0 where
   pub took : HasNotedAll Anything tt day machines count tt
   pub lines : AreMade sent made (messages_of day)
 
@@ -58,6 +58,7 @@ pub record IsStockTraced (extent : Extent) (name : StockName) (search : Search) 
     (stock : Option StockMachine) (made : MadeLines) (begun : Bool) (read : Contents) (text : List ℕ) : Type 0
   where
     pub sent : List ℕ
-    pub took : HasTaken AreMade (record { extent = extent; text = sent }) read.payloads name search count stock made
+    pub took : HasTaken AreMade (record { extent = extent; text = sent }) read.payloads name search
+        count stock made
     pub written : IsBegun extent begun sent text
     pub all_sent : AreSent stock begun made

@@ -30,7 +30,8 @@ abbrev pub trace_printer : Extent → Printer
 trace_printer extent = record { IsText = IsTrace extent; Suffices = Reaches extent }
 
 -- the text is the trace of the messages of the stock with this name, from the one on with which the stock begins
-pub record IsStockTrace (extent : Extent) (name : StockName) (contents : Contents) (text : List ℕ) : Type 0 where
+pub record IsStockTrace (extent : Extent) (name : StockName) (contents : Contents)
+    (text : List ℕ) : Type 0 where
   pub begins : ℕ
   pub locate : ℕ
   pub names : NamesStock contents.payloads name begins locate
@@ -62,7 +63,8 @@ stock_trace_printer extent name = record {
 }
 
 -- The reader gave a whole file within the limits, which hasn't the stock, and nothing was written.
-pub record FindsNone {R W : Type 0} (name : StockName) (left : R → Option (List ℕ)) (taken : W → Option (List ℕ))
+pub record FindsNone {R W : Type 0} (name : StockName)
+    (left : R → Option (List ℕ)) (taken : W → Option (List ℕ))
     (feed fed : Device R) (sink sent : Device W) : Type 0 where
   pub input : List ℕ
   pub contents : Contents
