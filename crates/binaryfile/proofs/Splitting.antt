@@ -106,7 +106,7 @@ scanned_splits (suc n) (high ∷ low ∷ rest) h are =
     ]
 
 -- as many entries as there are bytes are enough
-length_payloads : (ps : List (List ℕ)) → length ps ≤ length (flat_map entry ps)
+pub length_payloads : (ps : List (List ℕ)) → length ps ≤ length (flat_map entry ps)
 length_payloads [] = omega arith
 length_payloads (p ∷ ps) = omega (arith, length_payloads ps, length-append (entry p) (flat_map entry ps))
 

@@ -40,4 +40,3 @@ pub use playing::{Event, Seen, play};
 pub use seeing::locates;
 pub use splitting::{SplitFault, split};
 pub use turns::Turns;
-pub use worker_count::WorkerCount;

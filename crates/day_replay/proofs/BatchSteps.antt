@@ -14,11 +14,12 @@ use Rattle.itch_table.specs.Parts.{part}
 use Rattle.itch_table.specs.Projection.{is_locate, is_of_stock, only, stock_day}
 use Rattle.itch_table.specs.Table.{step}
 use Rattle.itch_table.specs.World.{World, empty_world}
-use Rattle.itch_table.proofs.AnyWorld.{lists_split}
+use Rattle.itch_table.proofs.AnyWorld.{after_all-push, lists_split}
 use Rattle.itch_table.proofs.OwnSteps.{steps_are_own}
 use Rattle.itch_table.proofs.StockDays.{is_own_part, only-empty}
 use Rattle.stock_machine.specs.StockRows.{StockMachine}
 use Rattle.day_core.specs.Owners.{is_own}
+use Rattle.day_core.proofs.LocateCodes.{same_code}
 use Rattle.day_replay.specs.declared.refusals.RefusedMessage.{RefusedMessage}
 use Rattle.day_replay.specs.Messages.{is_of_batch, payloads_in}
 use Rattle.day_replay.specs.Batches.{AreOwn, BatchState, HasDone, locate_at, machine_after, outcome_in, refused_from, stepped, steps_in, world_in}
@@ -26,10 +27,6 @@ use Rattle.day_replay.specs.NoStock.{if_refused}
 use Rattle.day_replay.specs.Summaries.{stock_of}
 
 -- ---- one payload more
-
-pub after_all-push : (w : World) (payloads : List (List ℕ)) (last : List ℕ) → after_all w (payloads ++ last ∷ []) ≡ (step (after_all w payloads) last).1
-after_all-push w [] last = refl
-after_all-push w (payload ∷ payloads) last = after_all-push (step w payload).1 payloads last
 
 pub payloads_in-push : (messages : List (ℕ × List ℕ)) (n : ℕ) (payload : List ℕ) → payloads_in (messages ++ (n, payload) ∷ []) ≡ payloads_in messages ++ payload ∷ []
 payloads_in-push messages n payload = map-append (λ (m : ℕ × List ℕ). m.1) messages ((n, payload) ∷ [])
@@ -105,16 +102,9 @@ own_found batch n payload own =
     let found = own_locate batch (part payload) (All-head (λ m. is_of_batch batch m ≡ true) (n, payload) [] own) in
     (found.0, found.1)
 
-same_locate : {a b : ℕ} → Locate a ≡ Locate b → a ≡ b
-same_locate {a} {b} e = ap code e
-  where
-    code : Part → ℕ
-    code (Locate locate) = locate
-    code (Nowhere outcome) = 0
-
 module _ (batch locate : ℕ) (payload : List ℕ) (own : part payload ≡ Locate locate) (in_batch : is_own 128 batch (part payload) ≡ true) where
   remainder : locate % 128 ≡ batch
-  remainder = let found = own_locate batch (part payload) in_batch in ap (λ (n : ℕ). n % 128) (same_locate (sym own ∙ found.1)) ∙ found.2
+  remainder = let found = own_locate batch (part payload) in_batch in ap (λ (n : ℕ). n % 128) (same_code (sym own ∙ found.1)) ∙ found.2
 
   pub here : locate_at batch (locate / 128) ≡ locate
   here = omega (arith, remainder)

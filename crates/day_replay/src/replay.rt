@@ -15,11 +15,11 @@ use crate::dealt_messages::DealtMessages;
 use crate::ending::{all_refused, all_stocks};
 use crate::no_stock::NoStock;
 use crate::refusals::RefusedMessage;
-use day_core::WorkerCount;
 use std::alloc::{AllocError, Allocator};
 use std::marker::Model;
 use std::thread::{Threads, for_each_mut};
 use stock_machine::Stock;
+use worker_count::WorkerCount;
 
 /// A replay of the first messages of a day, seen as what its batches have made of them, and what is known of those of no
 /// stock.

@@ -6,6 +6,7 @@ use Rattle.std.specs.List.{flat_map}
 use Rattle.byte_strings.specs.Bytes.{AreBytes, IsByte}
 use Rattle.binaryfile.specs.Entries.{Contents, IsPartial, Splits, entry, marker}
 use Rattle.binaryfile.specs.Loading.{HasMoreMessages}
+use Rattle.binaryfile.proofs.Splitting.{length_payloads}
 
 partial_short : (tail : List ℕ) → AreBytes tail → IsPartial tail → length tail ≤ 2 ^ 16
 partial_short [] are is = omega arith
@@ -23,12 +24,7 @@ carry_short bytes contents are split unmarked =
     let end = after (marker contents.marked) contents.tail (after (flat_map entry contents.payloads) (marker contents.marked ++ contents.tail) (subst AreBytes split.whole are)) in
     partial_short contents.tail end (split.partial (sym unmarked))
 
--- there are no more payloads than bytes
-pub entries_long : (payloads : List (List ℕ)) → length payloads ≤ length (flat_map entry payloads)
-entries_long [] = omega arith
-entries_long (payload ∷ rest) = omega (arith, entries_long rest, length-append (entry payload) (flat_map entry rest))
-
 pub few_payloads : (bytes : List ℕ) (most : ℕ) → HasMoreMessages bytes most → most < length bytes
 few_payloads bytes most has =
     let c = has.contents in
-    omega (arith, has.more, entries_long c.payloads, ap length has.split.whole, length-append (flat_map entry c.payloads) (marker c.marked ++ c.tail))
+    omega (arith, has.more, length_payloads c.payloads, ap length has.split.whole, length-append (flat_map entry c.payloads) (marker c.marked ++ c.tail))

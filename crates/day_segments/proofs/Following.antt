@@ -12,8 +12,8 @@ use Rattle.binaryfile.specs.Devices.{GaveAll, GaveMore, GaveUpTo}
 use Rattle.byte_strings.specs.Bytes.{AreBytes, IsByte}
 use Rattle.binaryfile.specs.Entries.{Contents, IsPayload, Splits, entry, marker}
 use Rattle.binaryfile.specs.Scanned.{contents_of}
-use Rattle.binaryfile.proofs.Splitting.{contents_splits, splits_contents}
-use Rattle.day_segments.proofs.Carried.{after, entries_long}
+use Rattle.binaryfile.proofs.Splitting.{contents_splits, length_payloads, splits_contents}
+use Rattle.day_segments.proofs.Carried.{after}
 use Rattle.day_segments.specs.Segments.{IsSegment, carry_after, carry_by}
 use Rattle.day_segments.specs.Reading.{IsReadTo, followed_by, nothing_read}
 
@@ -135,7 +135,7 @@ module _ (start now : Option (List ℕ)) (before : Contents) (carried : List ℕ
 
   -- no more payloads than bytes were read
   pub few_read : length before.payloads ≤ given
-  few_read = omega (arith, entries_long before.payloads, parts_long)
+  few_read = omega (arith, length_payloads before.payloads, parts_long)
 
   -- what the reader gave, where it may be no more than `most` bytes
   module _ (most : ℕ) (within : given ≤ most) where

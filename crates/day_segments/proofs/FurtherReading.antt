@@ -7,7 +7,7 @@ use Rattle.binaryfile.specs.Devices.{GaveAll, GaveMore, GaveUpTo}
 use Rattle.binaryfile.specs.Entries.{Contents, Splits, entry, marker}
 use Rattle.day_segments.specs.Segments.{IsSegment, carry_after, carry_by}
 use Rattle.day_segments.specs.Reading.{HasRead, IsReadTo, Reading, followed_by}
-use Rattle.day_segments.proofs.Carried.{entries_long}
+use Rattle.binaryfile.proofs.Splitting.{length_payloads}
 use Rattle.day_segments.proofs.Following.{gives_more, gives_up_to, reads_on}
 
 -- what is carried over is no longer than an end marker and the tail
@@ -20,7 +20,7 @@ pub counted_on : (carried bytes : List ℕ) (c : Contents) → Splits (carried +
 counted_on carried bytes c split =
     omega (
       arith,
-      entries_long c.payloads,
+      length_payloads c.payloads,
       carry_within c.marked c.tail,
       ap length split.whole,
       length-append carried bytes,

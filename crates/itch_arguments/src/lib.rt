@@ -13,13 +13,11 @@ ghost use Rattle.clap.specs.declared.error.kind.ErrorKind.TheVariants.{DisplayHe
 ghost use Rattle.itch_arguments.specs.Tasks.{command_of};
 
 mod help;
+mod table;
 
-use clap::{Arg, ArgAction, ArgMatches, Command, Error, value_parser};
+use crate::table::{Argument, COMMANDS, CommandRow, Takes};
+use clap::{Arg, ArgAction, ArgMatches, Command, Error};
 use std::alloc::{AllocError, Global};
-use worker_count::WorkerCount;
-
-/// What FILE is.
-const DAY_HELP: &str = "A Nasdaq TotalView-ITCH 5.0 day in Nasdaq BinaryFILE form";
 
 /// What the arguments ask for.
 #[derive(Drop)]
@@ -108,223 +106,45 @@ pub enum Task<'a> {
     ReplayDigits,
 }
 
-// A path that must be given.
-fn path<'a>(alloc: Global, name: &'a str, help: &'a str) -> Arg<'a> {
-    Arg::new(alloc, name).help(help).required(true)
+// An argument of a command.
+fn argument<'a>(alloc: Global, row: &Argument) -> Arg<'a> {
+    let arg = Arg::new(alloc, row.name).help(row.help);
+    match row.takes {
+        Takes::Operand(values) => arg.required(true).value_parser(values),
+        Takes::OptionalOperand => arg,
+        Takes::Nothing => arg.long(row.name).action(ArgAction::SetTrue),
+        Takes::Value(name, values) => arg.long(row.name).value_name(name).value_parser(values),
+        Takes::OneByDefault(name, values) => {
+            arg.long(row.name)
+                .value_name(name)
+                .value_parser(values)
+                .default_value("1")
+        }
+    }
 }
 
-// The number of workers.
-fn workers<'a>(alloc: Global, help: &'a str) -> Arg<'a> {
-    Arg::new(alloc, "workers")
-        .long("workers")
-        .value_name("N")
-        .help(help)
-        .value_parser(value_parser!(u32).range(1..=i64::from(WorkerCount::MOST)))
-        .default_value("1")
+// The arguments of a command.
+fn arguments<'a>(alloc: Global, rows: &[Argument]) -> Result<Vec<Arg<'a>>, AllocError> {
+    let mut arguments = Vec::new(alloc);
+    for row in rows {
+        arguments.push(argument(alloc, row))?;
+    }
+    Ok(arguments)
 }
 
-// The number of threads that replay a day while it is read.
-fn threads<'a>(alloc: Global) -> Arg<'a> {
-    workers(
-        alloc,
-        "How many threads replay the day, from 1 to 64, while one more reads it",
-    )
+// A command, without its arguments.
+fn described<'a>(alloc: Global, row: &CommandRow) -> Command<'a> {
+    let command = Command::new(alloc, row.name).about(row.about);
+    match row.lines {
+        Some(lines) => command.after_help(lines),
+        None => command,
+    }
 }
 
-// The number of a message.
-fn number<'a>(alloc: Global, name: &'a str, help: &'a str) -> Arg<'a> {
-    Arg::new(alloc, name)
-        .long(name)
-        .value_name("N")
-        .help(help)
-        .value_parser(value_parser!(u32).range(1..=4_294_967_295))
-}
-
-// The arguments that replay a file.
-fn replay_command<'a>(alloc: Global) -> Result<Command<'a>, AllocError> {
-    let progress = Arg::new(alloc, "progress")
-        .long("progress")
-        .action(ArgAction::SetTrue)
-        .help("Says on standard error how far it is, at most once a second and at the end");
-    let args = vec![in alloc; path(alloc, "FILE", DAY_HELP), threads(alloc), progress]?;
-    Command::new(alloc, "replay")
-        .about("Replays a day and prints its report, which is the same for every number of workers")
-        .after_help(help::REPORT)
-        .args(args)
-}
-
-// The arguments that print a report as a table.
-fn summary_command<'a>(alloc: Global) -> Result<Command<'a>, AllocError> {
-    let args = vec![in alloc; path(alloc, "FILE", DAY_HELP), threads(alloc)]?;
-    Command::new(alloc, "summary")
-        .about("Replays a day and prints a comma-separated line for each of its stocks")
-        .after_help(help::SUMMARY)
-        .args(args)
-}
-
-// The arguments that print a file's text.
-fn dis_command<'a>(alloc: Global) -> Result<Command<'a>, AllocError> {
-    let from = number(
-        alloc,
-        "from",
-        "Prints no message before this one, counted from 1, and not the file's end",
-    );
-    let to = number(
-        alloc,
-        "to",
-        "Prints no message after this one, and not the file's end",
-    );
-    let args = vec![in alloc; path(alloc, "FILE", DAY_HELP), from, to]?;
-    Command::new(alloc, "dis")
-        .about("Prints a day as text, one line a message")
-        .after_help(help::TEXT)
-        .args(args)
-}
-
-// The arguments that list a file's stocks.
-fn stocks_command<'a>(alloc: Global) -> Result<Command<'a>, AllocError> {
-    Command::new(alloc, "stocks")
-        .about("Prints the stocks of a day: locate code, symbol and number of messages")
-        .arg(path(alloc, "FILE", DAY_HELP))
-}
-
-// The stock that must be given.
-fn stock<'a>(alloc: Global) -> Arg<'a> {
-    path(
-        alloc,
-        "STOCK",
-        "A symbol, between quotes where it has digits alone, or a locate code in digits",
-    )
-}
-
-// The arguments that print a stock's best bid and ask.
-fn tops_command<'a>(alloc: Global) -> Result<Command<'a>, AllocError> {
-    let every = Arg::new(alloc, "every")
-        .long("every")
-        .action(ArgAction::SetTrue)
-        .help("Prints them after each message of the stock");
-    let args = vec![in alloc; path(alloc, "FILE", DAY_HELP), stock(alloc), every]?;
-    Command::new(alloc, "tops")
-        .about(
-            "Prints the best bid and ask of a stock wherever they change, as comma-separated lines",
-        )
-        .after_help(help::TOPS)
-        .args(args)
-}
-
-// The arguments that show a stock at a place of a day.
-fn show_command<'a>(alloc: Global) -> Result<Command<'a>, AllocError> {
-    let after = Arg::new(alloc, "after")
-        .long("after")
-        .value_name("N")
-        .help("Shows it after the first N messages of the day, and not after all")
-        .value_parser(value_parser!(u64));
-    let at = Arg::new(alloc, "at").long("at").value_name("TIME").help(
-        "Shows it as it was at a time, such as 09:30:00 or 34200000000000 (nanoseconds since midnight)",
-    );
-    let args = vec![in alloc; path(alloc, "FILE", DAY_HELP), stock(alloc), after, at]?;
-    Command::new(alloc, "show")
-        .about(
-            "Prints a stock's levels, orders and sums over its trades after any message, or at a time",
-        )
-        .after_help(help::SHOWN)
-        .args(args)
-}
-
-// The arguments that print what became of a message, and why.
-fn why_command<'a>(alloc: Global) -> Result<Command<'a>, AllocError> {
-    let number = path(alloc, "N", "The number of the message, counted from 1").value_parser(
-        value_parser!(u32).range(1..=4_294_967_295),
-    );
-    let args = vec![in alloc; path(alloc, "FILE", DAY_HELP), number]?;
-    Command::new(alloc, "why")
-        .about("Prints what became of a message, why it was refused, and its orders before it")
-        .after_help(help::WHY)
-        .args(args)
-}
-
-// The arguments that print an order's life.
-fn order_command<'a>(alloc: Global) -> Result<Command<'a>, AllocError> {
-    let reference = path(alloc, "REFERENCE", "Any reference that the order has had").value_parser(
-        value_parser!(u64),
-    );
-    let args = vec![in alloc; path(alloc, "FILE", DAY_HELP), stock(alloc), reference]?;
-    Command::new(alloc, "order")
-        .about(
-            "Prints each message that names an order, through its replacements, and how it stands at the end",
-        )
-        .after_help(help::ORDER)
-        .args(args)
-}
-
-// The arguments that print trades.
-fn trades_command<'a>(alloc: Global) -> Result<Command<'a>, AllocError> {
-    let args = vec![in alloc; path(alloc, "FILE", DAY_HELP), stock(alloc).required(false)]?;
-    Command::new(alloc, "trades")
-        .about("Prints the trades of a day, or of one of its stocks, as comma-separated lines")
-        .after_help(help::TRADES)
-        .args(args)
-}
-
-// The arguments that print a trace.
-fn trace_command<'a>(alloc: Global) -> Result<Command<'a>, AllocError> {
-    let depth = Arg::new(alloc, "depth")
-        .long("depth")
-        .value_name("K")
-        .help("How many of the best levels of each side a line has, from 1 to 10")
-        .value_parser(value_parser!(u32).range(1..=10))
-        .default_value("1");
-    let from = number(
-        alloc,
-        "from",
-        "Prints no message before this one, counted from 1",
-    );
-    let to = number(alloc, "to", "Prints no message after this one");
-    let stock = stock(alloc).required(false);
-    let args = vec![in alloc; path(alloc, "FILE", DAY_HELP), stock, depth, from, to]?;
-    Command::new(alloc, "trace")
-        .about(
-            "Prints what became of each message, and its stock's best bid and ask after it, as comma-separated lines",
-        )
-        .after_help(help::TRACE)
-        .args(args)
-}
-
-// The arguments that print what a screen of a stock sees.
-fn watch_command<'a>(alloc: Global) -> Result<Command<'a>, AllocError> {
-    let workers = workers(alloc, "How many workers replay the day, from 1 to 64");
-    let args = vec![in alloc; path(alloc, "FILE", DAY_HELP), stock(alloc), workers]?;
-    Command::new(alloc, "watch")
-        .about(
-            "Replays a day, and prints what a screen of a stock sees of its best bid and ask meanwhile",
-        )
-        .args(args)
-}
-
-// The arguments that make the file of a text.
-fn asm_command<'a>(alloc: Global) -> Result<Command<'a>, AllocError> {
-    let text = path(
-        alloc,
-        "TEXT",
-        "The text of a day: a line for each entry, as `itch dis` writes it or by hand",
-    );
-    let out = path(
-        alloc,
-        "OUT",
-        "The file to make or replace, which is left alone where the text is faulty",
-    );
-    let args = vec![in alloc; text, out]?;
-    Command::new(alloc, "asm")
-        .about("Makes the file that a text stands for")
-        .args(args)
-}
-
-// The arguments that debug a file.
-fn debug_command<'a>(alloc: Global) -> Result<Command<'a>, AllocError> {
-    Command::new(alloc, "debug")
-        .about("Goes through a day both ways, by commands on standard input")
-        .after_help(help::SESSION)
-        .arg(path(alloc, "FILE", DAY_HELP))
+// A command.
+fn command<'a>(alloc: Global, row: &CommandRow) -> Result<Command<'a>, AllocError> {
+    let arguments = arguments(alloc, row.arguments)?;
+    described(alloc, row).args(arguments)
 }
 
 // Adds a command to others, where it was made.
@@ -336,27 +156,18 @@ fn add<'a>(
     Ok(())
 }
 
-// Adds the commands that the program has, in the order of its help.
-fn add_all<'a>(alloc: Global, commands: &mut Vec<Command<'a>>) -> Result<(), AllocError> {
-    add(commands, replay_command(alloc))?;
-    add(commands, summary_command(alloc))?;
-    add(commands, dis_command(alloc))?;
-    add(commands, stocks_command(alloc))?;
-    add(commands, tops_command(alloc))?;
-    add(commands, show_command(alloc))?;
-    add(commands, why_command(alloc))?;
-    add(commands, order_command(alloc))?;
-    add(commands, trades_command(alloc))?;
-    add(commands, trace_command(alloc))?;
-    add(commands, watch_command(alloc))?;
-    add(commands, asm_command(alloc))?;
-    add(commands, debug_command(alloc))
+// The commands that the program has, in the order of its help.
+fn commands<'a>(alloc: Global) -> Result<Vec<Command<'a>>, AllocError> {
+    let mut commands = Vec::new(alloc);
+    for row in COMMANDS {
+        add(&mut commands, command(alloc, row))?;
+    }
+    Ok(commands)
 }
 
 // The arguments that the program takes.
 fn itch_command<'a>(alloc: Global) -> Result<Command<'a>, AllocError> {
-    let mut commands = Vec::new(alloc);
-    add_all(alloc, &mut commands)?;
+    let commands = commands(alloc)?;
     Command::new(alloc, "itch")
         .about("Replays a Nasdaq TotalView-ITCH 5.0 day file, and answers questions about it")
         .after_help(help::PROGRAM)

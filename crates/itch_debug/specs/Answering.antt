@@ -1,11 +1,11 @@
 -- The answer of each command. The lines are of this project; each ends with a line feed, and its numbers are decimal.
-use Rattle.std.specs.Prelude.{◌≡◌, ◌⊎◌, ℕ, ◌+◌, ◌-◌, ◌==◌, ◌&&◌, nat_le, Bool, false, if◌then◌else◌, zero, suc, List, [], ◌∷◌, ◌++◌, length, position, codes, decimal, slice_get, Option, Some, None, Result, OnErr, OnOk}
+use Rattle.std.specs.Prelude.{◌≡◌, ◌⊎◌, ℕ, ◌+◌, ◌-◌, ◌≤◌, ◌==◌, ◌&&◌, nat_le, Bool, false, if◌then◌else◌, zero, suc, List, [], ◌∷◌, ◌++◌, length, position, codes, decimal, slice_get, Option, Some, None, Result, OnErr, OnOk}
 use Rattle.std.specs.declared.vec.Vec.{Vec}
 use Rattle.itch_table.specs.After.{after}
 use Rattle.itch_table.specs.Levels.{same_side}
 use Rattle.text_fields.specs.Quoted.{quoted_byte}
 use Rattle.stock_text.specs.Orders.{side_text}
-use Rattle.stock_text.specs.Sessions.{position_text, stock_text}
+use Rattle.stock_text.specs.Sessions.{position_text, shown_text, stock_text}
 use Rattle.debugger.specs.Sessions.{Session, moved_to, next_stop, previous_stop, with_break, without_break}
 use Rattle.debugger.specs.Stops.{hit}
 use Rattle.debugger.specs.declared.breakpoint.Break.{Break}
@@ -172,3 +172,13 @@ reply_to s Quit = record { text = []; next = None }
 abbrev pub reply_or : Session → Option Command → Reply
 reply_or s (Some command) = reply_to s command
 reply_or s None = says s (codes "? command\n")
+
+-- ---- a law
+
+-- what stands of a position and a stock is what a session answers, at any position of its own, that goes there and shows the
+-- stock
+abbrev pub ShownIsAnswered : Type 0
+ShownIsAnswered =
+    (s : Session) (n locate : ℕ) → n ≤ length s.day
+    → ((reply_to s (Goto n)).next ≡ Some (moved_to s n))
+    × ((reply_to s (Goto n)).text ++ (reply_to (moved_to s n) (Show locate)).text ≡ shown_text s.day n locate)

@@ -23,6 +23,6 @@ mod run;
 mod session;
 mod stock;
 
-pub use laws::quotes_are_in_no_command;
+pub use laws::{quotes_are_in_no_command, shown_is_answered};
 pub use run::debug_run;
 pub use session::{Next, answer_line};

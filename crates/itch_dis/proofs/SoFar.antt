@@ -3,7 +3,7 @@ use Rattle.std.proofs.Common.{◌≡◌, ℕ, Bool, true, false, List, [], ◌�
 use Rattle.std.proofs.lemmas.Grind.{flat_map-append}
 use Rattle.std.specs.Prelude.{map}
 use Rattle.std.specs.List.{flat_map}
-use Rattle.hex.specs.Hex.{encode_with}
+use Rattle.text_fields.proofs.HexDigits.{encode-append}
 use Rattle.binaryfile.specs.Entries.{Contents, Splits}
 use Rattle.day_segments.specs.Reading.{followed_by}
 use Rattle.day_segments.specs.Segments.{carry_after, carry_by}
@@ -20,14 +20,9 @@ contents payloads marked tail = record { payloads = payloads; marked = marked; t
 abbrev pub text_so_far : Contents → List ℕ
 text_so_far c = lines c.payloads ++ end_so_far c.marked c.tail
 
-digits-append : (table xs ys : List ℕ) → encode_with table (xs ++ ys) ≡ encode_with table xs ++ encode_with table ys
-unfolding encode_with
-digits-append table [] ys = refl
-digits-append table (x ∷ xs) ys = rw (digits-append table xs ys) refl
-
 rest_goes_on : (tail given : List ℕ) → rest_so_far (tail ++ given) ≡ rest_so_far tail ++ added_by (text_end_of true tail) true given
 rest_goes_on [] given = refl
-rest_goes_on (b ∷ bs) given = ap (λ (digits : List ℕ). codes "rest " ++ digits) (digits-append _ (b ∷ bs) given)
+rest_goes_on (b ∷ bs) given = ap (λ (digits : List ℕ). codes "rest " ++ digits) (encode-append _ (b ∷ bs) given)
 
 goes_on_by : (marked : Bool) (tail rest : List ℕ) (payloads : List (List ℕ)) (next : Contents) → Splits (carry_by marked tail ++ rest) next
     → text_so_far (followed_by (contents payloads marked tail) next) ≡ text_so_far (contents payloads marked tail) ++ (lines next.payloads ++ added_by (text_end_of marked tail) next.marked next.tail)

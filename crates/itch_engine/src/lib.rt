@@ -19,7 +19,7 @@
 //!
 //! The program `itch` calls these but [`replay_run`], which is for callers with a gate of their own, and [`dis_run`], in
 //! place of which it writes a text while it reads the file. Those that replay take `rt` as well, which makes their threads;
-//! how many is a number from 1 to 64 of [`replay_run`], and a `WorkerCount` of `day_core` of [`report_run`].
+//! how many is a number from 1 to 64 of [`replay_run`], and a `WorkerCount` of `worker_count` of [`report_run`].
 //!
 //! All meet one contract, `Runs` of `engine_rules`, which says what was read, written and returned for each result. Its
 //! `limits` are the greatest inputs that they take, and [`status`] is the exit status for what an engine returned.

@@ -1,5 +1,5 @@
 -- What is written for a value is a text of the value, one word, and without control bytes.
-use Rattle.std.proofs.Common.{◌≡◌, ℕ, suc, ◌+◌, ◌-◌, ◌*◌, ◌/◌, ◌%◌, ◌^◌, ◌<◌, ◌≤◌, Bool, true, false, cond, List, [], ◌∷◌, ◌++◌, length, replicate, decimal, Some, refl, sym, ap, ap₂, ◌∙◌, arith, leb, leb-true, lit<, lit≤, eqb-true}
+use Rattle.std.proofs.Common.{◌≡◌, ℕ, suc, ◌+◌, ◌-◌, ◌*◌, ◌/◌, ◌%◌, ◌^◌, ◌<◌, ◌≤◌, Bool, true, false, cond, List, [], ◌∷◌, ◌++◌, length, replicate, decimal, Some, refl, sym, ap, ap₂, ◌∙◌, arith, lit<, lit≤, eqb-true}
 use Rattle.std.proofs.lemmas.Bool.{and_parts}
 use Rattle.std.proofs.lemmas.List.Elements.{recursion_from_All}
 use Rattle.byte_strings.specs.Bytes.{IsByte}
@@ -11,9 +11,10 @@ use Rattle.itch_layouts.specs.Layouts.{Form, Integer, Alpha, Value, Number, Byte
 use Rattle.itch_layouts.specs.Encoding.{FitsField}
 use Rattle.itch_text.specs.Values.{unescaped, with_first, padded, denotes_itself, ValueText}
 use Rattle.itch_text.proofs.Escapes.{itself_first}
+use Rattle.itch_text.proofs.Widths.{below_64}
 use Rattle.text_fields.specs.Quoted.{is_space, escaped, unpadded}
 use Rattle.itch_print.specs.Disassembly.{value_text}
-use Rattle.itch_print.proofs.OneWord.{EachByte, below_at, IsHigh, IsInk, IsInner, closed, closed_high, closed_inner, high_digits, inner_bytes, each_append, each_weaker}
+use Rattle.itch_print.proofs.OneWord.{EachByte, IsHigh, IsInk, IsInner, closed, closed_high, closed_inner, high_digits, inner_bytes, each_append, each_weaker}
 
 -- ---- bytes between quotes
 
@@ -74,9 +75,6 @@ unpadded_bytes (b ∷ bs) h = bytes_by b bs (list_all is_space (b ∷ bs)) h.0 (
 abbrev pub IsWidth : Form → ℕ → Type 0
 IsWidth Integer width = width ≤ 8
 IsWidth Alpha width = Unit {0}
-
-below_64 : (n width : ℕ) → width ≤ 8 → n < 256 ^ width → n < 2 ^ 64
-below_64 n width w h = omega (arith, h, leb-true (256 ^ width) (2 ^ 64) (below_at (λ k. leb (256 ^ k) (2 ^ 64)) 9 width refl (omega arith)))
 
 pub value_text_is : (form : Form) (width : ℕ) (value : Value) → IsWidth form width → FitsField form width value → ValueText form width (value_text value) value
 value_text_is Integer width (Number n) w h =

@@ -27,4 +27,4 @@ pub use disassembling::{disassemble, disassemble_between};
 pub use laws::disassembly_denotes;
 pub use lines::put_payload;
 pub use reassembling::reassembled;
-pub use text_fields::{put_number, put_quoted, quote};
+pub use text_fields::quote;

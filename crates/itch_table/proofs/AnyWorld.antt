@@ -27,7 +27,7 @@ lists_split w (payload ∷ payloads) locate =
         ap (λ (v : World). after_all v (stock_day payloads locate)) (others_stay w payload locate (other_part locate _ other))
 
 -- one payload more
-after_all-push : (w : World) (payloads : List (List ℕ)) (last : List ℕ) → after_all w (payloads ++ last ∷ []) ≡ (step (after_all w payloads) last).1
+pub after_all-push : (w : World) (payloads : List (List ℕ)) (last : List ℕ) → after_all w (payloads ++ last ∷ []) ≡ (step (after_all w payloads) last).1
 after_all-push w [] last = refl
 after_all-push w (payload ∷ payloads) last = after_all-push (step w payload).1 payloads last
 

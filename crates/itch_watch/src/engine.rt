@@ -7,7 +7,6 @@ ghost use Rattle.itch_watch.specs.Engines.{PrintsSeen, watcher};
 use crate::lines::put_readings;
 use crate::watching::watch_stock;
 use binaryfile::{Day, Feed, Sink, read_to_end, send};
-use day_core::WorkerCount;
 use engine_rules::ProgFault;
 use engine_rules::limits::{MOST_FILE_BYTES, MOST_MESSAGES};
 use itch_readings::{StockFault, StockName, find_stock};
@@ -15,6 +14,7 @@ use std::alloc::Allocator;
 use std::io::{Read, Write};
 use std::sync::Wait;
 use std::thread::Threads;
+use worker_count::WorkerCount;
 
 // The lines of what a screen sees of a file's stock; none where the file hasn't the stock.
 fn seen_of_file<R: Threads + Wait + Sync, A: Allocator + Copy + Send + Sync>(

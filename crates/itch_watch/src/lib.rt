@@ -11,7 +11,7 @@
 //! ```
 //!
 //! Both take `rt`, in whose threads the workers replay and the screen looks; `workers` is a `WorkerCount` of
-//! `day_core`. [`watch_stock`] is a caller to copy from: it calls `run` of `stock_workers`, and its screen reads the board
+//! `worker_count`. [`watch_stock`] is a caller to copy from: it calls `run` of `stock_workers`, and its screen reads the board
 //! meanwhile. [`look`] is for a display that looks at moments of its own.
 //!
 //! All is of this project. An `AllocError` and `StockFault::Engine(ProgFault::Memory)` say that memory was refused.

@@ -10,7 +10,6 @@ ghost use Rattle.top_cell.specs.Boards.{AreNew, IsOn};
 ghost use Rattle.itch_watch.specs.Watching.{AreSeen, AreSeenToTheEnd, IsReading, IsScreenOf, numbers};
 
 use binaryfile::Day;
-use day_core::WorkerCount;
 use itch_table::one_row_of_words;
 use std::alloc::{AllocError, Allocator};
 use std::sync::Wait;
@@ -18,6 +17,7 @@ use std::sync::atomic::{AtomicU64, Ordering};
 use std::thread::{Threads, join, yield_now};
 use stock_workers::{FreeGate, RunFault, run};
 use top_cell::{Board, Reading, Screen, TopWriter};
+use worker_count::WorkerCount;
 
 // How often a glance tries to read a cell before other threads get their turn.
 const TRIES: u32 = 4;

@@ -19,15 +19,16 @@ use Rattle.itch_show.specs.Engine.{Question}
 use Rattle.itch_show.specs.Parts.{Exceeds}
 use Rattle.itch_show.specs.declared.place.Place.TheVariants.{After}
 use Rattle.itch_table.specs.declared.order.Order.{Order}
+use Rattle.itch_table.specs.declared.outcome.Fault.{Fault}
 use Rattle.itch_table.specs.declared.outcome.Outcome.{Outcome}
-use Rattle.itch_table.specs.declared.outcome.Outcome.TheVariants.{Applied}
+use Rattle.itch_table.specs.declared.outcome.Outcome.TheVariants.{Applied, Refused}
 use Rattle.itch_table.specs.declared.outcome.Part.{Part}
 use Rattle.itch_table.specs.declared.outcome.Part.TheVariants.{Locate, Nowhere}
 use Rattle.itch_table.specs.After.{after, outcome}
 use Rattle.itch_table.specs.Parts.{part}
 use Rattle.itch_table.specs.Projection.{payload_at}
 use Rattle.itch_table.specs.World.{World, is_spent, order, status}
-use Rattle.refusal_text.specs.Reasons.{refusal_lines}
+use Rattle.refusal_text.specs.Reasons.{refusal_line, refusal_lines}
 use Rattle.refusal_text.specs.declared.before.Before.{Before}
 use Rattle.stock_text.specs.Orders.{order_line}
 use Rattle.stock_text.specs.Sessions.{position_words}
@@ -192,3 +193,13 @@ why n limits = record {
   Answers = λ text file. PrintsWhy n text file.payloads;
   Refuses = RefusesWhy n limits;
 }
+
+-- ---- a law
+
+-- the line of a fault is of the outcome of the message: there is one exactly where it was refused, and by that fault
+abbrev pub FaultIsOutcomes : Type 0
+FaultIsOutcomes =
+    (day : List (List ℕ)) (n : ℕ) (fault : Fault) (before : Before) → outcome day n ≡ Refused fault
+    → message_lines n (outcome day n) (payload_at day n) before
+    ≡ position_words n (Some (Refused fault)) ++ codes "\n" ++ ended (payload_line (payload_at day n))
+    ++ refusal_line fault (payload_at day n) before

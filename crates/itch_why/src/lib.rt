@@ -16,6 +16,8 @@
 mod before;
 mod earlier;
 mod engine;
+mod laws;
 mod lines;
 
 pub use engine::{why_of_file, why_run};
+pub use laws::fault_is_the_outcomes;

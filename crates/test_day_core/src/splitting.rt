@@ -1,13 +1,14 @@
 //! Days that are split among workers.
 use crate::days::{add_entry, day_of, parts_of, two_stocks};
 use binaryfile::Day;
-use day_core::{Event, Parts, Piece, Seen, SplitFault, Turns, WorkerCount, play, split};
+use day_core::{Event, Parts, Piece, Seen, SplitFault, Turns, play, split};
 use itch_table::Outcome;
 use std::alloc::{Allocator, Global};
 use std::test::Fail;
 use std::thread::Threads;
 use test_refusing::{Refusal, Refusing, Tried, refuse_each};
 use test_support::{AAPL, MSFT, same, same_bytes, same_list, system};
+use worker_count::WorkerCount;
 
 // An entry of an unknown type, of one byte.
 const UNKNOWN: &[u8] = b"\x00\x01O";

@@ -1,6 +1,5 @@
 //! The engines, called by one form, and the replay also by two workers.
 use binaryfile::{Feed, Sink};
-use day_core::WorkerCount;
 use file_replay::Silent;
 use itch_engine::{asm_run, dis_run, hex_run, replay_run, report_run};
 use itch_readings::{Selection, StockFault, StockName, stocks_run, tops_run};
@@ -11,6 +10,7 @@ use std::sync::Wait;
 use std::thread::Threads;
 use stock_workers::FreeGate;
 use test_support::{DIGITS, FILE, REPORT, TEXT};
+use worker_count::WorkerCount;
 
 /// An engine.
 #[derive(Debug, Clone, Copy, PartialEq, Eq)]

@@ -1,6 +1,5 @@
 //! A replay of a long day of many stocks, by one worker in each thread.
 use binaryfile::{Feed, Sink};
-use day_core::WorkerCount;
 use itch_engine::replay_run;
 use std::alloc::{AllocError, Allocator};
 use std::sync::Wait;
@@ -9,6 +8,7 @@ use std::test::Fail;
 use std::thread::Threads;
 use stock_workers::Gate;
 use test_support::{AAPL, Ticker, payload_of, same, same_bytes};
+use worker_count::WorkerCount;
 
 // The length of a directory message, as its entry has it.
 const LENGTH: [u8; 2] = [0, 39];

@@ -1,7 +1,6 @@
 //! Runs of each engine on its file, with devices and memory that fail.
 use crate::engines::{ENGINES, Engine};
 use binaryfile::{Feed, Sink};
-use day_core::WorkerCount;
 use file_replay::Silent;
 use itch_engine::{ProgFault, replay_run, report_run};
 use itch_readings::{StockFault, StockName};
@@ -14,6 +13,7 @@ use std::thread::Threads;
 use stock_workers::{FreeGate, Gate};
 use test_refusing::{Refusal, Refusing, Tried, refuse_each};
 use test_support::{FILE, Failure, Narrow, Pieces, REPORT, same, same_bytes};
+use worker_count::WorkerCount;
 
 // A run on a file that comes in pieces.
 fn try_pieces<T: AllocGlobal + Threads + Wait + Sync>(
@@ -150,7 +150,7 @@ fn try_watch<T: AllocGlobal + Threads + Wait + Sync>(rt: &T, workers: u32) -> Re
 
 #[test]
 fn outputs_are_the_same_for_all_numbers_of_workers(rt: HostRuntime) -> Result<(), Fail> {
-    for workers in [1, 2, 3, 64] {
+    for workers in [1, 2, 3, 4, 64] {
         try_replay(&rt, workers)?;
         try_report(&rt, workers, FILE, 1, REPORT)?;
         try_watch(&rt, workers)?;

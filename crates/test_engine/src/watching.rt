@@ -1,10 +1,10 @@
 //! What a screen sees of a stock.
 use binaryfile::{Feed, Sink};
-use day_core::WorkerCount;
 use itch_readings::StockName;
 use itch_watch::watch_run;
 use std::test::Fail;
 use test_support::same;
+use worker_count::WorkerCount;
 
 // The bytes of examples/crossed-book.itch, a stock with a bid, and then an ask below it; and between these a lower bid,
 // which leaves the best bid and ask as they are.

@@ -1,7 +1,7 @@
 //! A day replayed for several numbers of workers, beside the plain machine, and in segments of several sizes.
 use crate::comparing::{same_stocks, step};
 use binaryfile::{Day, Feed, Sink};
-use day_core::{Parts, Piece, Turns, WorkerCount, merge, split};
+use day_core::{Parts, Piece, Turns, merge, split};
 use file_replay::Silent;
 use itch_engine::{replay_run, report_run};
 use itch_table::{Outcome, Part, Plain, part};
@@ -13,6 +13,7 @@ use stock_machine::Stock;
 use stock_workers::{FreeGate, Replayed, run};
 use test_support::{same, same_bytes, same_list};
 use top_cell::Board;
+use worker_count::WorkerCount;
 
 /// The numbers of workers.
 const WORKERS: [u32; 4] = [1, 2, 3, 64];

@@ -4,11 +4,11 @@ use crate::cutting::{Cut, first_of, segments_of};
 use crate::random::random_day;
 use crate::replaying::replay_segments;
 use binaryfile::Day;
-use day_core::WorkerCount;
 use std::alloc::Allocator;
 use std::test::Fail;
 use std::thread::Threads;
 use test_support::{crossed_book, two_stocks};
+use worker_count::WorkerCount;
 
 // The numbers of threads.
 const THREADS: [u32; 5] = [1, 2, 3, 4, 64];

@@ -4,10 +4,10 @@ ghost use Rattle.day_replay.specs.Dealing.{IsDealt};
 ghost use Rattle.day_replay.specs.Replays.{HasReplayed};
 
 use binaryfile::Day;
-use day_core::WorkerCount;
 use day_replay::{DealtMessages, Replay, Summary};
 use std::alloc::{AllocError, Allocator};
 use std::thread::Threads;
+use worker_count::WorkerCount;
 
 // Goes on with a replay over segments. Where they have too many messages together, over the first ones alone.
 fn go_on_over<R: Threads + Sync, A: Allocator + Copy + Send + Sync>(

@@ -1,13 +1,13 @@
 //! Texts where memory is refused. A list that is refused more room than it needs may make do with less; where all
 //! growths are refused from one on, there is no value, and what was lent is as it was.
 use binaryfile::Day;
-use itch_print::{disassemble, put_number, put_quoted, quote, reassembled};
+use itch_print::{disassemble, quote, reassembled};
 use itch_text::{AsmFault, assemble};
 use std::alloc::{AllocError, Allocator, Global};
 use std::test::Fail;
 use test_refusing::{Refusal, Refusing, Tried, refuse_each};
 use test_support::{FILE, TEXT, same, same_bytes};
-use text_fields::put_quoted_byte;
+use text_fields::{put_number, put_quoted, put_quoted_byte};
 
 const FIELD: &[u8] = b"A\x00B     ";
 

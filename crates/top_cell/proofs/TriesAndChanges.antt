@@ -7,6 +7,7 @@ use Rattle.top_cell.specs.declared.rule.DayStock.{DayStock}
 use Rattle.top_cell.specs.declared.rule.Sight.{Sight}
 use Rattle.top_cell.specs.declared.rule.View.{View}
 use Rattle.top_cell.specs.declared.rule.View.TheVariants.{Writing, ScreenOf}
+use Rattle.top_cell.proofs.ReaderSteps.{same_words}
 
 -- ---- a try
 
@@ -15,9 +16,6 @@ begun r a b is = subst (λ u. ReaderBegun r u b) is
 
 pub is_screen : (b : View) (s : DayStock) (v : Sight) → b ≡ ScreenOf s v → b ≡ ScreenOf (stock_of b) (sight_of b)
 is_screen b s v e = e ∙ sym (ap (λ u. ScreenOf (stock_of u) (sight_of u)) e)
-
-same_words : (x y : List ℕ) → Some x ≡ Some y → x ≡ y
-same_words x y e = cc
 
 -- with four words more
 abbrev with_words : Sight → List ℕ → Sight

@@ -7,13 +7,13 @@ ghost use Rattle.itch_engine.specs.ReplayEngines.{replayer};
 
 use crate::report::file::{Report, report_of};
 use binaryfile::{Feed, Sink, send};
-use day_core::WorkerCount;
 use engine_rules::ProgFault;
 use engine_rules::limits::{FILE_LIMITS, MOST_FILE_BYTES};
 use file_replay::{Progress, replay_file};
 use std::alloc::Allocator;
 use std::io::{Read, Write};
 use std::thread::Threads;
+use worker_count::WorkerCount;
 
 // The report of a file that is replayed while it is read, and how many of its messages are refused.
 fn report_of_feed<T, A, R, P>(

@@ -1,4 +1,0 @@
-use Rattle.test_cells.proofs.showing.show_rest.Goals as goal
-
-pub show_next-requires : goal.show_next-requires
-show_next-requires g c = c.loop.invariant.in_step

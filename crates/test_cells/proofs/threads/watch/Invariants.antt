@@ -1,5 +1,0 @@
-use Rattle.top_cell.specs.Boards.{IsOn}
-use Rattle.test_cells.proofs.threads.watch.Given as goal
-
-abbrev pub invariant-loop : goal.invariant-loop
-invariant-loop g l = IsOn l.board l.screen.place
