@@ -15,7 +15,10 @@ Status: 0 done; 1 a replay is done, and a message was refused; 2 invalid argumen
 writing failed, or the input isn't taken; 4 no memory; 5 a line of a text is faulty.";
 
 /// The lines of a report.
-pub(crate) const REPORT: &str = "Lines of the report:
+pub(crate) const REPORT: &str = "Example:
+  itch replay DAY --workers 4
+
+Lines of the report:
   message   a refused message: its number, and its fault (F1 to F12: docs/FORMATS.md)
   messages  how many there are, were applied, passed over (unknown types) and refused; if the
             file ends with a marker, how many bytes come after its last message or marker, and
@@ -29,25 +32,40 @@ pub(crate) const REPORT: &str = "Lines of the report:
 Prices are in 1/10,000 of a currency unit.";
 
 /// The fields of a summary.
-pub(crate) const SUMMARY: &str =
-    "The first line names the fields. Of the printed trades that nothing broke `trades` says how many
+pub(crate) const SUMMARY: &str = "Example:
+  itch summary DAY >summary.csv
+
+The first line names the fields. Of the printed trades that nothing broke `trades` says how many
 there are, `shares` the sum of their shares, and `notional` that of shares times prices;
 `unprinted` has the shares of the others that nothing broke. Prices are in 1/10,000 of a
 currency unit.";
 
 /// The end of a text.
-pub(crate) const TEXT: &str =
-    "Line n is message n. The last lines are the end of the file: `end` where it has its marker, and
+pub(crate) const TEXT: &str = "Example:
+  itch dis DAY --from 100 --to 200
+
+Line n is message n. The last lines are the end of the file: `end` where it has its marker, and
 `rest` or `cut` for bytes after its last message. `itch asm` makes the file again. Prices are in
 1/10,000 of a currency unit, times in nanoseconds since midnight.";
 
+/// The lines of stocks.
+pub(crate) const STOCKS: &str = "Example:
+  itch stocks DAY
+
+Each line has a stock's locate code, its symbol between quotes, and how many messages it has.";
+
 /// The fields of best bids and asks.
-pub(crate) const TOPS: &str =
-    "The first line names the fields, and those of an empty side are empty. Prices are in 1/10,000 of
+pub(crate) const TOPS: &str = "Example:
+  itch tops DAY AAPL >tops.csv
+
+The first line names the fields, and those of an empty side are empty. Prices are in 1/10,000 of
 a currency unit, times in nanoseconds since midnight.";
 
 /// The lines of a stock.
-pub(crate) const SHOWN: &str = "Lines:
+pub(crate) const SHOWN: &str = "Example:
+  itch show DAY AAPL --at 09:30:00
+
+Lines:
   at        after how many messages of the day that is, and what became of the last of them
   stock     locate code, symbol, trading state, its reason and short sale action, as the
             exchange gave them
@@ -60,7 +78,10 @@ pub(crate) const SHOWN: &str = "Lines:
 Prices are in 1/10,000 of a currency unit. A time has the messages of that very time.";
 
 /// The lines of a message.
-pub(crate) const WHY: &str = "Lines:
+pub(crate) const WHY: &str = "Example:
+  itch why DAY 100000
+
+Lines:
   at        the message's number, and what became of it; after it the message's text
   F1 .. F12 where it was refused: the number and the name of the first check that fails, and why
   order     each order that it names, as it was before: reference, side (B or S), shares, price,
@@ -72,14 +93,19 @@ pub(crate) const WHY: &str = "Lines:
 Prices are in 1/10,000 of a currency unit, times in nanoseconds since midnight.";
 
 /// The lines of an order's life.
-pub(crate) const ORDER: &str =
-    "Each line has a message's number, what became of it, and its text. The last has the order as it
+pub(crate) const ORDER: &str = "Example:
+  itch order DAY AAPL 4711
+
+Each line has a message's number, what became of it, and its text. The last has the order as it
 lives at the end of the day (reference, side, shares, price, participant), or `gone`, or `no
 order` where there was none. Prices are in 1/10,000 of a currency unit, times in nanoseconds
 since midnight.";
 
 /// The fields of trades.
-pub(crate) const TRADES: &str = "The first line names the fields:
+pub(crate) const TRADES: &str = "Example:
+  itch trades DAY AAPL >trades.csv
+
+The first line names the fields:
   type     E or C an order's execution, P a trade of an order that isn't displayed, Q a cross
   side     B or S, that of the order; empty for a cross
   printed  N where the volume that the exchange reports leaves it out, else Y
@@ -88,7 +114,10 @@ pub(crate) const TRADES: &str = "The first line names the fields:
 Prices are in 1/10,000 of a currency unit, times in nanoseconds since midnight.";
 
 /// The fields of a trace.
-pub(crate) const TRACE: &str = "The first line names the fields:
+pub(crate) const TRACE: &str = "Example:
+  itch trace DAY AAPL --depth 10 >trace.csv
+
+The first line names the fields:
   outcome  applied, passed (an unknown type), or F1 to F12 where it was refused: the number of the
            first check that fails
   bid_price, bid_shares, ask_price, ask_shares
@@ -98,8 +127,25 @@ pub(crate) const TRACE: &str = "The first line names the fields:
 Time, type and locate are the message's own. Prices are in 1/10,000 of a currency unit, times in
 nanoseconds since midnight.";
 
+/// The lines of a screen.
+pub(crate) const WATCH: &str = "Example:
+  itch watch DAY AAPL --workers 4
+
+Each line has a message's number, and the best bid and ask after it, with their shares. Which messages
+a screen sees depends on the threads, but for the last: what they were, `itch tops` says. Prices are in
+1/10,000 of a currency unit.";
+
+/// What is made of a text.
+pub(crate) const ASSEMBLED: &str = "Example:
+  itch asm day.text day.itch
+
+It prints nothing. The text of a day's file, which `itch dis` prints, makes the same bytes again.";
+
 /// The commands of a debugging session, with an example each.
-pub(crate) const SESSION: &str = "Commands, a line each:
+pub(crate) const SESSION: &str = "Example:
+  itch debug DAY
+
+Commands, a line each:
   goto 1000                  to the position after that many messages
   step                       one message on
   back                       one message back

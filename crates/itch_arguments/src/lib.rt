@@ -15,7 +15,7 @@ ghost use Rattle.itch_arguments.specs.Tasks.{command_of};
 mod help;
 mod table;
 
-use crate::table::{Argument, COMMANDS, CommandRow, Takes};
+use crate::table::{Argument, COMMANDS, CommandRow, Takes, VERSION};
 use clap::{Arg, ArgAction, ArgMatches, Command, Error};
 use std::alloc::{AllocError, Global};
 
@@ -132,19 +132,13 @@ fn arguments<'a>(alloc: Global, rows: &[Argument]) -> Result<Vec<Arg<'a>>, Alloc
     Ok(arguments)
 }
 
-// A command, without its arguments.
-fn described<'a>(alloc: Global, row: &CommandRow) -> Command<'a> {
-    let command = Command::new(alloc, row.name).about(row.about);
-    match row.lines {
-        Some(lines) => command.after_help(lines),
-        None => command,
-    }
-}
-
 // A command.
 fn command<'a>(alloc: Global, row: &CommandRow) -> Result<Command<'a>, AllocError> {
     let arguments = arguments(alloc, row.arguments)?;
-    described(alloc, row).args(arguments)
+    Command::new(alloc, row.name)
+        .about(row.about)
+        .after_help(row.lines)
+        .args(arguments)
 }
 
 // Adds a command to others, where it was made.
@@ -170,8 +164,8 @@ fn itch_command<'a>(alloc: Global) -> Result<Command<'a>, AllocError> {
     let commands = commands(alloc)?;
     Command::new(alloc, "itch")
         .about("Replays a Nasdaq TotalView-ITCH 5.0 day file, and answers questions about it")
+        .version(VERSION)
         .after_help(help::PROGRAM)
-        .disable_help_subcommand(true)
         .subcommands(commands)
 }
 
@@ -367,9 +361,11 @@ pub fn chosen_task<'a>(matches: &ArgMatches<'a>) -> Task<'a>
     Task::ReplayDigits
 }
 
-/// The exit status where the arguments gave no task: 0 where they asked for help, and 2 where they are invalid.
+/// The exit status where the arguments gave no task: 0 where they asked for help or the version, and 2 where they are
+/// invalid.
 pub fn usage_status(error: &Error) -> u8
     ensures help { kind_of error.now ≡ DisplayHelp → result ≡ 0 }
+    ensures version { kind_of error.now ≡ DisplayVersion → result ≡ 0 }
     ensures misuse { kind_of error.now ≢ DisplayHelp → kind_of error.now ≢ DisplayVersion → result ≡ 2 }
 {
     error.exit_code() as u8

@@ -32,10 +32,13 @@ pub(crate) struct Argument {
 pub(crate) struct CommandRow {
     pub name: &'static str,
     pub about: &'static str,
-    /// What its help says of the lines that it prints.
-    pub lines: Option<&'static str>,
+    /// An example, and what its help says of the lines that it prints.
+    pub lines: &'static str,
     pub arguments: &'static [Argument],
 }
+
+/// The program's version. Its commands and their output may change until it is 1.0.0.
+pub(crate) const VERSION: &str = "0.9.0";
 
 // Any text.
 const TEXT: ValueParser<'static> = ValueParser::String;
@@ -76,12 +79,13 @@ const THREADS: Argument = Argument {
     help: "How many threads replay the day, from 1 to 64, while one more reads it",
 };
 
-/// The commands, in the order of the program's help.
+/// The commands, in the order of the program's help: of whole days, of a stock's book, of messages, orders and trades, of texts,
+/// and of sessions and screens.
 pub(crate) const COMMANDS: &[CommandRow] = &[
     CommandRow {
         name: "replay",
         about: "Replays a day and prints its report, which is the same for every number of workers",
-        lines: Some(help::REPORT),
+        lines: help::REPORT,
         arguments: &[
             FILE,
             THREADS,
@@ -95,37 +99,19 @@ pub(crate) const COMMANDS: &[CommandRow] = &[
     CommandRow {
         name: "summary",
         about: "Replays a day and prints a comma-separated line for each of its stocks",
-        lines: Some(help::SUMMARY),
+        lines: help::SUMMARY,
         arguments: &[FILE, THREADS],
-    },
-    CommandRow {
-        name: "dis",
-        about: "Prints a day as text, one line a message",
-        lines: Some(help::TEXT),
-        arguments: &[
-            FILE,
-            Argument {
-                name: "from",
-                takes: Takes::Value("N", NUMBER),
-                help: "Prints no message before this one, counted from 1, and not the file's end",
-            },
-            Argument {
-                name: "to",
-                takes: Takes::Value("N", NUMBER),
-                help: "Prints no message after this one, and not the file's end",
-            },
-        ],
     },
     CommandRow {
         name: "stocks",
         about: "Prints the stocks of a day: locate code, symbol and number of messages",
-        lines: None,
+        lines: help::STOCKS,
         arguments: &[FILE],
     },
     CommandRow {
         name: "tops",
         about: "Prints the best bid and ask of a stock wherever they change, as comma-separated lines",
-        lines: Some(help::TOPS),
+        lines: help::TOPS,
         arguments: &[
             FILE,
             STOCK,
@@ -139,7 +125,7 @@ pub(crate) const COMMANDS: &[CommandRow] = &[
     CommandRow {
         name: "show",
         about: "Prints a stock's levels, orders and sums over its trades after any message, or at a time",
-        lines: Some(help::SHOWN),
+        lines: help::SHOWN,
         arguments: &[
             FILE,
             STOCK,
@@ -156,42 +142,9 @@ pub(crate) const COMMANDS: &[CommandRow] = &[
         ],
     },
     CommandRow {
-        name: "why",
-        about: "Prints what became of a message, why it was refused, and its orders before it",
-        lines: Some(help::WHY),
-        arguments: &[
-            FILE,
-            Argument {
-                name: "N",
-                takes: Takes::Operand(NUMBER),
-                help: "The number of the message, counted from 1",
-            },
-        ],
-    },
-    CommandRow {
-        name: "order",
-        about: "Prints each message that names an order, through its replacements, and how it stands at the end",
-        lines: Some(help::ORDER),
-        arguments: &[
-            FILE,
-            STOCK,
-            Argument {
-                name: "REFERENCE",
-                takes: Takes::Operand(COUNT),
-                help: "Any reference that the order has had",
-            },
-        ],
-    },
-    CommandRow {
-        name: "trades",
-        about: "Prints the trades of a day, or of one of its stocks, as comma-separated lines",
-        lines: Some(help::TRADES),
-        arguments: &[FILE, ANY_STOCK],
-    },
-    CommandRow {
         name: "trace",
         about: "Prints what became of each message, and its stock's best bid and ask after it, as comma-separated lines",
-        lines: Some(help::TRACE),
+        lines: help::TRACE,
         arguments: &[
             FILE,
             ANY_STOCK,
@@ -213,23 +166,60 @@ pub(crate) const COMMANDS: &[CommandRow] = &[
         ],
     },
     CommandRow {
-        name: "watch",
-        about: "Replays a day, and prints what a screen of a stock sees of its best bid and ask meanwhile",
-        lines: None,
+        name: "why",
+        about: "Prints what became of a message, why it was refused, and its orders before it",
+        lines: help::WHY,
+        arguments: &[
+            FILE,
+            Argument {
+                name: "N",
+                takes: Takes::Operand(NUMBER),
+                help: "The number of the message, counted from 1",
+            },
+        ],
+    },
+    CommandRow {
+        name: "order",
+        about: "Prints each message that names an order, through its replacements, and how it stands at the end",
+        lines: help::ORDER,
         arguments: &[
             FILE,
             STOCK,
             Argument {
-                name: "workers",
-                takes: WORKERS,
-                help: "How many workers replay the day, from 1 to 64",
+                name: "REFERENCE",
+                takes: Takes::Operand(COUNT),
+                help: "Any reference that the order has had",
+            },
+        ],
+    },
+    CommandRow {
+        name: "trades",
+        about: "Prints the trades of a day, or of one of its stocks, as comma-separated lines",
+        lines: help::TRADES,
+        arguments: &[FILE, ANY_STOCK],
+    },
+    CommandRow {
+        name: "dis",
+        about: "Prints a day as text, one line a message",
+        lines: help::TEXT,
+        arguments: &[
+            FILE,
+            Argument {
+                name: "from",
+                takes: Takes::Value("N", NUMBER),
+                help: "Prints no message before this one, counted from 1, and not the file's end",
+            },
+            Argument {
+                name: "to",
+                takes: Takes::Value("N", NUMBER),
+                help: "Prints no message after this one, and not the file's end",
             },
         ],
     },
     CommandRow {
         name: "asm",
         about: "Makes the file that a text stands for",
-        lines: None,
+        lines: help::ASSEMBLED,
         arguments: &[
             Argument {
                 name: "TEXT",
@@ -246,7 +236,21 @@ pub(crate) const COMMANDS: &[CommandRow] = &[
     CommandRow {
         name: "debug",
         about: "Goes through a day both ways, by commands on standard input",
-        lines: Some(help::SESSION),
+        lines: help::SESSION,
         arguments: &[FILE],
+    },
+    CommandRow {
+        name: "watch",
+        about: "Replays a day, and prints what a screen of a stock sees of its best bid and ask meanwhile",
+        lines: help::WATCH,
+        arguments: &[
+            FILE,
+            STOCK,
+            Argument {
+                name: "workers",
+                takes: WORKERS,
+                help: "How many workers replay the day, from 1 to 64",
+            },
+        ],
     },
 ];

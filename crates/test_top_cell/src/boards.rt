@@ -111,7 +111,8 @@ fn show_three<R: Wait, A: Allocator + Copy>(
     Ok((reading, top.to_words(reading.message)))
 }
 
-// The price of the bid stands in the high half of the second word, and that of the ask in the low one.
+// The price of the bid stands in the high half of the second word, and that of the ask in the low one. The words are those of
+// what a screen read of the cell, since no call lends the cell's own: that they stand in it so is proved of each store.
 #[test]
 fn a_cell_holds_the_greatest_numbers(rt: HostRuntime) -> Result<(), Fail> {
     let alloc = rt.alloc();
