@@ -9,17 +9,20 @@ trades:
   itch order DAY AAPL 4711
   itch trades DAY AAPL
 
+A compressed day comes by a pipe:
+  gunzip -c DAY.gz | itch replay /dev/stdin
+
 Without a command it replays a day that comes in hexadecimal digits on standard input.
 
-Status: 0 done; 1 a replay is done, and a message was refused; 2 invalid arguments; 3 reading or
-writing failed, or the input isn't taken; 4 no memory; 5 a line of a text is faulty.";
+Status: 0 done; 1 `replay`, or no command, is done, and a message was refused; 2 invalid arguments;
+3 reading or writing failed, or the input isn't taken; 4 no memory; 5 a line of a text is faulty.";
 
 /// The lines of a report.
 pub(crate) const REPORT: &str = "Example:
   itch replay DAY --workers 4
 
 Lines of the report:
-  message   a refused message: its number, and its fault (F1 to F12: docs/FORMATS.md)
+  message   a refused message: its number, and its fault, F1 to F12; `itch why DAY N` says why
   messages  how many there are, were applied, passed over (unknown types) and refused; if the
             file ends with a marker, how many bytes come after its last message or marker, and
             the last system event
@@ -35,14 +38,16 @@ Prices are in 1/10,000 of a currency unit.";
 pub(crate) const SUMMARY: &str = "Example:
   itch summary DAY >summary.csv
 
-The first line names the fields. Of the printed trades that nothing broke `trades` says how many
-there are, `shares` the sum of their shares, and `notional` that of shares times prices;
-`unprinted` has the shares of the others that nothing broke. Prices are in 1/10,000 of a
-currency unit.";
+The first line names the fields. `messages` and `refused` count the stock's own, `orders` those that
+live at the end. Of the printed trades that nothing broke `trades` says how many there are, `shares`
+the sum of their shares, and `notional` that of shares times prices; `unprinted` has the shares of
+the others that nothing broke. So notional / shares / 10,000 is the average price of a share, with
+crosses among them. Prices are in 1/10,000 of a currency unit.";
 
 /// The end of a text.
-pub(crate) const TEXT: &str = "Example:
+pub(crate) const TEXT: &str = "Examples:
   itch dis DAY --from 100 --to 200
+  itch dis DAY >day.text
 
 Line n is message n. The last lines are the end of the file: `end` where it has its marker, and
 `rest` or `cut` for bytes after its last message. `itch asm` makes the file again. Prices are in
@@ -66,7 +71,7 @@ pub(crate) const SHOWN: &str = "Example:
   itch show DAY AAPL --at 09:30:00
 
 Lines:
-  at        after how many messages of the day that is, and what became of the last of them
+  at        the number of messages of the day so far, and what became of the last one
   stock     locate code, symbol, trading state, its reason and short sale action, as the
             exchange gave them
   bid, ask  each price level, the best first, with its shares; none where a side is empty
@@ -75,7 +80,7 @@ Lines:
             prices; at last the shares of the others that nothing broke
   no stock  where the locate code has no directory message yet
 
-Prices are in 1/10,000 of a currency unit. A time has the messages of that very time.";
+Prices are in 1/10,000 of a currency unit. With --at the messages of that very time are among them.";
 
 /// The lines of a message.
 pub(crate) const WHY: &str = "Example:
@@ -124,8 +129,8 @@ The first line names the fields:
            the best levels of the message's stock after it; with --depth also the next ones, with
            _2 to _10. They are empty where there is no such level, and for messages of no stock.
 
-Time, type and locate are the message's own. Prices are in 1/10,000 of a currency unit, times in
-nanoseconds since midnight.";
+With STOCK there are lines of its own messages alone. Time, type and locate are the message's. Prices
+are in 1/10,000 of a currency unit, times in nanoseconds since midnight.";
 
 /// The lines of a screen.
 pub(crate) const WATCH: &str = "Example:

@@ -55,11 +55,11 @@ const WORKERS: Takes = Takes::OneByDefault("N", ValueParser::Signed(1, WorkerCou
 const FILE: Argument = Argument {
     name: "FILE",
     takes: Takes::Operand(TEXT),
-    help: "A Nasdaq TotalView-ITCH 5.0 day in Nasdaq BinaryFILE form",
+    help: "A Nasdaq TotalView-ITCH 5.0 day in Nasdaq BinaryFILE form, not compressed",
 };
 
 const STOCK_HELP: &str =
-    "A symbol, between quotes where it has digits alone, or a locate code in digits";
+    "A symbol in capitals, between quotes where it has digits alone, or a locate code in digits";
 
 const STOCK: Argument = Argument {
     name: "STOCK",
@@ -132,7 +132,7 @@ pub(crate) const COMMANDS: &[CommandRow] = &[
             Argument {
                 name: "after",
                 takes: Takes::Value("N", COUNT),
-                help: "Shows it after the first N messages of the day, and not after all",
+                help: "Shows it after the first N messages of the day, and not at its end",
             },
             Argument {
                 name: "at",
