@@ -179,7 +179,7 @@ plan() {
 # schedule WORD : by the plan and what is kept, has begun and ended, 'next' prints a crate to begin now, if there is one, with
 # how many jobs; 'state' which are under way, how many are left, and about how many minutes, once a tenth is done: those
 # of the longest chain, or of all that is left where few jobs run at once. The crate with the longest chain above it goes
-# first. Each has one job, since two load the same libraries twice; but one that would run alone has all.
+# first, and has two jobs where there are four. A crate that no other is ready beside has all jobs that are free.
 schedule() {
     awk -v word="$1" -v most="$most_jobs" -v now="$(now)" '
         FNR == NR { order[++count] = $1; length_of[$1] = $2; whole += $2; chain[$1] = $3; below[$1] = $0; next }
@@ -211,6 +211,7 @@ schedule() {
                 if (crate in proved)
                     continue
                 left++
+                first = first ? first : crate
                 if (crate in running)
                     names = names (names == "" ? "" : ", ") crate
                 else if (is_ready(crate) && ++ready == 1)
@@ -223,7 +224,7 @@ schedule() {
             }
             longest = all > longest ? all : longest
             if (word == "next" && ready && used < most)
-                print next_crate, (ready == 1 && !used ? most : 1)
+                print next_crate, (ready == 1 ? most - used : next_crate == first && most >= 4 && used + 2 <= most ? 2 : 1)
             if (word == "state" && names != "")
                 printf "proving %s; %d of %d crates left%s\n", names, left, left + ended,
                     known ? sprintf(", about %d min", int(longest / 60) + 1) : ""
