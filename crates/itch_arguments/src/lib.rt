@@ -15,7 +15,7 @@ ghost use Rattle.itch_arguments.specs.Tasks.{command_of};
 mod help;
 mod table;
 
-use crate::table::{Argument, COMMANDS, CommandRow, Takes, VERSION};
+use crate::table::{Argument, BOOKS, CommandRow, DAYS, ORDERS, SESSIONS, TEXTS, Takes, VERSION};
 use clap::{Arg, ArgAction, ArgMatches, Command, Error};
 use std::alloc::{AllocError, Global};
 
@@ -150,12 +150,51 @@ fn add<'a>(
     Ok(())
 }
 
+// Adds the commands of these rows.
+fn add_all<'a>(
+    alloc: Global,
+    commands: &mut Vec<Command<'a>>,
+    rows: &[CommandRow],
+) -> Result<(), AllocError> {
+    for row in rows {
+        add(commands, command(alloc, row))?;
+    }
+    Ok(())
+}
+
+// Adds the commands of whole days. Each of these functions has rows of its own, since a proof looks into all that it has.
+fn add_days<'a>(alloc: Global, commands: &mut Vec<Command<'a>>) -> Result<(), AllocError> {
+    add_all(alloc, commands, DAYS)
+}
+
+// Adds those of stocks' books.
+fn add_books<'a>(alloc: Global, commands: &mut Vec<Command<'a>>) -> Result<(), AllocError> {
+    add_all(alloc, commands, BOOKS)
+}
+
+// Adds those of messages, orders and trades.
+fn add_orders<'a>(alloc: Global, commands: &mut Vec<Command<'a>>) -> Result<(), AllocError> {
+    add_all(alloc, commands, ORDERS)
+}
+
+// Adds those of texts.
+fn add_texts<'a>(alloc: Global, commands: &mut Vec<Command<'a>>) -> Result<(), AllocError> {
+    add_all(alloc, commands, TEXTS)
+}
+
+// Adds those of sessions and screens.
+fn add_sessions<'a>(alloc: Global, commands: &mut Vec<Command<'a>>) -> Result<(), AllocError> {
+    add_all(alloc, commands, SESSIONS)
+}
+
 // The commands that the program has, in the order of its help.
 fn commands<'a>(alloc: Global) -> Result<Vec<Command<'a>>, AllocError> {
     let mut commands = Vec::new(alloc);
-    for row in COMMANDS {
-        add(&mut commands, command(alloc, row))?;
-    }
+    add_days(alloc, &mut commands)?;
+    add_books(alloc, &mut commands)?;
+    add_orders(alloc, &mut commands)?;
+    add_texts(alloc, &mut commands)?;
+    add_sessions(alloc, &mut commands)?;
     Ok(commands)
 }
 

@@ -79,9 +79,8 @@ const THREADS: Argument = Argument {
     help: "How many threads replay the day, from 1 to 64, while one more reads it",
 };
 
-/// The commands, in the order of the program's help: of whole days, of a stock's book, of messages, orders and trades, of texts,
-/// and of sessions and screens.
-pub(crate) const COMMANDS: &[CommandRow] = &[
+/// The commands of whole days.
+pub(crate) const DAYS: &[CommandRow] = &[
     CommandRow {
         name: "replay",
         about: "Replays a day and prints its report, which is the same for every number of workers",
@@ -102,6 +101,10 @@ pub(crate) const COMMANDS: &[CommandRow] = &[
         lines: help::SUMMARY,
         arguments: &[FILE, THREADS],
     },
+];
+
+/// Those of stocks' books.
+pub(crate) const BOOKS: &[CommandRow] = &[
     CommandRow {
         name: "stocks",
         about: "Prints the stocks of a day: locate code, symbol and number of messages",
@@ -165,6 +168,10 @@ pub(crate) const COMMANDS: &[CommandRow] = &[
             },
         ],
     },
+];
+
+/// Those of messages, orders and trades.
+pub(crate) const ORDERS: &[CommandRow] = &[
     CommandRow {
         name: "why",
         about: "Prints what became of a message, why it was refused, and its orders before it",
@@ -198,6 +205,10 @@ pub(crate) const COMMANDS: &[CommandRow] = &[
         lines: help::TRADES,
         arguments: &[FILE, ANY_STOCK],
     },
+];
+
+/// Those of texts.
+pub(crate) const TEXTS: &[CommandRow] = &[
     CommandRow {
         name: "dis",
         about: "Prints a day as text, one line a message",
@@ -233,6 +244,10 @@ pub(crate) const COMMANDS: &[CommandRow] = &[
             },
         ],
     },
+];
+
+/// Those of sessions and screens.
+pub(crate) const SESSIONS: &[CommandRow] = &[
     CommandRow {
         name: "debug",
         about: "Goes through a day both ways, by commands on standard input",
